@@ -1,0 +1,129 @@
+//! The laws. Each function has an empty body, and its contract is the law.
+
+ghost use Rattle.std.specs.List.{list_any};
+ghost use Rattle.std.specs.Prelude.{◌≡◌, ◌⊎◌, ℕ, Bool, not, List, [], length, count_by};
+ghost use Rattle.ts_model.specs.Headline.{AllDone, ArchiveAgrees, Completes, FinalArchive, HasOnePair, Meets, NotStuck, OnePair, OriginalOrFinal, Premises};
+ghost use Rattle.ts_model.specs.declared.hold.Rule.{Rule};
+ghost use Rattle.ts_model.specs.Plans.{ActionIs, IsCopied, Valid};
+ghost use Rattle.ts_model.specs.Resume.{ArchiveIsClosed, CanResume, CutsAreLegal, IsClosedPart, archive_of_part, stopped};
+ghost use Rattle.ts_model.specs.Runs.{Has, IsPieceOf, Legal, Run, after, claims, finishes, open_count, releases, start};
+ghost use Rattle.ts_model.specs.Sync.{HasReason, IsSnapshot, Snapshot, Synced};
+ghost use Rattle.ts_model.specs.Texts.{Bundle, IsBundle, IsBundleText};
+ghost use Rattle.ts_model.specs.Trees.{AreApart, IsListing, Listing, Print, Tree, at, print_of};
+ghost use Rattle.ts_model.specs.Trial.{IsRefused, IsResult, Trial};
+ghost use Rattle.ts_model.specs.declared.plan.Action.{Action};
+ghost use Rattle.ts_model.specs.declared.plan.Plan.{Plan};
+ghost use Rattle.ts_model.specs.declared.plan.Reason.{Reason};
+ghost use Rattle.ts_model.specs.declared.row.Stamp.{Stamp};
+ghost use Rattle.ts_name.specs.Paths.{Path};
+
+/// While nothing failed and nothing that was claimed is open, all is done or something may be claimed.
+pub fn not_stuck()
+    ensures { (s : Snapshot) (plan : Plan) → Valid s plan → NotStuck s plan }
+{}
+
+/// Each path of each replica is original or final. Conflicts and held paths are as they were.
+pub fn original_or_final()
+    ensures { (s : Snapshot) (plan : Plan) → Valid s plan → OriginalOrFinal s plan }
+{}
+
+/// The archive changed only where both replicas agree.
+pub fn archive_agrees()
+    ensures { (s : Snapshot) (plan : Plan) → Valid s plan → ArchiveAgrees s plan }
+{}
+
+/// Once all actions are done, the replicas are the pair that is asked for, and the archive is the final one.
+pub fn completes()
+    ensures { (s : Snapshot) (plan : Plan) → Valid s plan → Completes s plan }
+{}
+
+/// What a stopped run leaves asks for the same pair, from the archive of any closed part of its marks.
+pub fn can_resume()
+    ensures { (s : Snapshot) (plan : Plan) → Valid s plan → CanResume s plan }
+{}
+
+/// Commits that were cut while they acted may be added to the run.
+pub fn cuts_are_legal()
+    ensures { (s : Snapshot) (plan : Plan) → Valid s plan → CutsAreLegal s plan }
+{}
+
+/// The archive after a run is that of a closed part of its marks.
+pub fn archive_is_closed()
+    ensures { (s : Snapshot) (plan : Plan) → Valid s plan → ArchiveIsClosed s plan }
+{}
+
+/// A snapshot asks for one pair.
+pub fn one_pair()
+    ensures { (s : Snapshot) → OnePair s }
+{}
+
+/// Whether a path has a reason, and which, is decided.
+pub fn decided_reasons()
+    ensures { (s : Snapshot) (p : Path) (r : Reason) → IsSnapshot s → Dec (HasReason s p r) }
+{}
+
+/// A path has one reason at most.
+pub fn one_reason()
+    ensures { (s : Snapshot) (p : Path) (r q : Reason) → HasReason s p r → HasReason s p q → r ≡ q }
+{}
+
+/// Listed replicas and a listed archive ask for one pair.
+pub fn one_pair_of_listings()
+    ensures { (archive : Listing Stamp) (first second : Listing (List ℕ)) (rules : List Rule) → IsListing archive → IsListing first → IsListing second
+        → AreApart (Meets (at first) (at second) [])
+        → HasOnePair (record { archive = at archive; first = print_of (at first); second = print_of (at second); rules = rules }) (at first) (at second) }
+{}
+
+/// One archive is final.
+pub fn one_final_archive()
+    ensures { (s : Snapshot) (c : Tree) (x y : Print) → FinalArchive s c x → FinalArchive s c y → x ≡ y }
+{}
+
+/// A tree has one listing.
+pub fn one_listing()
+    ensures { (xs ys : Listing (List ℕ)) → IsListing xs → IsListing ys → at xs ≡ at ys → xs ≡ ys }
+{}
+
+/// What `trial` answers for a bundle is one text and one status.
+pub fn one_answer()
+    ensures { (b : Bundle) (v w : List ℕ) (m n : ℕ) → IsBundle b → IsRefused b v m ⊎ IsResult b v m → IsRefused b w n ⊎ IsResult b w n
+        → (v ≡ w) × (m ≡ n) }
+{}
+
+/// A text is of one bundle.
+pub fn one_bundle()
+    ensures { (bytes : List ℕ) (b c : Bundle) → IsBundleText bytes b → IsBundleText bytes c → b ≡ c }
+{}
+
+/// `trial` answers one text and one status, whatever the bytes.
+pub fn one_trial()
+    ensures { (bytes v w : List ℕ) (m n : ℕ) → Trial bytes v m → Trial bytes w n → (v ≡ w) × (m ≡ n) }
+{}
+
+/// A commit that is claimed finds each of its pieces done.
+pub fn claimed_commits_find_their_pieces()
+    ensures { (s : Snapshot) (plan : Plan) (r : Run) (c k : ℕ) → Valid s plan → Legal s plan r → Has r (claims c) → IsPieceOf plan c k
+        → Has r (finishes k) }
+{}
+
+/// The open predecessors of an action are those that were not released to it.
+pub fn words_count_open()
+    ensures { (s : Snapshot) (plan : Plan) (r : Run) (i : ℕ) (action : Action) → Valid s plan → Legal s plan r → ActionIs plan i action
+        → open_count plan r i ≡ count_by (λ j. not (list_any (releases j i) r)) action.preds }
+{}
+
+/// Any valid plan for what a stopped run left, once it is done, ends with the same pair and the same final archive.
+pub fn resumed_runs_end_alike()
+    ensures { (s : Snapshot) (plan : Plan) (a b c d : Tree) (r : Run) (part : ℕ → Bool) → Valid s plan → Premises s a b r → Legal s plan r
+        → Synced s a b c d → IsClosedPart plan r part
+        → let w = after s plan (start s a b) r in
+        let t = stopped s w (archive_of_part s plan part (length plan.actions)) in
+        (next : Plan) (more : Run) → Valid t next → Legal t next more → AreApart (Meets w.first w.second more) → AllDone next more
+        → let v = after t next (start t w.first w.second) more in
+        (v.first ≡ c) × (v.second ≡ d) × FinalArchive s c v.archive }
+{}
+
+/// The premises can be met, by a valid plan that copies something.
+pub fn some_plan_is_valid()
+    ensures { (s : Snapshot) × (plan : Plan) × (a : Tree) × (b : Tree) × Premises s a b [] × Valid s plan × IsCopied plan 0 }
+{}

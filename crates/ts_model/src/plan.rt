@@ -1,0 +1,121 @@
+ghost use Rattle.std.specs.Prelude.{◌≡◌};
+ghost use Rattle.ts_model.specs.Plans.{rule_number};
+
+use crate::items::Items;
+use ts_name::Path;
+
+/// One of the two replicas.
+#[derive(Clone, Copy, Debug, PartialEq, Eq)]
+pub enum Side {
+    First,
+    Second,
+}
+
+/// Why a path needs attention.
+#[derive(Clone, Copy, Debug, PartialEq, Eq)]
+pub enum Reason {
+    /// Both replicas agree, and the archive lags behind.
+    Same,
+    /// Only the first replica changed: it is copied to the second.
+    First,
+    /// Only the second replica changed: it is copied to the first.
+    Second,
+    /// Both replicas changed, in different ways: nothing is done.
+    Conflict,
+    /// A hold rule names something here: nothing is done.
+    Held,
+    /// A directory in both replicas that the archive doesn't have.
+    Dir,
+}
+
+/// A path that needs attention.
+#[derive(Drop)]
+pub struct Entry {
+    pub path: Path,
+    pub reason: Reason,
+}
+
+/// What an action does. `entry` is a number of an entry, counted from 0.
+#[derive(Drop)]
+pub enum Kind {
+    /// Stages `length` bytes from `offset` on of the source's file at `path`.
+    Piece {
+        entry: u32,
+        offset: u64,
+        length: u64,
+        path: Path,
+    },
+    /// Replaces what the target has at the entry's path and below it by what the source has.
+    Commit {
+        entry: u32,
+    },
+    /// Brings the archive up to date at the entry's path.
+    Mark {
+        entry: u32,
+    },
+}
+
+/// An action, and the numbers of the actions that it waits for.
+#[derive(Drop)]
+pub struct Action {
+    pub kind: Kind,
+    pub preds: Items<u32>,
+}
+
+/// What is to be done about which paths, and in which order.
+#[derive(Drop)]
+pub struct Plan {
+    pub entries: Items<Entry>,
+    pub actions: Items<Action>,
+}
+
+/// The rules of a valid plan, in the order in which they are looked at.
+#[derive(Clone, Copy, Debug, PartialEq, Eq)]
+pub enum PlanRule {
+    /// The limits on entries, actions and predecessors hold.
+    Limits,
+    /// Entries strictly ascend by path.
+    EntriesAscend,
+    /// Each entry has the reason that its path has.
+    ReasonsHold,
+    /// Every path with a reason is an entry.
+    EntriesComplete,
+    /// Predecessors strictly ascend, and are smaller than their action's number.
+    PredsAscend,
+    /// Each copied entry has one commit, and no other entry has one.
+    OneCommit,
+    /// Each piece is a lawful range of a file that its entry copies.
+    PiecesLawful,
+    /// Each lawful piece stands once.
+    PiecesComplete,
+    /// Each entry that isn't skipped has one mark, and no other entry has one.
+    OneMark,
+    /// A commit waits for all pieces of its entry.
+    PiecesFirst,
+    /// The mark of a copied entry waits for its commit.
+    CommitFirst,
+    /// A mark waits for the mark of the nearest new directory above it.
+    DirFirst,
+}
+
+impl PlanRule {
+    /// The rule's number, from 1 to 12.
+    pub fn number(self) -> u8
+        ensures { result ≡ rule_number self }
+    {
+        match self {
+            PlanRule::Limits => 1,
+            PlanRule::EntriesAscend => 2,
+            PlanRule::ReasonsHold => 3,
+            PlanRule::EntriesComplete => 4,
+            PlanRule::PredsAscend => 5,
+            PlanRule::OneCommit => 6,
+            PlanRule::PiecesLawful => 7,
+            PlanRule::PiecesComplete => 8,
+            PlanRule::OneMark => 9,
+            PlanRule::PiecesFirst => 10,
+            PlanRule::CommitFirst => 11,
+            PlanRule::DirFirst => 12,
+        }
+    }
+}
