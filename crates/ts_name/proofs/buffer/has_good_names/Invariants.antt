@@ -1,0 +1,12 @@
+use Rattle.std.proofs.Common.{length, ◌↔◌}
+use Rattle.std.specs.List.{AllByRecursion}
+use Rattle.ts_name.specs.Paths.{IsName}
+use Rattle.ts_name.specs.Buffers.{pieces, IsWhole}
+use Rattle.ts_name.proofs.Buffers.{GoodSoFar}
+use Rattle.ts_name.proofs.buffer.has_good_names.Given as goal
+
+abbrev pub invariant-loop-name : goal.invariant-loop-name
+invariant-loop-name l = GoodSoFar l.bytes l.rest
+
+abbrev pub decreases-loop-name : goal.decreases-loop-name
+decreases-loop-name l = length l.rest

@@ -1,0 +1,28 @@
+use Rattle.std.proofs.Common.{◌≡◌, ◌++◌, Some, None, ap, sym, ◌∙◌, eqb-true, eq-eqb}
+use Rattle.std.proofs.lemmas.Slice.Eq.{strip_prefix_is}
+use Rattle.ts_name.specs.Buffers.{pieces}
+use Rattle.ts_name.proofs.Buffers.{Holds, Holds-same, above_from_bytes}
+use Rattle.ts_name.proofs.Prefixes.{below_by_bytes, none_by_bytes}
+use Rattle.ts_name.proofs.paths.Path.below.Goals as goal
+
+pub returns-in_default : goal.returns-in_default
+returns-in_default c =
+    let self : Holds c.self.inside.bytes.items c.args.self.now = record { buffer = c.self.invariant; path_is = c.self.view_is } in
+    let top : Holds c.top.inside.bytes.items c.args.top.now = record { buffer = c.top.invariant; path_is = c.top.view_is } in
+    none_by_bytes _ _ _ _ (Holds-same c.as_slice.ensures.value top) (Holds-same c.deref.ensures.value self) (strip_prefix_is (λ x y. (eqb-true x y, eq-eqb x y)) c.deref.result.now c.as_slice.result.now None c.in_default.ensures.cases)
+
+starts : (c : goal.In_ok-bytes) → c.deref.result.now ≡ c.as_slice.result.now ++ c.in-Some.rest.now
+starts c =
+    strip_prefix_is (λ x y. (eqb-true x y, eq-eqb x y)) c.deref.result.now c.as_slice.result.now (Some c.in-Some.rest) c.in-Some.ensures.cases
+
+pub invariant_of-result : goal.invariant_of-result
+invariant_of-result c =
+    let self : Holds c.self.inside.bytes.items c.args.self.now = record { buffer = c.self.invariant; path_is = c.self.view_is } in
+    let top : Holds c.top.inside.bytes.items c.args.top.now = record { buffer = c.top.invariant; path_is = c.top.view_is } in
+    (Holds-same c.in_ok-bytes.ensures.items (above_from_bytes _ _ _ _ (Holds-same c.as_slice.ensures.value top) (Holds-same c.deref.ensures.value self) _ (starts c)).0).buffer
+
+pub returns : goal.returns
+returns c =
+    let self : Holds c.self.inside.bytes.items c.args.self.now = record { buffer = c.self.invariant; path_is = c.self.view_is } in
+    let top : Holds c.top.inside.bytes.items c.args.top.now = record { buffer = c.top.invariant; path_is = c.top.view_is } in
+    ap (λ z. Some (pieces 0 z)) c.in_ok-bytes.ensures.items ∙ below_by_bytes _ _ _ _ (Holds-same c.as_slice.ensures.value top) (Holds-same c.deref.ensures.value self) _ (starts c)

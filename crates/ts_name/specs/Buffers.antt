@@ -1,0 +1,34 @@
+-- How a path is kept in memory: one list of bytes, where each name is followed by a zero byte.
+--     pieces, ended    the names that a separator ends, and back
+--     HasNo            no separator among the bytes
+--     IsWhole          the bytes end with a separator, or there are none
+--     IsBuffer         the bytes that some lawful path is kept as
+use Rattle.std.specs.Prelude.{◌≡◌, ◌≢◌, ℕ, ◌==◌, if◌then◌else◌, List, [], ◌∷◌, ◌++◌, flat_map}
+use Rattle.std.specs.List.{AllByRecursion}
+use Rattle.ts_name.specs.Paths.{Name, Path, IsPath}
+
+-- the names with a further byte at the head of the first
+abbrev pub in_front : ℕ → Path → Path
+in_front b [] = (b ∷ []) ∷ []
+in_front b (name ∷ names) = (b ∷ name) ∷ names
+
+-- the names that stand before each separator
+abbrev pub pieces : ℕ → List ℕ → Path
+pieces separator [] = []
+pieces separator (b ∷ bs) = if b == separator then [] ∷ pieces separator bs else in_front b (pieces separator bs)
+
+-- the separator after each name
+abbrev pub ended : ℕ → Path → List ℕ
+ended separator path = flat_map (λ name. name ++ separator ∷ []) path
+
+abbrev pub HasNo : ℕ → List ℕ → Type 0
+HasNo separator bytes = AllByRecursion (λ b. b ≢ separator) bytes
+
+-- these bytes are names with a separator after each
+pub record IsWhole (separator : ℕ) (bytes : List ℕ) : Type 0 where
+  pub again : ended separator (pieces separator bytes) ≡ bytes
+
+-- the bytes that a lawful path is kept as
+pub record IsBuffer (bytes : List ℕ) : Type 0 where
+  pub lawful : IsPath (pieces 0 bytes)
+  pub whole : IsWhole 0 bytes

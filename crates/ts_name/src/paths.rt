@@ -1,0 +1,203 @@
+//! Paths, as the names from the root down.
+ghost use Rattle.std.specs.Prelude.{◌≡◌, ◌↔◌, ◌++◌, ◌∷◌, [], List, ℕ, length, sum_by, if◌then◌else◌, is_ok, take, IfOk, OnOk, IsErrOf, IsOkUnless, IsTrue, MatchOption, MatchResult};
+ghost use Rattle.ts_name.specs.Paths.{IsPath, IsAbove, IsPathText, HasNoNames, HasBadName, IsPastLimit, path_text, below};
+
+use crate::buffer::{MOST_BYTES, MOST_NAMES, concatenated, depth_of, end_names, has_good_names, is_within_limits, split_name};
+use crate::escape::{push_escaped, unescaped};
+use crate::faults::PathFault;
+use crate::names::Name;
+use std::alloc::{AllocError, Global};
+use std::marker::Model;
+
+/// The names from the root down: at most 64, of at most 4,096 bytes in all. The root has none.
+#[derive(Debug, Drop)]
+pub struct Path {
+    // Each name is followed by a zero byte, so that paths are in the order of their bytes.
+    pub(crate) bytes: Vec<u8>,
+}
+
+impl Model for Path {
+    ghost use Rattle.std.specs.Prelude.{List, ℕ};
+    ghost use Rattle.std.specs.Coded.{coded_ℕ, coded_list};
+    ghost use Rattle.ts_name.specs.Buffers.{pieces, IsBuffer};
+
+    ghost Value = { List (List ℕ) };
+
+    ghost coded = { coded_list (coded_list coded_ℕ) };
+
+    ghost view = { λ p. pieces 0 p.bytes.items };
+
+    ghost invariant = { λ p. IsBuffer p.bytes.items };
+}
+
+impl Path {
+    /// The path of no names. It takes no memory.
+    pub fn root(alloc: Global) -> Path
+        ensures { result ≡ [] }
+    {
+        Path {
+            bytes: Vec::new(alloc),
+        }
+    }
+
+    /// The path that a text spells: `/` before each name in its escaped form, and nothing for the root.
+    ///
+    /// A text that isn't of this form anywhere is `BadText`, whatever else is wrong; else one bad name is `BadName`; else
+    /// more than 64 names, or names of more than 4,096 bytes in all, are `TooLong`.
+    pub fn parse_text(alloc: Global, text: &[u8]) -> Result<Path, PathFault> {
+        let Some((first, rest)) = text.split_first() else {
+            return Ok(Path::root(alloc));
+        };
+        if *first != b'/' {
+            return Err(PathFault::BadText);
+        }
+        let mut bytes = unescaped(alloc, rest)?.ok_or(PathFault::BadText)?;
+        if bytes.contains(&0) {
+            return Err(PathFault::BadName);
+        }
+        bytes.push(b'/')?;
+        end_names(&mut bytes);
+        if !has_good_names(&bytes) {
+            return Err(PathFault::BadName);
+        }
+        if !is_within_limits(&bytes) {
+            return Err(PathFault::TooLong);
+        }
+        Ok(Path { bytes })
+    }
+
+    /// Appends the text of the path. After an error nothing was appended.
+    pub fn write_text(&self, out: &mut Vec<u8>) -> Result<(), AllocError>
+        ensures { out.new.items ≡ (if is_ok result then out.old.items ++ path_text self.now else out.old.items) }
+    {
+        let start = out.len();
+        let written = self.push_text(out);
+        if written.is_err() {
+            out.truncate(start);
+        }
+        written
+    }
+
+    /// Appends the text of the path. After an error a beginning of it was appended.
+    fn push_text(&self, out: &mut Vec<u8>) -> Result<(), AllocError>
+        ensures ok { OnOk result (out.new.items ≡ out.old.items ++ path_text self.now) }
+        ensures kept { take (length out.old.items) out.new.items ≡ out.old.items }
+    {
+        let mut rest = self.bytes.as_slice();
+        while let Some((name, after)) = split_name(rest) {
+            out.push(b'/')?;
+            push_escaped(name, out)?;
+            rest = after;
+        }
+        Ok(())
+    }
+
+    /// How many names.
+    pub fn depth(&self) -> usize
+        ensures depth { result ≡ length self.now }
+        ensures lawful { IsPath self.now }
+    {
+        depth_of(&self.bytes)
+    }
+
+    /// How many bytes the names have in all.
+    pub fn size(&self) -> usize
+        ensures size { result ≡ sum_by length self.now }
+        ensures lawful { IsPath self.now }
+    {
+        self.bytes.len() - depth_of(&self.bytes)
+    }
+
+    /// Whether this is the path of no names.
+    pub fn is_root(&self) -> bool
+        ensures { IsTrue result ↔ (self.now ≡ []) }
+    {
+        self.bytes.is_empty()
+    }
+
+    /// Whether `other` is this path or goes on from it.
+    pub fn is_prefix(&self, other: &Path) -> bool
+        ensures { IsTrue result ↔ IsAbove self.now other.now }
+    {
+        other.bytes.starts_with(self.bytes.as_slice())
+    }
+
+    /// Whether `child` is this path followed by one name.
+    pub fn is_parent_of(&self, child: &Path) -> bool
+        ensures { IsTrue result ↔ ((name : List ℕ) × (child.now ≡ self.now ++ name ∷ [])) }
+    {
+        self.is_prefix(child) && child.depth() == self.depth() + 1
+    }
+
+    /// The bytes of the last name. The root has none.
+    pub fn last(&self) -> Option<&[u8]>
+        ensures { MatchOption result (self.now ≡ []) (λ name. (parent : List (List ℕ)) × (self.now ≡ parent ++ name.now ∷ [])) }
+    {
+        let mut last = None;
+        let mut rest = self.bytes.as_slice();
+        while let Some((name, after)) = split_name(rest) {
+            last = Some(name);
+            rest = after;
+        }
+        last
+    }
+
+    /// The same path once more.
+    pub fn copy(&self, alloc: Global) -> Result<Path, PathFault>
+        ensures { MatchResult result (λ p. p ≡ self.now) (λ e. e ≡ PathFault.OutOfMemory) }
+    {
+        Ok(Path {
+            bytes: Vec::from_slice(alloc, &self.bytes)?,
+        })
+    }
+
+    /// The path without its last name. The root has no parent.
+    pub fn parent(&self, alloc: Global) -> Result<Option<Path>, PathFault>
+        ensures { MatchResult result (λ p. MatchOption p (self.now ≡ []) (λ q. (name : List ℕ) × (self.now ≡ q ++ name ∷ []))) (λ e. e ≡ PathFault.OutOfMemory) }
+    {
+        let Some(name) = self.last() else {
+            return Ok(None);
+        };
+        let end = self.bytes.len() - name.len() - 1;
+        let bytes = Vec::from_slice(alloc, &self.bytes[..end])?;
+        Ok(Some(Path { bytes }))
+    }
+
+    /// This path followed by a name, or `TooLong` past the limits of a path.
+    pub fn child(&self, alloc: Global, name: &Name) -> Result<Path, PathFault>
+        ensures ok { IfOk result (λ p. p ≡ self.now ++ name.now ∷ []) }
+        ensures too_long { IsErrOf result PathFault.TooLong ↔ (¬ IsPath (self.now ++ name.now ∷ [])) }
+    {
+        let name = name.as_bytes();
+        if self.depth() >= MOST_NAMES || self.size() + name.len() > MOST_BYTES {
+            return Err(PathFault::TooLong);
+        }
+        let mut bytes = concatenated(alloc, &self.bytes, name)?;
+        bytes.push(0)?;
+        Ok(Path { bytes })
+    }
+
+    /// This path followed by the names of `rest`, or `TooLong` past the limits of a path.
+    pub fn join(&self, alloc: Global, rest: &Path) -> Result<Path, PathFault>
+        ensures ok { IfOk result (λ p. p ≡ self.now ++ rest.now) }
+        ensures too_long { IsErrOf result PathFault.TooLong ↔ (¬ IsPath (self.now ++ rest.now)) }
+    {
+        let is_short = self.size() + rest.size() <= MOST_BYTES;
+        if !is_short || self.depth() + rest.depth() > MOST_NAMES {
+            return Err(PathFault::TooLong);
+        }
+        let bytes = concatenated(alloc, &self.bytes, &rest.bytes)?;
+        Ok(Path { bytes })
+    }
+
+    /// What is left of this path below `top`, or `None` where it isn't at or below it.
+    pub fn below(&self, alloc: Global, top: &Path) -> Result<Option<Path>, PathFault>
+        ensures { MatchResult result (λ o. o ≡ below top.now self.now) (λ e. e ≡ PathFault.OutOfMemory) }
+    {
+        let Some(rest) = self.bytes.strip_prefix(top.bytes.as_slice()) else {
+            return Ok(None);
+        };
+        let bytes = Vec::from_slice(alloc, rest)?;
+        Ok(Some(Path { bytes }))
+    }
+}

@@ -1,0 +1,4 @@
+pub mod Windows
+pub mod Search
+pub mod Numbers
+pub mod Sinks

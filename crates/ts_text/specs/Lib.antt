@@ -1,0 +1,4 @@
+pub mod Faults
+pub mod Sources
+pub mod Lines
+pub mod Fields
