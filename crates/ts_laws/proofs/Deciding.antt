@@ -1,9 +1,9 @@
 -- What is decided in a lawful snapshot: changes, held paths, dirt and reasons.
-use Rattle.std.proofs.Common.{◌≡◌, ◌≢◌, ◌⊎◌, List, [], ◌∷◌, ◌++◌, Contains, refl, sym, ap, ◌∙◌, subst, inl, inr}
+use Rattle.std.proofs.Common.{◌≡◌, ◌≢◌, ◌⊎◌, ◌↔◌, List, [], ◌∷◌, ◌++◌, Contains, refl, sym, ap, ◌∙◌, subst, inl, inr}
 use Rattle.std.proofs.lemmas.List.Elements.{Contains-append_left, Contains-append_right}
 use Rattle.std.proofs.Math.Decide.{map_dec}
 use Rattle.ts_name.specs.Paths.{Name, Path, IsAbove}
-use Rattle.ts_model.specs.Trees.{Print, sub, IsTree}
+use Rattle.ts_model.specs.Trees.{Tree, Print, sub, stamped, IsTree}
 use Rattle.ts_model.specs.Holds.{Fits, RuleNames, Names}
 use Rattle.ts_model.specs.declared.hold.Symbol.{Symbol}
 use Rattle.ts_model.specs.declared.hold.Symbol.TheVariants.{Star, Byte}
@@ -21,6 +21,8 @@ use Rattle.ts_laws.proofs.Basics.{by_each, at_each, stable, Dec-both, Dec-either
 use Rattle.ts_laws.proofs.Paths.{last_name, snoc_not_empty, same_last, decide_above}
 use Rattle.ts_laws.proofs.Lists.{decide_within, decide_Any}
 use Rattle.ts_laws.proofs.Reasons.{decide_dirs, decide_below}
+use Rattle.ts_laws.proofs.Copies.{same_from_stamped}
+use Rattle.ts_laws.specs.Laws.{ArePrinted, DirtIsDifference}
 
 -- ---- two prints
 
@@ -86,7 +88,7 @@ decide_named rules p = decide_Any (RuleNames p) (decide_rule p) rules
 -- ---- a snapshot
 
 module _ (s : Snapshot) (lawful : IsSnapshot s) where
-  replica_tree : (on : Side) → IsTree (replica s on)
+  pub replica_tree : (on : Side) → IsTree (replica s on)
   replica_tree side.First = lawful.first
   replica_tree side.Second = lawful.second
 
@@ -156,3 +158,27 @@ module _ (s : Snapshot) (lawful : IsSnapshot s) where
   -- whether a path has a reason, and this one
   pub decide_has_reason : (p : Path) (r : Reason) → Dec (HasReason s p r)
   decide_has_reason p r = Dec-both (decide_below s.first s.second p) (decide_because p r)
+
+-- ---- dirty paths away from held ones
+
+-- they are those below which two trees differ
+pub dirt_is_difference : (s : Snapshot) (on : Side) (t o : Tree) → IsSnapshot s → ArePrinted s on t o → DirtIsDifference s on t o
+dirt_is_difference s on t o lawful printed = λ p away. (λ dirty same. differ p away dirty same, changed p)
+  where
+    replica_at : (q : Path) → stamped (t q) ≡ replica s on q
+    replica_at q = at_each printed.replica_print q
+
+    archive_at : (q : Path) → stamped (o q) ≡ s.archive q
+    archive_at q = at_each printed.archive_print q
+
+    differ : (p : Path) → ¬ TouchesHeld s p → IsDirty s on p → ¬ (sub t p ≡ sub o p)
+    differ p away (inr touches) same = away touches
+    differ p away (inl changed) same = changed.1 (sym (replica_at (p ++ changed.0)) ∙ ap stamped (at_each same changed.0) ∙ archive_at (p ++ changed.0))
+
+    changed : (p : Path) → ¬ (sub t p ≡ sub o p) → IsDirty s on p
+    changed p n = elim (decide_changed s lawful on p) [
+      | yes is ↦ inl is
+      | no not ↦ absurd (n (by_each (sub t p) (sub o p) (λ rest. same_from_stamped (t (p ++ rest)) (o (p ++ rest))
+          (λ u v is_u is_v e. printed.apart u v (inl (p ++ rest, is_u)) (inr (p ++ rest, is_v)) e)
+          (replica_at (p ++ rest) ∙ stable (same_stamp_at _ _) (λ m. not (rest, m)) ∙ sym (archive_at (p ++ rest))))))
+    ]

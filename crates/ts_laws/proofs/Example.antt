@@ -21,6 +21,7 @@ use Rattle.ts_model.specs.declared.plan.Kind.TheVariants.{Piece, Commit, Mark}
 use Rattle.ts_model.specs.declared.plan.Action.{Action}
 use Rattle.ts_model.specs.declared.plan.Plan.{Plan}
 use Rattle.ts_model.specs.Headline.{Meets, Premises}
+use Rattle.ts_laws.specs.Laws.{ValidExample}
 use Rattle.ts_laws.proofs.Basics.{by_each, at_each, IsTree-print}
 use Rattle.ts_laws.proofs.Lists.{Contains-from_Among}
 use Rattle.ts_laws.proofs.Paths.{same_name_equal}
@@ -47,16 +48,19 @@ state bytes = record { archive = bare; first = print_of (with_file bytes); secon
 abbrev entry : Entry
 entry = record { path = (120 ∷ []) ∷ []; reason = reason.First }
 
+abbrev piece : Action
+piece = record { kind = Piece 0 0 1 ((120 ∷ []) ∷ []); preds = [] }
+
 abbrev commit : Action
-commit = record { kind = Commit 0; preds = [] }
+commit = record { kind = Commit 0; preds = 0 ∷ [] }
 
 abbrev mark : Action
-mark = record { kind = Mark 0; preds = 0 ∷ [] }
+mark = record { kind = Mark 0; preds = 1 ∷ [] }
 
 abbrev plan : Plan
 plan = record {
   entries = (record { path = (120 ∷ []) ∷ []; reason = reason.First }) ∷ [];
-  actions = (record { kind = Commit 0; preds = [] }) ∷ (record { kind = Mark 0; preds = 0 ∷ [] }) ∷ [];
+  actions = (record { kind = Piece 0 0 1 ((120 ∷ []) ∷ []); preds = [] }) ∷ (record { kind = Commit 0; preds = 0 ∷ [] }) ∷ (record { kind = Mark 0; preds = 1 ∷ [] }) ∷ [];
 }
 
 -- ---- the trees
@@ -123,30 +127,30 @@ tree_bare F = record { root = refl; parents = parents; paths = paths; present = 
     paths [] there = record { names = tt; depth = omega arith; size = omega arith }
     paths (n ∷ ps) there = absurd (there refl)
 
--- the one content that is met is empty
-only_empty : (x : List ℕ) → Meets (with_file []) bare [] x → x ≡ []
-only_empty x (inl (p, is)) = at_path p is
+-- the one content that is met
+only_content : (x : List ℕ) → Meets (with_file (7 ∷ [])) bare [] x → x ≡ 7 ∷ []
+only_content x (inl (p, is)) = at_path p is
   where
-    by_name : (b : Bool) → cond b (File []) Absent ≡ File x → x ≡ []
-    by_name true e = let f : ◌≡◌ {A = Content (List ℕ)} (File []) (File x) = e in cc
+    by_name : (b : Bool) → cond b (File (7 ∷ [])) Absent ≡ File x → x ≡ 7 ∷ []
+    by_name true e = let f : ◌≡◌ {A = Content (List ℕ)} (File (7 ∷ [])) (File x) = e in cc
     by_name false e = cc
 
-    at_path : (p : Path) → with_file [] p ≡ File x → x ≡ []
+    at_path : (p : Path) → with_file (7 ∷ []) p ≡ File x → x ≡ 7 ∷ []
     at_path [] e = cc
     at_path (n ∷ []) e = by_name (same_name n (120 ∷ [])) e
     at_path (n ∷ m ∷ ps) e = cc
-only_empty x (inr (inl (p, is))) = absurd (nowhere p is)
+only_content x (inr (inl (p, is))) = absurd (nowhere p is)
   where
     nowhere : (p : Path) → bare {F = List ℕ} p ≡ File x → ⊥
     nowhere [] e = cc
     nowhere (n ∷ ps) e = cc
-only_empty x (inr (inr (i, rows, there, has))) = absurd (let k : there.0 < 0 = there.1 in omega arith)
+only_content x (inr (inr (i, rows, there, has))) = absurd (let k : there.0 < 0 = there.1 in omega arith)
 
-premises : Premises (state []) (with_file []) bare []
+premises : Premises (state (7 ∷ [])) (with_file (7 ∷ [])) bare []
 premises = record {
-  snapshot = record { archive = tree_bare Stamp; first = IsTree-print (with_file []) (tree_with_file []); second = IsTree-print bare (tree_bare (List ℕ)) };
+  snapshot = record { archive = tree_bare Stamp; first = IsTree-print (with_file (7 ∷ [])) (tree_with_file (7 ∷ [])); second = IsTree-print bare (tree_bare (List ℕ)) };
   replicas = record { first = refl; second = refl };
-  apart = λ x y met_x met_y same. only_empty x met_x ∙ sym (only_empty y met_y);
+  apart = λ x y met_x met_y same. only_content x met_x ∙ sym (only_content y met_y);
 }
 
 -- ---- the one reason
@@ -199,97 +203,133 @@ one_entry : (k : ℕ) (x : Entry) → EntryIs plan k x → (k ≡ 0) × (x ≡ e
 one_entry zero x is = (refl, sym (same_Some entry x is))
 one_entry (suc k) x is = absurd (none-some x is)
 
-two_actions : (i : ℕ) (x : Action) → ActionIs plan i x → ((i ≡ 0) × (x ≡ commit)) ⊎ ((i ≡ 1) × (x ≡ mark))
-two_actions zero x is = inl (refl, sym (same_Some commit x is))
-two_actions (suc zero) x is = inr (refl, sym (same_Some mark x is))
-two_actions (suc (suc i)) x is = absurd (none-some x is)
+three_actions : (i : ℕ) (x : Action) → ActionIs plan i x → ((i ≡ 0) × (x ≡ piece)) ⊎ (((i ≡ 1) × (x ≡ commit)) ⊎ ((i ≡ 2) × (x ≡ mark)))
+three_actions zero x is = inl (refl, sym (same_Some piece x is))
+three_actions (suc zero) x is = inr (inl (refl, sym (same_Some commit x is)))
+three_actions (suc (suc zero)) x is = inr (inr (refl, sym (same_Some mark x is)))
+three_actions (suc (suc (suc i))) x is = absurd (none-some x is)
 
-kinds : (i : ℕ) (kind : Kind) → KindIs plan i kind → ((i ≡ 0) × (kind ≡ Commit 0)) ⊎ ((i ≡ 1) × (kind ≡ Mark 0))
-kinds i kind (x, is, e) = elim (two_actions i x is) [
+kinds : (i : ℕ) (kind : Kind) → KindIs plan i kind → ((i ≡ 0) × (kind ≡ Piece 0 0 1 x_path)) ⊎ (((i ≡ 1) × (kind ≡ Commit 0)) ⊎ ((i ≡ 2) × (kind ≡ Mark 0)))
+kinds i kind (x, is, e) = elim (three_actions i x is) [
   | inl (at, same) ↦ inl (at, sym e ∙ ap (λ z. z.kind) same)
-  | inr (at, same) ↦ inr (at, sym e ∙ ap (λ z. z.kind) same)
+  | inr (inl (at, same)) ↦ inr (inl (at, sym e ∙ ap (λ z. z.kind) same))
+  | inr (inr (at, same)) ↦ inr (inr (at, sym e ∙ ap (λ z. z.kind) same))
 ]
 
-no_piece : (i e offset size : ℕ) (p : Path) → ¬ KindIs plan i (Piece e offset size p)
-no_piece i e offset size p kind = elim (kinds i (Piece e offset size p) kind) [ inl (at, same) ↦ cc | inr (at, same) ↦ cc ]
+piece_at : (i e offset size : ℕ) (p : Path) → KindIs plan i (Piece e offset size p) → (i ≡ 0) × (Piece e offset size p ≡ Piece 0 0 1 x_path)
+piece_at i e offset size p kind = elim (kinds i (Piece e offset size p) kind) [ inl h ↦ h | inr (inl (at, same)) ↦ cc | inr (inr (at, same)) ↦ cc ]
 
-commit_at : (i e : ℕ) → KindIs plan i (Commit e) → (i ≡ 0) × (e ≡ 0)
-commit_at i e kind = elim (kinds i (Commit e) kind) [ inl (at, same) ↦ (at, (let f : Commit e ≡ Commit 0 = same in cc)) | inr (at, same) ↦ cc ]
+commit_at : (i e : ℕ) → KindIs plan i (Commit e) → (i ≡ 1) × (e ≡ 0)
+commit_at i e kind = elim (kinds i (Commit e) kind) [
+  | inl (at, same) ↦ cc
+  | inr (inl (at, same)) ↦ (at, (let f : Commit e ≡ Commit 0 = same in cc))
+  | inr (inr (at, same)) ↦ cc
+]
 
-mark_at : (i e : ℕ) → KindIs plan i (Mark e) → (i ≡ 1) × (e ≡ 0)
-mark_at i e kind = elim (kinds i (Mark e) kind) [ inl (at, same) ↦ cc | inr (at, same) ↦ (at, (let f : Mark e ≡ Mark 0 = same in cc)) ]
+mark_at : (i e : ℕ) → KindIs plan i (Mark e) → (i ≡ 2) × (e ≡ 0)
+mark_at i e kind = elim (kinds i (Mark e) kind) [
+  | inl (at, same) ↦ cc
+  | inr (inl (at, same)) ↦ cc
+  | inr (inr (at, same)) ↦ (at, (let f : Mark e ≡ Mark 0 = same in cc))
+]
 
-commit_kind : KindIs plan 0 (Commit 0)
+piece_kind : KindIs plan 0 (Piece 0 0 1 x_path)
+piece_kind = (piece, refl, refl)
+
+commit_kind : KindIs plan 1 (Commit 0)
 commit_kind = (commit, refl, refl)
 
-mark_kind : KindIs plan 1 (Mark 0)
+mark_kind : KindIs plan 2 (Mark 0)
 mark_kind = (mark, refl, refl)
 
 copied_entry : IsCopied plan 0
 copied_entry = (entry, side.First, (refl, refl))
 
--- the file is empty, so it has no piece
-no_lawful_piece : (e offset size : ℕ) (p : Path) → ¬ IsPiece (state []) plan e offset size p
-no_lawful_piece e offset size p (x, from, stamp, copies, over, file, range) = at_side from (same_file from file)
+-- the file's one byte is a lawful piece
+lawful_piece : IsPiece (state (7 ∷ [])) plan 0 0 1 x_path
+lawful_piece = (entry, side.First, stamp_of (7 ∷ []), (refl, refl), ([], refl), refl, record { aligned = refl; within = omega arith; full = refl })
+
+-- where a piece's kind says that it is lawful
+abbrev IsLawful : Kind → Type 0
+IsLawful (Piece e offset size p) = IsPiece (state (7 ∷ [])) plan e offset size p
+IsLawful (Commit e) = Unit {0}
+IsLawful (Mark e) = Unit {0}
+
+-- a file of the first replica is this one
+only_file : (p : Path) (stamp : Stamp) → (state (7 ∷ [])).first p ≡ File stamp → (p ≡ x_path) × (stamp.size ≡ 1)
+only_file [] stamp f = cc
+only_file (n ∷ m ∷ ps) stamp f = cc
+only_file (n ∷ []) stamp f = by_name (same_name n (120 ∷ [])) refl f
   where
-    x_is : x ≡ entry
-    x_is = (one_entry e x copies.0).1
+    file_stamp : (x y : Stamp) → ◌≡◌ {A = Content Stamp} (File x) (File y) → x ≡ y
+    file_stamp x y h = cc
 
-    same_file : (from : Side) → replica (state []) from p ≡ File stamp → stamp.size ≡ 0
-    same_file side.Second f = second p f
-      where
-        second : (p : Path) → (state []).second p ≡ File stamp → stamp.size ≡ 0
-        second [] f = cc
-        second (n ∷ ps) f = cc
-    same_file side.First f = first p f
-      where
-        by_name : (b : Bool) → stamped (cond b (File []) Absent) ≡ File stamp → stamp.size ≡ 0
-        by_name true g = let e : stamp_of [] ≡ stamp = file_stamp (stamp_of []) stamp g in ap (λ z. z.size) (sym e)
-          where
-            file_stamp : (m n : Stamp) → ◌≡◌ {A = Content Stamp} (File m) (File n) → m ≡ n
-            file_stamp m n h = cc
-        by_name false g = cc
+    by_name : (b : Bool) → same_name n (120 ∷ []) ≡ b → stamped (cond b (File (7 ∷ [])) Absent) ≡ File stamp → (n ∷ [] ≡ x_path) × (stamp.size ≡ 1)
+    by_name true same g = (ap (λ z. z ∷ []) (same_name_equal n (120 ∷ []) same), ap (λ z. z.size) (sym (file_stamp (stamp_of (7 ∷ [])) stamp g)))
+    by_name false same g = cc
 
-        first : (p : Path) → (state []).first p ≡ File stamp → stamp.size ≡ 0
-        first [] f = cc
-        first (n ∷ []) f = by_name (same_name n (120 ∷ [])) f
-        first (n ∷ m ∷ ps) f = cc
+-- the second has none
+no_file : (p : Path) (stamp : Stamp) → (state (7 ∷ [])).second p ≢ File stamp
+no_file [] stamp f = cc
+no_file (n ∷ ps) stamp f = cc
 
-    at_side : (from : Side) → stamp.size ≡ 0 → ⊥
-    at_side from none = omega (arith, range.within)
+-- and the only one
+only_lawful_piece : (e offset size : ℕ) (p : Path) → IsPiece (state (7 ∷ [])) plan e offset size p → (e ≡ 0) × (offset ≡ 0) × (p ≡ x_path)
+only_lawful_piece e offset size p (x, side.Second, stamp, copies, over, file, range) = absurd (no_file p stamp file)
+only_lawful_piece e offset size p (x, side.First, stamp, copies, over, file, range) =
+    let found = only_file p stamp file in
+    ((one_entry e x copies.0).0, omega (arith, range.within, found.1), found.0)
 
-example_valid : Valid (state []) plan
+example_valid : Valid (state (7 ∷ [])) plan
 example_valid Limits place (e, n) = n (record { entries = omega arith; actions = omega arith; preds = omega arith })
 example_valid EntriesAscend place (k, before, x, e, is_before, is, n) = absurd (let at = (one_entry place x is).0 in omega arith)
-example_valid ReasonsHold place (x, is, n) = n (subst (λ z. HasReason (state []) z.path z.reason) (sym (one_entry place x is).1) (has_first []))
-example_valid EntriesComplete place (p, r, has, none, e) = none 0 entry refl (sym (only_x [] p r has))
-example_valid PredsAscend place (x, is, n) = elim (two_actions place x is) [
+example_valid ReasonsHold place (x, is, n) = n (subst (λ z. HasReason (state (7 ∷ [])) z.path z.reason) (sym (one_entry place x is).1) (has_first (7 ∷ [])))
+example_valid EntriesComplete place (p, r, has, none, e) = none 0 entry refl (sym (only_x (7 ∷ []) p r has))
+example_valid PredsAscend place (x, is, n) = elim (three_actions place x is) [
   | inl (at, same) ↦ n (subst (λ z. AscendBelow place z.preds) (sym same) tt)
-  | inr (at, same) ↦ n (subst (λ z. AscendBelow place z.preds) (sym same) (let f : 0 < place = omega arith in f))
+  | inr (inl (at, same)) ↦ n (subst (λ z. AscendBelow place z.preds) (sym same) (let f : 0 < place = omega arith in f))
+  | inr (inr (at, same)) ↦ n (subst (λ z. AscendBelow place z.preds) (sym same) (let f : 1 < place = omega arith in f))
 ]
 example_valid OneCommit place (inl (e, kind, inl n)) = n (subst (λ z. IsCopied plan z) (sym (commit_at place e kind).1) copied_entry)
 example_valid OneCommit place (inl (e, kind, inr (j, other, less, other_kind, is))) =
-    let at = (commit_at place e kind).0 in absurd (omega arith)
+    let at = (commit_at place e kind).0 in
+    let earlier = (commit_at j e (subst (λ z. KindIs plan j z) is other_kind)).0 in
+    absurd (omega arith)
 example_valid OneCommit place (inr (e, at, (x, from, copies), none)) =
-    none 0 (subst (λ z. KindIs plan 0 (Commit z)) (sym (one_entry e x copies.0).0) commit_kind)
-example_valid PiecesLawful place (e, offset, size, p, kind, n) = no_piece place e offset size p kind
-example_valid PiecesComplete place (inl (e, offset, size, p, kind, earlier)) = no_piece place e offset size p kind
-example_valid PiecesComplete place (inr (e, offset, size, p, at, piece, none)) = no_lawful_piece e offset size p piece
+    none 1 (subst (λ z. KindIs plan 1 (Commit z)) (sym (one_entry e x copies.0).0) commit_kind)
+example_valid PiecesLawful place (e, offset, size, p, kind, n) = n (subst IsLawful (sym (piece_at place e offset size p kind).1) lawful_piece)
+example_valid PiecesComplete place (inl (e, offset, size, p, kind, (j, other, less, other_kind, same))) =
+    let at = (piece_at place e offset size p kind).0 in absurd (omega arith)
+example_valid PiecesComplete place (inr (e, offset, size, p, at, lawful, none)) =
+    let found = only_lawful_piece e offset size p lawful in
+    none 0 1 (subst (λ z. KindIs plan 0 z) (λ i. Piece (sym found.0 i) (sym found.1 i) 1 (sym found.2 i)) piece_kind)
 example_valid OneMark place (inl (e, kind, inl n)) = n (subst (λ z. IsMarked plan z) (sym (mark_at place e kind).1) (entry, refl, λ skip. elim skip [ inl f ↦ cc | inr f ↦ cc ]))
 example_valid OneMark place (inl (e, kind, inr (j, other, less, other_kind, is))) =
     let at = (mark_at place e kind).0 in
     let earlier = (mark_at j e (subst (λ z. KindIs plan j z) is other_kind)).0 in
     absurd (omega arith)
 example_valid OneMark place (inr (e, at, (x, is, markable), none)) =
-    none 1 (subst (λ z. KindIs plan 1 (Mark z)) (sym (one_entry e x is).0) mark_kind)
-example_valid PiecesFirst place (e, i, offset, size, p, kind, piece, n) = no_piece i e offset size p piece
+    none 2 (subst (λ z. KindIs plan 2 (Mark z)) (sym (one_entry e x is).0) mark_kind)
+example_valid PiecesFirst place (e, i, offset, size, p, kind, first, n) =
+    n (subst (λ z. Waits plan z i) (sym (commit_at place e kind).0) (subst (λ z. Waits plan 1 z) (sym (piece_at i e offset size p first).0) (commit, refl, (0, omega arith, refl))))
 example_valid CommitFirst place (e, i, kind, first, n) =
-    n (subst (λ z. Waits plan z i) (sym (mark_at place e kind).0) (subst (λ z. Waits plan 1 z) (sym (commit_at i e first).0) (mark, refl, (0, omega arith, refl))))
+    n (subst (λ z. Waits plan z i) (sym (mark_at place e kind).0) (subst (λ z. Waits plan 2 z) (sym (commit_at i e first).0) (mark, refl, (0, omega arith, refl))))
 example_valid DirFirst place (e, d, i, kind, near, first, n) =
     let same = (one_entry d near.dir near.is_dir).1 in
     let new = near.new_dir in
     absurd (let f : reason.First ≡ reason.Dir = ap (λ z. z.reason) (sym same) ∙ new in cc)
 
 -- the premises can be met
-pub some_plan_is_valid : (s : Snapshot) × (plan : Plan) × (a : Tree) × (b : Tree) × Premises s a b [] × Valid s plan × IsCopied plan 0
-some_plan_is_valid = (state [], plan, with_file [], bare, premises, example_valid, copied_entry)
+pub some_plan_is_valid : ValidExample
+some_plan_is_valid = record {
+  snapshot = state (7 ∷ []);
+  plan = plan;
+  first = with_file (7 ∷ []);
+  second = bare;
+  path = x_path;
+  premises = premises;
+  valid = example_valid;
+  piece = piece_kind;
+  commit = commit_kind;
+  mark = mark_kind;
+}

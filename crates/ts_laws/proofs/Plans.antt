@@ -4,7 +4,7 @@ use Rattle.std.proofs.lemmas.Bool.{cases_eq, cases_order}
 use Rattle.std.proofs.lemmas.Option.{none-some, slice_get_within}
 use Rattle.ts_name.specs.Paths.{Name, Path, IsAbove, IsBefore}
 use Rattle.ts_model.specs.Sync.{Snapshot, HasReason, IsSkipped}
-use Rattle.ts_model.specs.Plans.{EntryIs, ActionIs, KindIs, Waits, source, NearestDir, Valid}
+use Rattle.ts_model.specs.Plans.{EntryIs, ActionIs, KindIs, Waits, source, NearestDir, Wrong, Valid}
 use Rattle.ts_model.specs.declared.plan.PlanRule.TheVariants.{EntriesAscend, EntriesComplete, OneCommit, OneMark, PiecesFirst, CommitFirst, DirFirst}
 use Rattle.ts_model.specs.Runs.{Run, Has, claims, finishes, IsPieceOf, Legal, open_count}
 use Rattle.ts_model.specs.declared.plan.Reason.TheVariants as reason
@@ -21,6 +21,37 @@ use Rattle.ts_laws.proofs.Paths.{decide_before, before_itself, before_trans, com
 use Rattle.ts_laws.proofs.Lists.{find_index, element_at, Among, Among-from_Contains, Contains-from_Among}
 use Rattle.ts_laws.proofs.Runs.{same_action, IsRun-from_legal, pred_count_is, unreleased_count}
 use Rattle.ts_laws.proofs.Reasons.{decide_reason}
+
+-- ---- waiting is decided
+
+-- whether a number is among others
+pub decide_among : (k : ℕ) (xs : List ℕ) → Dec (Among k xs)
+decide_among k [] = no (λ h. h)
+decide_among k (x ∷ xs) = elim (same_number x k) [
+  | yes e ↦ yes (inl e)
+  | no n ↦ elim (decide_among k xs) [ yes h ↦ yes (inr h) | no m ↦ no (λ h. elim h [ inl e ↦ n e | inr g ↦ m g ]) ]
+]
+
+-- whether an action waits for another
+pub decide_waits : (plan : Plan) (i j : ℕ) → Dec (Waits plan i j)
+decide_waits plan i j = go (slice_get plan.actions i) refl
+  where
+    go : (o : Option Action) → slice_get plan.actions i ≡ o → Dec (Waits plan i j)
+    go None is = no (λ h. none-some h.0 (sym is ∙ h.1))
+    go (Some action) is = elim (decide_among j action.preds) [
+      | yes h ↦ yes (action, is, Contains-from_Among action.preds j h)
+      | no n ↦ no (λ h. n (subst (λ z. Among j z.preds) (same_action plan i h.0 action h.1 is) (Among-from_Contains h.0.preds j h.2)))
+    ]
+
+-- ---- whatever has a reason is an entry
+
+-- where no path with a reason is missing
+pub entry_from_complete : (s : Snapshot) (plan : Plan) → ((place : ℕ) → ¬ Wrong s plan EntriesComplete place) → (p : Path) (r : Reason) → HasReason s p r
+    → (k : ℕ) × (entry : Entry) × EntryIs plan k entry × (entry.path ≡ p)
+entry_from_complete s plan complete p r has = elim (find_index (λ entry. entry.path ≡ p) (λ entry. same_names entry.path p) plan.entries) [
+  | inl found ↦ found
+  | inr none ↦ absurd (complete _ (p, r, has, none, refl))
+]
 
 -- ---- entries are distinct
 
@@ -47,14 +78,9 @@ module _ (s : Snapshot) (plan : Plan) (valid : Valid s plan) where
     | inr (inr h) ↦ absurd (before_itself y.path (subst (λ z. IsBefore y.path z) same (in_order l k y x is_y is_x h)))
   ]
 
-  -- ---- whatever has a reason is an entry
-
   -- a path with a reason has one
   pub entry_exists : (p : Path) (r : Reason) → HasReason s p r → (k : ℕ) × (entry : Entry) × EntryIs plan k entry × (entry.path ≡ p)
-  entry_exists p r has = elim (find_index (λ entry. entry.path ≡ p) (λ entry. same_names entry.path p) plan.entries) [
-    | inl found ↦ found
-    | inr none ↦ absurd (valid EntriesComplete _ (p, r, has, none, refl))
-  ]
+  entry_exists p r has = entry_from_complete s plan (valid EntriesComplete) p r has
 
   -- ---- commits
 
@@ -100,32 +126,13 @@ module _ (s : Snapshot) (plan : Plan) (valid : Valid s plan) where
     | inr (inr h) ↦ absurd (valid OneMark i (inl (e, at_i, inr (j, Mark e, h, at_j, refl))))
   ]
 
-  -- ---- waiting is decided
-
-  decide_among : (k : ℕ) (xs : List ℕ) → Dec (Among k xs)
-  decide_among k [] = no (λ h. h)
-  decide_among k (x ∷ xs) = elim (same_number x k) [
-    | yes e ↦ yes (inl e)
-    | no n ↦ elim (decide_among k xs) [ yes h ↦ yes (inr h) | no m ↦ no (λ h. elim h [ inl e ↦ n e | inr g ↦ m g ]) ]
-  ]
-
-  decide_waits : (i j : ℕ) → Dec (Waits plan i j)
-  decide_waits i j = go (slice_get plan.actions i) refl
-    where
-      go : (o : Option Action) → slice_get plan.actions i ≡ o → Dec (Waits plan i j)
-      go None is = no (λ h. none-some h.0 (sym is ∙ h.1))
-      go (Some action) is = elim (decide_among j action.preds) [
-        | yes h ↦ yes (action, is, Contains-from_Among action.preds j h)
-        | no n ↦ no (λ h. n (subst (λ z. Among j z.preds) (same_action plan i h.0 action h.1 is) (Among-from_Contains h.0.preds j h.2)))
-      ]
-
   -- a mark waits for the commit of its entry
   pub mark_waits_for_commit : (m i e : ℕ) → KindIs plan m (Mark e) → KindIs plan i (Commit e) → Waits plan m i
-  mark_waits_for_commit m i e mark commit = stable (decide_waits m i) (λ n. valid CommitFirst m (e, i, mark, commit, n))
+  mark_waits_for_commit m i e mark commit = stable (decide_waits plan m i) (λ n. valid CommitFirst m (e, i, mark, commit, n))
 
   -- and for the mark of the nearest new directory above
   pub mark_waits_for_dir : (m e d i : ℕ) → KindIs plan m (Mark e) → NearestDir plan e d → KindIs plan i (Mark d) → Waits plan m i
-  mark_waits_for_dir m e d i mark nearest dir_mark = stable (decide_waits m i) (λ n. valid DirFirst m (e, d, i, mark, nearest, dir_mark, n))
+  mark_waits_for_dir m e d i mark nearest dir_mark = stable (decide_waits plan m i) (λ n. valid DirFirst m (e, d, i, mark, nearest, dir_mark, n))
 
 -- ---- what the words of a legal run say
 
@@ -133,7 +140,7 @@ module _ (s : Snapshot) (plan : Plan) (valid : Valid s plan) where
 pub finds_pieces : (s : Snapshot) (plan : Plan) → Valid s plan → (r : Run) (c k : ℕ) → Legal s plan r → Has r (claims c) → IsPieceOf plan c k → Has r (finishes k)
 finds_pieces s plan valid r c k legal claimed piece =
     (IsRun-from_legal s plan valid (record { first = λ _. Absent; second = λ _. Absent; archive = λ _. Absent }) r legal).ordered.claimed c k claimed
-    (stable (decide_waits s plan valid c k) (λ n. valid PiecesFirst c (piece.entry, k, piece.offset, piece.size, piece.path, piece.commit, piece.piece, n)))
+    (stable (decide_waits plan c k) (λ n. valid PiecesFirst c (piece.entry, k, piece.offset, piece.size, piece.path, piece.commit, piece.piece, n)))
 
 -- open predecessors are those that weren't released
 pub counts_open : (s : Snapshot) (plan : Plan) → Valid s plan → (r : Run) (i : ℕ) (action : Action) → Legal s plan r → ActionIs plan i action

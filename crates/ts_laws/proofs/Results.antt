@@ -19,6 +19,7 @@ use Rattle.ts_laws.proofs.Basics.{Start, IsTree-print, by_each, at_each, stable,
 use Rattle.ts_laws.proofs.Listings.{IsTree-from_listing, one_listing}
 use Rattle.ts_laws.proofs.Pairs.{either, one_at_most}
 use Rattle.ts_laws.proofs.Choices.{one_pair}
+use Rattle.ts_laws.proofs.Rules.{one_broken}
 
 -- ---- listings make a lawful snapshot
 
@@ -46,7 +47,8 @@ pub one_pair_of_listings : (archive : Listing Stamp) (first second : Listing (Li
 one_pair_of_listings archive first second rules is_archive is_first is_second apart =
     one_pair (snapshot_at archive first second rules) (at first) (at second) (Start-from_listings archive first second rules is_archive is_first is_second) apart
 
-Start-from_bundle : (b : Bundle) → IsBundle b → Start (snapshot_of b) (at b.first) (at b.second)
+-- so do those of a bundle
+pub Start-from_bundle : (b : Bundle) → IsBundle b → Start (snapshot_of b) (at b.first) (at b.second)
 Start-from_bundle b is = Start-from_listings b.archive b.first b.second b.rules is.archive.listing is.first.listing is.second.listing
 
 -- ---- one archive is final
@@ -59,46 +61,6 @@ one_final s c x y first second = by_each x y (λ q. stable (same_stamp_at (x q) 
       | inr some ↦ some (λ p rest why has still at.
           n (ap x at ∙ at_each (first.skipped p why has still) rest ∙ sym (at_each (second.skipped p why has still) rest) ∙ ap y (sym at)))
     ])))
-
--- ---- one rule, one place
-
--- the rule with this number
-rule_at : ℕ → PlanRule
-rule_at n = get_or (Limits ∷ Limits ∷ EntriesAscend ∷ ReasonsHold ∷ EntriesComplete ∷ PredsAscend ∷ OneCommit ∷ PiecesLawful ∷ PiecesComplete ∷ OneMark ∷ PiecesFirst ∷ CommitFirst ∷ DirFirst ∷ []) n Limits
-
--- a rule is found by its number
-rule_at-rule_number : (r : PlanRule) → rule_at (rule_number r) ≡ r
-unfolding rule_at
-rule_at-rule_number Limits = refl
-rule_at-rule_number EntriesAscend = refl
-rule_at-rule_number ReasonsHold = refl
-rule_at-rule_number EntriesComplete = refl
-rule_at-rule_number PredsAscend = refl
-rule_at-rule_number OneCommit = refl
-rule_at-rule_number PiecesLawful = refl
-rule_at-rule_number PiecesComplete = refl
-rule_at-rule_number OneMark = refl
-rule_at-rule_number PiecesFirst = refl
-rule_at-rule_number CommitFirst = refl
-rule_at-rule_number DirFirst = refl
-
-one_number : (r q : PlanRule) → rule_number r ≡ rule_number q → r ≡ q
-one_number r q e = sym (rule_at-rule_number r) ∙ ap rule_at e ∙ rule_at-rule_number q
-
--- neither is below the other
-equal_from_neither : (k l : ℕ) → ¬ (k < l) → ¬ (l < k) → k ≡ l
-equal_from_neither k l h g = elim (cases_order k l) [
-  | inl e ↦ e
-  | inr more ↦ elim more [ inl less ↦ absurd (h less) | inr less ↦ absurd (g less) ]
-]
-
--- a plan that is broken is so by one rule and at one place
-pub one_broken : (s : Snapshot) (plan : Plan) (r q : PlanRule) (k l : ℕ) → Broken s plan r k → Broken s plan q l → (r ≡ q) × (k ≡ l)
-one_broken s plan r q k l h g =
-    (same, equal_from_neither k l (λ less. g.least k less (subst (λ z. Wrong s plan z k) same h.wrong)) (λ less. h.least l less (subst (λ z. Wrong s plan z l) (sym same) g.wrong)))
-  where
-    same : r ≡ q
-    same = one_number r q (equal_from_neither (rule_number r) (rule_number q) (λ less. g.earlier r k less h.wrong) (λ less. h.earlier q l less g.wrong))
 
 -- ---- one answer for a bundle
 

@@ -4,22 +4,29 @@ ghost use Rattle.std.specs.List.{list_any};
 ghost use Rattle.std.specs.Prelude.{◌≡◌, ◌⊎◌, ℕ, Bool, not, List, [], length, count_by};
 ghost use Rattle.ts_model.specs.Headline.{AllDone, ArchiveAgrees, Completes, FinalArchive, HasOnePair, Meets, NotStuck, OnePair, OriginalOrFinal, Premises};
 ghost use Rattle.ts_model.specs.declared.hold.Rule.{Rule};
-ghost use Rattle.ts_model.specs.Plans.{ActionIs, IsCopied, Valid};
+ghost use Rattle.ts_model.specs.Plans.{ActionIs, Valid};
 ghost use Rattle.ts_model.specs.Resume.{ArchiveIsClosed, CanResume, CutsAreLegal, IsClosedPart, archive_of_part, stopped};
 ghost use Rattle.ts_model.specs.Runs.{Has, IsPieceOf, Legal, Run, after, claims, finishes, open_count, releases, start};
 ghost use Rattle.ts_model.specs.Sync.{HasReason, IsSnapshot, Snapshot, Synced};
-ghost use Rattle.ts_model.specs.Texts.{Bundle, IsBundle, IsBundleText};
+ghost use Rattle.ts_model.specs.Texts.{Bundle, IsArchiveText, IsBundle, IsBundleText, IsPlanText, IsPrintText, IsRulesText, IsTreeText};
 ghost use Rattle.ts_model.specs.Trees.{AreApart, IsListing, Listing, Print, Tree, at, print_of};
-ghost use Rattle.ts_model.specs.Trial.{IsRefused, IsResult, Trial};
+ghost use Rattle.ts_model.specs.Trial.{HasContentsApart, IsNoBundle, IsRefused, IsResult, Trial};
+ghost use Rattle.ts_laws.specs.Laws.{ArePrinted, CanFinish, DirtIsDifference, EntriesAreReasons, HasAnswer, IsAnswered, IsDecided, OneToOne, ValidExample};
 ghost use Rattle.ts_model.specs.declared.plan.Action.{Action};
 ghost use Rattle.ts_model.specs.declared.plan.Plan.{Plan};
 ghost use Rattle.ts_model.specs.declared.plan.Reason.{Reason};
+ghost use Rattle.ts_model.specs.declared.plan.Side.{Side};
 ghost use Rattle.ts_model.specs.declared.row.Stamp.{Stamp};
 ghost use Rattle.ts_name.specs.Paths.{Path};
 
 /// While nothing failed and nothing that was claimed is open, all is done or something may be claimed.
 pub fn not_stuck()
     ensures { (s : Snapshot) (plan : Plan) → Valid s plan → NotStuck s plan }
+{}
+
+/// A legal run without a failure, stopped anywhere, goes on without one until each action is done: no valid plan is a dead end.
+pub fn can_finish()
+    ensures { (s : Snapshot) (plan : Plan) → Valid s plan → CanFinish s plan }
 {}
 
 /// Each path of each replica is original or final. Conflicts and held paths are as they were.
@@ -62,6 +69,22 @@ pub fn decided_reasons()
     ensures { (s : Snapshot) (p : Path) (r : Reason) → IsSnapshot s → Dec (HasReason s p r) }
 {}
 
+/// The entries of a valid plan are exactly the paths with a reason, each once and with that reason.
+pub fn entries_are_reasons()
+    ensures { (s : Snapshot) (plan : Plan) → IsSnapshot s → Valid s plan → EntriesAreReasons s plan }
+{}
+
+/// A plan is valid, or one rule is broken first, at one place.
+pub fn decided_rules()
+    ensures { (s : Snapshot) (plan : Plan) → IsSnapshot s → IsDecided s plan }
+{}
+
+/// Where a tree has the archive as its print and contents are apart, a path away from all held paths is dirty in a replica exactly where
+/// its subtrees in the replica and in that tree differ.
+pub fn dirt_is_difference()
+    ensures { (s : Snapshot) (on : Side) (t o : Tree) → IsSnapshot s → ArePrinted s on t o → DirtIsDifference s on t o }
+{}
+
 /// A path has one reason at most.
 pub fn one_reason()
     ensures { (s : Snapshot) (p : Path) (r q : Reason) → HasReason s p r → HasReason s p q → r ≡ q }
@@ -84,15 +107,50 @@ pub fn one_listing()
     ensures { (xs ys : Listing (List ℕ)) → IsListing xs → IsListing ys → at xs ≡ at ys → xs ≡ ys }
 {}
 
+/// `trial` answers something for a bundle whose contents are apart.
+pub fn some_answer()
+    ensures { (b : Bundle) → IsBundle b → AreApart (Meets (at b.first) (at b.second) []) → HasAnswer b }
+{}
+
+/// `trial` answers something for bytes that are of a bundle, or of none, where contents are apart.
+pub fn some_trial()
+    ensures { (bytes : List ℕ) → HasContentsApart bytes → ((b : Bundle) × IsBundleText bytes b) ⊎ IsNoBundle bytes → IsAnswered bytes }
+{}
+
 /// What `trial` answers for a bundle is one text and one status.
 pub fn one_answer()
     ensures { (b : Bundle) (v w : List ℕ) (m n : ℕ) → IsBundle b → IsRefused b v m ⊎ IsResult b v m → IsRefused b w n ⊎ IsResult b w n
         → (v ≡ w) × (m ≡ n) }
 {}
 
-/// A text is of one bundle.
-pub fn one_bundle()
-    ensures { (bytes : List ℕ) (b c : Bundle) → IsBundleText bytes b → IsBundleText bytes c → b ≡ c }
+/// A text is of one tree, and a tree has one text.
+pub fn one_tree_text()
+    ensures { OneToOne IsTreeText }
+{}
+
+/// A text is of one print, and a print has one text.
+pub fn one_print_text()
+    ensures { OneToOne IsPrintText }
+{}
+
+/// An archive file's text is of one print, and a print has one such text.
+pub fn one_archive_text()
+    ensures { OneToOne IsArchiveText }
+{}
+
+/// A text is of one list of hold rules, and these have one text.
+pub fn one_rules_text()
+    ensures { OneToOne IsRulesText }
+{}
+
+/// A text is of one plan, and a plan has one text.
+pub fn one_plan_text()
+    ensures { OneToOne IsPlanText }
+{}
+
+/// A text is of one bundle, and a bundle has one text.
+pub fn one_bundle_text()
+    ensures { OneToOne IsBundleText }
 {}
 
 /// `trial` answers one text and one status, whatever the bytes.
@@ -123,7 +181,7 @@ pub fn resumed_runs_end_alike()
         (v.first ≡ c) × (v.second ≡ d) × FinalArchive s c v.archive }
 {}
 
-/// The premises can be met, by a valid plan that copies something.
+/// The premises can be met, by a valid plan of a piece, a commit and a mark.
 pub fn some_plan_is_valid()
-    ensures { (s : Snapshot) × (plan : Plan) × (a : Tree) × (b : Tree) × Premises s a b [] × Valid s plan × IsCopied plan 0 }
+    ensures { ValidExample }
 {}
