@@ -1,3 +1,4 @@
 pub mod Buffers
 pub mod Prefixes
 pub mod Texts
+pub mod Order

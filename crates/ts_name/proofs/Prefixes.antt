@@ -5,22 +5,8 @@ use Rattle.std.proofs.lemmas.Slice.Eq.{strip_prefix_is}
 use Rattle.std.specs.Cmp.Lexicographic.{pointwise}
 use Rattle.ts_name.specs.Paths.{Name, Path, IsAbove, same_name, same_path, below}
 use Rattle.ts_name.specs.Buffers.{pieces, ended}
+use Rattle.ts_name.specs.Laws.{same_name_equal, same_name_itself}
 use Rattle.ts_name.proofs.Buffers.{Holds, above_from_bytes, bytes_from_above}
-
--- names that test equal are equal
-pub same_name_equal : (x y : Name) → same_name x y ≡ true → x ≡ y
-same_name_equal [] [] h = refl
-same_name_equal [] (y ∷ ys) h = cc
-same_name_equal (x ∷ xs) [] h = cc
-same_name_equal (x ∷ xs) (y ∷ ys) h =
-    let parts = and_parts (x == y) (same_name xs ys) h in
-    let e = eqb-true x y parts.0 in
-    let f = same_name_equal xs ys parts.1 in cc
-
--- a name tests equal to itself
-pub same_name_itself : (x : Name) → same_name x x ≡ true
-same_name_itself [] = refl
-same_name_itself (x ∷ xs) = and_from (x == x) (same_name xs xs) (eq-eqb x x refl) (same_name_itself xs)
 
 -- what follows a path is left below it
 pub below_append : (p rest : Path) → below p (p ++ rest) ≡ Some rest

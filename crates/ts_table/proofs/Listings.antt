@@ -1,0 +1,198 @@
+-- Listings: what a listing has one of, the rows below a path, and when rows may come next.
+use Rattle.std.proofs.Common.{◌≡◌, ◌≢◌, ◌⊎◌, ℕ, zero, suc, ◌<◌, ◌≤◌, ◌+◌, Bool, true, false, cond, List, [], ◌∷◌, ◌++◌, length, get_or, take, drop, Option, Some, None, refl, sym, ap, ap₂, ◌∙◌, subst, inl, inr, arith, map, append_assoc, append-nil}
+use Rattle.std.proofs.lemmas.Bool.{cond-true, cond-false}
+use Rattle.std.specs.List.{AllByRecursion, filter}
+use Rattle.ts_name.specs.Paths.{Name, Path, IsPath, IsAbove, IsBefore, same_path, below}
+use Rattle.ts_model.specs.Trees.{Listing, listed, at, Ascend, IsListing, IsSubListing, sub}
+use Rattle.ts_model.specs.declared.row.Content.{Content}
+use Rattle.ts_model.specs.declared.row.Content.TheVariants.{Absent, Dir, File}
+use Rattle.ts_model.specs.declared.row.Row.{Row}
+use Rattle.ts_table.specs.Tables.{is_above, rows_below, placed, IsPlace}
+use Rattle.ts_table.proofs.Paths.{same_path_equal, same_path_itself, same_path_differ, before_cases, before_trans, before_itself, below_append, below_gives, not_above, above_trans, append_same, last_name, same_parent, snoc_not_empty, below_order, before_below, before_all_below, before_not_below, below_before}
+use Rattle.ts_table.proofs.Rows.{by_each, at_each, weaker, all_append, all_left, all_right, ascend_rest, ascend_first, ascend_cons, ascend_left, ascend_right, AllBefore, ascend_join, ascend_across, ascend_pair, listed_holds, listed_none, listed_after, listed_before, listed_append, listed_here, listed_placed, placed_below}
+
+-- ---- one listing
+
+-- rows that ascend and are not absent are told by what is listed
+pub one_listed : {F : Type 0} (xs ys : Listing F) → Ascend xs → Ascend ys → AllByRecursion (λ row. row.content ≢ Absent) xs → AllByRecursion (λ row. row.content ≢ Absent) ys → ((p : Path) → listed xs p ≡ listed ys p) → xs ≡ ys
+one_listed [] [] up_x up_y there_x there_y same = refl
+one_listed [] (y ∷ ys) up_x up_y there_x there_y same = absurd (there_y.0 (sym (listed_here y ys) ∙ sym (same y.path)))
+one_listed (x ∷ xs) [] up_x up_y there_x there_y same = absurd (there_x.0 (sym (listed_here x xs) ∙ same x.path))
+one_listed {F} (x ∷ xs) (y ∷ ys) up_x up_y there_x there_y same = ap₂ ◌∷◌ first (one_listed xs ys (ascend_rest x xs up_x) (ascend_rest y ys up_y) there_x.1 there_y.1 others)
+  where
+    differ : (p : Path) (rows : Listing F) → AllByRecursion (λ row. IsBefore p row.path) rows → AllByRecursion (λ row. row.path ≢ p) rows
+    differ p rows all = weaker (λ (row : Row F). IsBefore p row.path) (λ row. row.path ≢ p) (λ row before e. before_itself p (subst (λ z. IsBefore p z) e before)) rows all
+
+    not_before : (a b : Row F) (others_a others_b : Listing F) → Ascend (b ∷ others_b) → a.content ≢ Absent → listed (a ∷ others_a) a.path ≡ listed (b ∷ others_b) a.path → ¬ IsBefore a.path b.path
+    not_before a b others_a others_b up there e before =
+        there (sym (listed_here a others_a) ∙ e ∙ listed_none (b ∷ others_b) a.path
+        (differ a.path (b ∷ others_b) (before, weaker (λ (row : Row F). IsBefore b.path row.path) (λ row. IsBefore a.path row.path) (λ row later. before_trans a.path b.path row.path before later) others_b (ascend_first b others_b up))))
+
+    paths : x.path ≡ y.path
+    paths = elim (before_cases x.path y.path) [
+      | inl before ↦ absurd (not_before x y xs ys up_y there_x.0 (same x.path) before)
+      | inr more ↦ elim more [
+        | inl e ↦ e
+        | inr after ↦ absurd (not_before y x ys xs up_x there_y.0 (sym (same y.path)) after)
+      ]
+    ]
+
+    contents : x.content ≡ y.content
+    contents = sym (listed_here x xs) ∙ same x.path ∙ ap (listed (y ∷ ys)) paths ∙ listed_here y ys
+
+    first : x ≡ y
+    first = λ i. record { path = paths i; content = contents i }
+
+    others : (p : Path) → listed xs p ≡ listed ys p
+    others p = go (same_path x.path p) refl
+      where
+        go : (b : Bool) → same_path x.path p ≡ b → listed xs p ≡ listed ys p
+        go true e =
+            let is = same_path_equal x.path p e in
+            listed_none xs p (subst (λ z. AllByRecursion (λ row. row.path ≢ z) xs) is (differ x.path xs (ascend_first x xs up_x)))
+            ∙ sym (listed_none ys p (subst (λ z. AllByRecursion (λ row. row.path ≢ z) ys) (sym paths ∙ is) (differ y.path ys (ascend_first y ys up_y))))
+        go false e =
+            let f : same_path y.path p ≡ false = ap (λ z. same_path z p) (sym paths) ∙ e in
+            sym (cond-false _ _ _ e) ∙ same p ∙ cond-false _ _ _ f
+
+-- ---- the rows below a path
+
+pub is_above_yes : (p q : Path) → IsAbove p q → is_above p q ≡ true
+is_above_yes p q h = go (below p q) (ap (below p) h.1 ∙ below_append p h.0)
+  where
+    go : (o : Option Path) → o ≡ Some h.0 → elim o [ None ↦ false | Some rest ↦ true ] ≡ true
+    go None e = cc
+    go (Some rest) e = refl
+
+pub is_above_gives : (p q : Path) → is_above p q ≡ true → IsAbove p q
+is_above_gives p q h = go (below p q) refl h
+  where
+    go : (o : Option Path) → below p q ≡ o → elim o [ None ↦ false | Some rest ↦ true ] ≡ true → IsAbove p q
+    go None e f = cc
+    go (Some rest) e f = (rest, below_gives p q rest e)
+
+pub is_above_no : (p q : Path) → ¬ IsAbove p q → is_above p q ≡ false
+is_above_no p q off = go (is_above p q) refl
+  where
+    go : (b : Bool) → is_above p q ≡ b → is_above p q ≡ false
+    go true e = absurd (off (is_above_gives p q e))
+    go false e = e
+
+pub not_above_gives : (p q : Path) → is_above p q ≡ false → ¬ IsAbove p q
+not_above_gives p q e h = let f = is_above_yes p q h in cc
+
+filter_none : {A : Type 0} (test : A → Bool) (xs : List A) → AllByRecursion (λ x. test x ≡ false) xs → filter test xs ≡ []
+filter_none test [] h = refl
+filter_none test (x ∷ xs) h = cond-false _ _ _ h.0 ∙ filter_none test xs h.1
+
+filter_each : {A : Type 0} (test : A → Bool) (xs : List A) → AllByRecursion (λ x. test x ≡ true) xs → filter test xs ≡ xs
+filter_each test [] h = refl
+filter_each test (x ∷ xs) h = cond-true _ _ _ h.0 ∙ ap (λ z. x ∷ z) (filter_each test xs h.1)
+
+filter_append : {A : Type 0} (test : A → Bool) (xs ys : List A) → filter test (xs ++ ys) ≡ filter test xs ++ filter test ys
+filter_append test [] ys = refl
+filter_append test (x ∷ xs) ys = go (test x) (filter_append test xs ys)
+  where
+    go : (b : Bool) → filter test (xs ++ ys) ≡ filter test xs ++ filter test ys → cond b (x ∷ filter test (xs ++ ys)) (filter test (xs ++ ys)) ≡ cond b (x ∷ filter test xs) (filter test xs) ++ filter test ys
+    go true e = ap (λ z. x ∷ z) e
+    go false e = e
+
+-- what holds of each element holds of those that a filter keeps
+filter_all : {A : Type 0} (P : A → Type 0) (test : A → Bool) (xs : List A) → AllByRecursion P xs → AllByRecursion P (filter test xs)
+filter_all P test [] h = tt
+filter_all P test (x ∷ xs) h = go (test x) (filter_all P test xs h.1)
+  where
+    go : (b : Bool) → AllByRecursion P (filter test xs) → AllByRecursion P (cond b (x ∷ filter test xs) (filter test xs))
+    go true more = (h.0, more)
+    go false more = more
+
+filter_ascend : {F : Type 0} (test : Row F → Bool) (rows : Listing F) → Ascend rows → Ascend (filter test rows)
+filter_ascend test [] h = tt
+filter_ascend {F} test (row ∷ rows) h = go (test row) (filter_ascend test rows (ascend_rest row rows h))
+  where
+    go : (b : Bool) → Ascend (filter test rows) → Ascend (cond b (row ∷ filter test rows) (filter test rows))
+    go true more = ascend_cons row (filter test rows) (filter_all (λ (other : Row F). IsBefore row.path other.path) test rows (ascend_first row rows h)) more
+    go false more = more
+
+-- the middle of a cut
+pub rows_below_mid : {F : Type 0} (p : Path) (front mid back : Listing F) → AllByRecursion (λ row. ¬ IsAbove p row.path) front → AllByRecursion (λ row. IsAbove p row.path) mid → AllByRecursion (λ row. ¬ IsAbove p row.path) back → rows_below p (front ++ (mid ++ back)) ≡ mid
+rows_below_mid {F} p front mid back off_front above off_back =
+    filter_append (λ (row : Row F). is_above p row.path) front (mid ++ back) ∙ ap₂ ◌++◌ (filter_none (λ (row : Row F). is_above p row.path) front (none front off_front)) (filter_append (λ (row : Row F). is_above p row.path) mid back ∙ ap₂ ◌++◌ each (filter_none (λ (row : Row F). is_above p row.path) back (none back off_back)) ∙ append-nil mid)
+  where
+    none : (rows : Listing F) → AllByRecursion (λ row. ¬ IsAbove p row.path) rows → AllByRecursion (λ row. is_above p row.path ≡ false) rows
+    none rows all = weaker (λ (row : Row F). ¬ IsAbove p row.path) (λ row. is_above p row.path ≡ false) (λ row off. is_above_no p row.path off) rows all
+
+    each : filter (λ (row : Row F). is_above p row.path) mid ≡ mid
+    each = filter_each (λ (row : Row F). is_above p row.path) mid (weaker (λ (row : Row F). IsAbove p row.path) (λ row. is_above p row.path ≡ true) (λ row h. is_above_yes p row.path h) mid above)
+
+-- they list what is listed below it
+pub listed_below : {F : Type 0} (p q : Path) (rows : Listing F) → IsAbove p q → listed (rows_below p rows) q ≡ listed rows q
+listed_below p q [] above = refl
+listed_below {F} p q (row ∷ rows) above = go (is_above p row.path) refl (listed_below p q rows above)
+  where
+    go : (b : Bool) → is_above p row.path ≡ b → listed (rows_below p rows) q ≡ listed rows q → listed (cond b (row ∷ rows_below p rows) (rows_below p rows)) q ≡ listed (row ∷ rows) q
+    go true e more = ap (cond (same_path row.path q) row.content) more
+    go false e more =
+        let differ : row.path ≢ q = λ same. not_above_gives p row.path e (subst (λ z. IsAbove p z) (sym same) above) in
+        more ∙ sym (cond-false _ _ _ (same_path_differ row.path q differ))
+
+-- and nothing else
+pub not_listed_below : {F : Type 0} (p q : Path) (rows : Listing F) → ¬ IsAbove p q → listed (rows_below p rows) q ≡ Absent
+not_listed_below {F} p q rows off = listed_none (rows_below p rows) q (differ rows)
+  where
+    differ : (rows : Listing F) → AllByRecursion (λ row. row.path ≢ q) (rows_below p rows)
+    differ [] = tt
+    differ (row ∷ rows) = go (is_above p row.path) refl (differ rows)
+      where
+        go : (b : Bool) → is_above p row.path ≡ b → AllByRecursion (λ other. other.path ≢ q) (rows_below p rows) → AllByRecursion (λ other. other.path ≢ q) (cond b (row ∷ rows_below p rows) (rows_below p rows))
+        go true e more = ((λ same. off (subst (λ z. IsAbove p z) same (is_above_gives p row.path e))), more)
+        go false e more = more
+
+-- whether q is p or below it
+pub decide_above : (p q : Path) → IsAbove p q ⊎ (¬ IsAbove p q)
+decide_above p q = go (is_above p q) refl
+  where
+    go : (b : Bool) → is_above p q ≡ b → IsAbove p q ⊎ (¬ IsAbove p q)
+    go true e = inl (is_above_gives p q e)
+    go false e = inr (not_above_gives p q e)
+
+-- the root is not listed
+root_not_listed : {F : Type 0} (rows : Listing F) → IsListing rows → listed rows [] ≡ Absent
+root_not_listed {F} rows lists =
+    listed_none rows [] (weaker (λ (row : Row F). IsPath row.path × (row.path ≢ []) × (row.content ≢ Absent)) (λ row. row.path ≢ []) (λ row h. h.1) rows lists.rows_are)
+
+-- two trees are the same from a path down exactly where they have the same rows there
+pub same_rows_below : {F : Type 0} (xs ys : Listing F) (p : Path) → IsListing xs → IsListing ys → sub (at xs) p ≡ sub (at ys) p → rows_below p xs ≡ rows_below p ys
+same_rows_below {F} xs ys p lists_x lists_y same =
+    one_listed (rows_below p xs) (rows_below p ys) (filter_ascend _ xs lists_x.ascending) (filter_ascend _ ys lists_y.ascending) (there xs lists_x) (there ys lists_y) everywhere
+  where
+    there : (rows : Listing F) → IsListing rows → AllByRecursion (λ row. row.content ≢ Absent) (rows_below p rows)
+    there rows lists = filter_all (λ (row : Row F). row.content ≢ Absent) (λ row. is_above p row.path) rows (weaker (λ (row : Row F). IsPath row.path × (row.path ≢ []) × (row.content ≢ Absent)) (λ row. row.content ≢ Absent) (λ row h. h.2) rows lists.rows_are)
+
+    at_listed : (q : Path) → at xs q ≡ at ys q → listed xs q ≡ listed ys q
+    at_listed [] e = root_not_listed xs lists_x ∙ sym (root_not_listed ys lists_y)
+    at_listed (n ∷ q) e = e
+
+    everywhere : (q : Path) → listed (rows_below p xs) q ≡ listed (rows_below p ys) q
+    everywhere q = elim (decide_above p q) [
+      | inl above ↦ listed_below p q xs above ∙ at_listed q (ap (at xs) above.1 ∙ at_each same above.0 ∙ ap (at ys) (sym above.1)) ∙ sym (listed_below p q ys above)
+      | inr off ↦ not_listed_below p q xs off ∙ sym (not_listed_below p q ys off)
+    ]
+
+pub same_sub : {F : Type 0} (xs ys : Listing F) (p : Path) → rows_below p xs ≡ rows_below p ys → sub (at xs) p ≡ sub (at ys) p
+same_sub {F} xs ys p e = by_each _ _ (λ rest. at_same (p ++ rest) (rest, refl))
+  where
+    at_same : (q : Path) → IsAbove p q → at xs q ≡ at ys q
+    at_same [] above = refl
+    at_same (n ∷ q) above = sym (listed_below p (n ∷ q) xs above) ∙ ap (λ rows. listed rows (n ∷ q)) e ∙ listed_below p (n ∷ q) ys above
+
+-- ---- what is at a path
+
+-- the row at an index says what is listed at its path
+pub listed_at : {F : Type 0} (rows : Listing F) (i : ℕ) (d : Row F) → Ascend rows → i < length rows → listed rows (get_or rows i d).path ≡ (get_or rows i d).content
+listed_at [] i d up under = absurd (omega arith)
+listed_at (row ∷ rows) zero d up under = listed_here row rows
+listed_at {F} (row ∷ rows) (suc i) d up under =
+    let before : IsBefore row.path (get_or rows i d).path = ascend_pair (row ∷ rows) up 0 (suc i) d (omega arith) under in
+    cond-false _ _ _ (same_path_differ row.path (get_or rows i d).path (λ e. before_itself row.path (subst (λ z. IsBefore row.path z) (sym e) before)))
+    ∙ listed_at rows i d (ascend_rest row rows up) (omega arith)

@@ -1,0 +1,198 @@
+-- Rows in path order, and what is listed.
+use Rattle.std.proofs.Common.{◌≡◌, ◌≢◌, ◌⊎◌, ℕ, zero, suc, ◌<◌, ◌≤◌, ◌+◌, Bool, true, false, cond, List, [], ◌∷◌, ◌++◌, length, get_or, take, drop, Option, Some, None, refl, sym, ap, ap₂, ◌∙◌, subst, inl, inr, arith, map, append_assoc}
+use Rattle.std.specs.List.{AllByRecursion, All, AllWithin, filter}
+use Rattle.std.proofs.lemmas.List.Elements.{recursion_from_All}
+use Rattle.std.proofs.lemmas.List.{get_or-take, get_or-drop, length-take-le, length-drop}
+use Rattle.ts_name.specs.Paths.{Name, Path, IsPath, IsAbove, IsBefore, same_path, below}
+use Rattle.ts_model.specs.Trees.{Listing, listed, at, Ascend, IsListing, IsSubListing, sub}
+use Rattle.ts_model.specs.Runs.{graft}
+use Rattle.ts_model.specs.declared.row.Content.{Content}
+use Rattle.ts_model.specs.declared.row.Content.TheVariants.{Absent, Dir, File}
+use Rattle.ts_model.specs.declared.row.Row.{Row}
+use Rattle.ts_table.specs.Tables.{is_above, rows_below, placed, IsPlace, IsCut}
+use Rattle.ts_table.proofs.Paths.{same_path_equal, same_path_itself, same_path_differ, before_cases, before_trans, before_itself, below_append, below_gives, not_above, above_trans, append_same, last_name, same_parent, snoc_not_empty, below_order, before_below, before_all_below, before_not_below, below_before}
+
+-- ---- what holds of each row
+
+-- functions that agree at each argument are equal
+pub by_each : {A B : Type 0} (f g : A → B) → ((x : A) → f x ≡ g x) → f ≡ g
+by_each f g h = λ i. λ x. h x i
+
+-- equal functions agree at each argument
+pub at_each : {A B : Type 0} {f g : A → B} → f ≡ g → (x : A) → f x ≡ g x
+at_each e x = ap (λ h. h x) e
+
+pub weaker : {A : Type 0} (P Q : A → Type 0) → ((x : A) → P x → Q x) → (xs : List A) → AllByRecursion P xs → AllByRecursion Q xs
+weaker P Q h [] all = tt
+weaker P Q h (x ∷ xs) all = (h x all.0, weaker P Q h xs all.1)
+
+pub all_append : {A : Type 0} (P : A → Type 0) (xs ys : List A) → AllByRecursion P xs → AllByRecursion P ys → AllByRecursion P (xs ++ ys)
+all_append P [] ys h k = k
+all_append P (x ∷ xs) ys h k = (h.0, all_append P xs ys h.1 k)
+
+pub all_left : {A : Type 0} (P : A → Type 0) (xs ys : List A) → AllByRecursion P (xs ++ ys) → AllByRecursion P xs
+all_left P [] ys h = tt
+all_left P (x ∷ xs) ys h = (h.0, all_left P xs ys h.1)
+
+pub all_right : {A : Type 0} (P : A → Type 0) (xs ys : List A) → AllByRecursion P (xs ++ ys) → AllByRecursion P ys
+all_right P [] ys h = h
+all_right P (x ∷ xs) ys h = all_right P xs ys h.1
+
+pub all_both : {A : Type 0} (P Q : A → Type 0) (xs : List A) → AllByRecursion P xs → AllByRecursion Q xs → AllByRecursion (λ x. P x × Q x) xs
+all_both P Q [] h k = tt
+all_both P Q (x ∷ xs) h k = ((h.0, k.0), all_both P Q xs h.1 k.1)
+
+pub all_map : {A B : Type 0} (P : B → Type 0) (f : A → B) (xs : List A) → AllByRecursion (λ x. P (f x)) xs → AllByRecursion P (map f xs)
+all_map P f [] h = tt
+all_map P f (x ∷ xs) h = (h.0, all_map P f xs h.1)
+
+-- what a search by halving says of the two parts
+pub all_before : {A : Type 0} (P : A → Type 0) (xs : List A) (n : ℕ) → n ≤ length xs → AllWithin P xs 0 n → AllByRecursion P (take n xs)
+all_before P xs n short h = recursion_from_All P (take n xs) (λ k d below. let cut = length-take-le n xs short in let under : k < n = omega arith in rw get_or-take (h k d (omega arith) under))
+
+pub all_from : {A : Type 0} (P : A → Type 0) (xs : List A) (n : ℕ) → n ≤ length xs → AllWithin P xs n (length xs) → AllByRecursion P (drop n xs)
+all_from P xs n short h = recursion_from_All P (drop n xs) (λ k d below. let cut = length-drop n xs in rw get_or-drop (h (n + k) d (omega arith) (omega arith)))
+
+-- ---- what ascends
+
+pub ascend_rest : {F : Type 0} (row : Row F) (rows : Listing F) → Ascend (row ∷ rows) → Ascend rows
+ascend_rest row [] h = tt
+ascend_rest row (next ∷ rows) h = h.1
+
+-- the first comes before each other
+pub ascend_first : {F : Type 0} (row : Row F) (rows : Listing F) → Ascend (row ∷ rows) → AllByRecursion (λ other. IsBefore row.path other.path) rows
+ascend_first row [] h = tt
+ascend_first {F} row (next ∷ rows) h = (h.0, weaker (λ (other : Row F). IsBefore next.path other.path) (λ other. IsBefore row.path other.path) (λ other later. before_trans row.path next.path other.path h.0 later) rows (ascend_first next rows h.1))
+
+-- and rows ascend after one that comes before each
+pub ascend_cons : {F : Type 0} (row : Row F) (rows : Listing F) → AllByRecursion (λ other. IsBefore row.path other.path) rows → Ascend rows → Ascend (row ∷ rows)
+ascend_cons row [] h k = tt
+ascend_cons row (next ∷ rows) h k = (h.0, k)
+
+pub ascend_left : {F : Type 0} (xs ys : Listing F) → Ascend (xs ++ ys) → Ascend xs
+ascend_left [] ys h = tt
+ascend_left {F} (x ∷ xs) ys h = ascend_cons x xs (all_left (λ (other : Row F). IsBefore x.path other.path) xs ys (ascend_first x (xs ++ ys) h)) (ascend_left xs ys (ascend_rest x (xs ++ ys) h))
+
+pub ascend_right : {F : Type 0} (xs ys : Listing F) → Ascend (xs ++ ys) → Ascend ys
+ascend_right [] ys h = h
+ascend_right (x ∷ xs) ys h = ascend_right xs ys (ascend_rest x (xs ++ ys) h)
+
+-- each row comes before each other
+abbrev pub AllBefore : {F : Type 0} → Listing F → Listing F → Type 0
+AllBefore xs ys = AllByRecursion (λ x. AllByRecursion (λ y. IsBefore x.path y.path) ys) xs
+
+pub ascend_join : {F : Type 0} (xs ys : Listing F) → Ascend xs → Ascend ys → AllBefore xs ys → Ascend (xs ++ ys)
+ascend_join [] ys h k across = k
+ascend_join {F} (x ∷ xs) ys h k across =
+    ascend_cons x (xs ++ ys) (all_append (λ (other : Row F). IsBefore x.path other.path) xs ys (ascend_first x xs h) across.0)
+    (ascend_join xs ys (ascend_rest x xs h) k across.1)
+
+pub ascend_across : {F : Type 0} (xs ys : Listing F) → Ascend (xs ++ ys) → AllBefore xs ys
+ascend_across [] ys h = tt
+ascend_across {F} (x ∷ xs) ys h = (all_right (λ (other : Row F). IsBefore x.path other.path) xs ys (ascend_first x (xs ++ ys) h), ascend_across xs ys (ascend_rest x (xs ++ ys) h))
+
+-- a row comes before those at greater indexes
+pub ascend_pair : {F : Type 0} (rows : Listing F) → Ascend rows → (i j : ℕ) (d : Row F) → i < j → j < length rows → IsBefore (get_or rows i d).path (get_or rows j d).path
+ascend_pair [] h i j d lt under = absurd (omega arith)
+ascend_pair (row ∷ rows) h i zero d lt under = absurd (omega arith)
+ascend_pair {F} (row ∷ rows) h zero (suc j) d lt under = first rows j (omega arith) (ascend_first row rows h)
+  where
+    first : (more : Listing F) (k : ℕ) → k < length more → AllByRecursion (λ other. IsBefore row.path other.path) more → IsBefore row.path (get_or more k d).path
+    first [] k below all = absurd (omega arith)
+    first (next ∷ more) zero below all = all.0
+    first (next ∷ more) (suc k) below all = first more k (omega arith) all.1
+ascend_pair (row ∷ rows) h (suc i) (suc j) d lt under = ascend_pair rows (ascend_rest row rows h) i j d (omega arith) (omega arith)
+
+-- ---- what is listed
+
+-- what is listed is of a row, so what holds of each row's path holds of its path
+pub listed_holds : {F : Type 0} (P : Path → Type 0) (rows : Listing F) (p : Path) → AllByRecursion (λ row. P row.path) rows → listed rows p ≢ Absent → P p
+listed_holds P [] p all h = absurd (h refl)
+listed_holds {F} P (row ∷ rows) p all h = go (same_path row.path p) refl h (listed_holds P rows p all.1)
+  where
+    go : (b : Bool) → same_path row.path p ≡ b → cond b row.content (listed rows p) ≢ Absent → (listed rows p ≢ Absent → P p) → P p
+    go true is k later = subst P (same_path_equal row.path p is) all.0
+    go false is k later = later k
+
+-- what no row has the path of isn't listed
+pub listed_none : {F : Type 0} (rows : Listing F) (p : Path) → AllByRecursion (λ row. row.path ≢ p) rows → listed rows p ≡ Absent
+listed_none [] p all = refl
+listed_none (row ∷ rows) p all = rw (same_path_differ row.path p all.0) (listed_none rows p all.1)
+
+-- rows of other paths don't count
+pub listed_after : {F : Type 0} (xs ys : Listing F) (p : Path) → AllByRecursion (λ row. row.path ≢ p) xs → listed (xs ++ ys) p ≡ listed ys p
+listed_after [] ys p all = refl
+listed_after (x ∷ xs) ys p all = rw (same_path_differ x.path p all.0) (listed_after xs ys p all.1)
+
+-- what is listed after a front is decided by the front, and else by what follows
+pub listed_append : {F : Type 0} (xs ys zs : Listing F) (p : Path) → listed ys p ≡ listed zs p → listed (xs ++ ys) p ≡ listed (xs ++ zs) p
+listed_append [] ys zs p e = e
+listed_append (x ∷ xs) ys zs p e = ap (cond (same_path x.path p) x.content) (listed_append xs ys zs p e)
+
+append_none : {F : Type 0} (xs : Listing F) → xs ++ [] ≡ xs
+append_none [] = refl
+append_none (x ∷ xs) = ap (λ z. x ∷ z) (append_none xs)
+
+pub listed_before : {F : Type 0} (xs ys : Listing F) (p : Path) → AllByRecursion (λ row. row.path ≢ p) ys → listed (xs ++ ys) p ≡ listed xs p
+listed_before xs ys p all = listed_append xs ys [] p (listed_none ys p all) ∙ ap (λ z. listed z p) (append_none xs)
+
+-- the first row says what is at its path
+pub listed_here : {F : Type 0} (row : Row F) (rows : Listing F) → listed (row ∷ rows) row.path ≡ row.content
+listed_here row rows = rw (same_path_itself row.path)
+
+-- rows that are placed at a path list there what they list by themselves
+pub listed_placed : {F : Type 0} (p : Path) (rows : Listing F) (rest : Path) → listed (placed p rows) (p ++ rest) ≡ listed rows rest
+listed_placed p [] rest = refl
+listed_placed {F} p (row ∷ rows) rest = go (same_path row.path rest) refl (listed_placed p rows rest)
+  where
+    go : (b : Bool) → same_path row.path rest ≡ b → listed (placed p rows) (p ++ rest) ≡ listed rows rest → cond (same_path (p ++ row.path) (p ++ rest)) row.content (listed (placed p rows) (p ++ rest)) ≡ cond b row.content (listed rows rest)
+    go true is e = let same : p ++ row.path ≡ p ++ rest = ap (λ z. p ++ z) (same_path_equal row.path rest is) in ap (λ z. cond (same_path (p ++ row.path) z) row.content (listed (placed p rows) (p ++ rest))) (sym same) ∙ ap (λ b. cond b row.content (listed (placed p rows) (p ++ rest))) (same_path_itself (p ++ row.path))
+    go false is e = ap (λ b. cond b row.content (listed (placed p rows) (p ++ rest))) (same_path_differ (p ++ row.path) (p ++ rest) (λ same. let f = append_same p row.path rest same in let g : same_path row.path rest ≡ true = ap (λ z. same_path row.path z) (sym f) ∙ same_path_itself row.path in cc)) ∙ e
+
+-- they are all below it
+pub placed_below : {F : Type 0} (p : Path) (rows : Listing F) → AllByRecursion (λ row. IsAbove p row.path) (placed p rows)
+placed_below p [] = tt
+placed_below p (row ∷ rows) = ((row.path, refl), placed_below p rows)
+
+-- and in order
+pub placed_ascend : {F : Type 0} (p : Path) (rows : Listing F) → Ascend rows → Ascend (placed p rows)
+placed_ascend p [] h = tt
+placed_ascend p (row ∷ []) h = tt
+placed_ascend p (row ∷ next ∷ rows) h = (below_order p row.path next.path ∙ h.0, placed_ascend p (next ∷ rows) h.1)
+
+-- ---- three parts of a listing: before a path, at or below it, and after all that
+
+-- nothing outside is below the path
+pub front_off : {F : Type 0} (p q : Path) (front : Listing F) → AllByRecursion (λ row. IsBefore row.path p) front → IsAbove p q → AllByRecursion (λ row. row.path ≢ q) front
+front_off {F} p q front h above = weaker (λ (row : Row F). IsBefore row.path p) (λ row. row.path ≢ q) (λ row before e. before_not_below row.path p before (subst (λ z. IsAbove p z) (sym e) above)) front h
+
+pub back_off : {F : Type 0} (p q : Path) (back : Listing F) → AllByRecursion (λ row. IsBefore p row.path × (¬ IsAbove p row.path)) back → IsAbove p q → AllByRecursion (λ row. row.path ≢ q) back
+back_off {F} p q back h above = weaker (λ (row : Row F). IsBefore p row.path × (¬ IsAbove p row.path)) (λ row. row.path ≢ q) (λ row after e. after.1 (subst (λ z. IsAbove p z) (sym e) above)) back h
+
+pub mid_off : {F : Type 0} (p q : Path) (mid : Listing F) → AllByRecursion (λ row. IsAbove p row.path) mid → ¬ IsAbove p q → AllByRecursion (λ row. row.path ≢ q) mid
+mid_off {F} p q mid h off = weaker (λ (row : Row F). IsAbove p row.path) (λ row. row.path ≢ q) (λ row above e. off (subst (λ z. IsAbove p z) e above)) mid h
+
+-- rows in the place of those below a path are a graft there
+pub graft_listed : {F : Type 0} (p : Path) (front mid back part : Listing F) → IsCut p front mid back → (q : Path) → listed (front ++ (placed p part ++ back)) q ≡ graft (listed (front ++ (mid ++ back))) p (listed part) q
+graft_listed {F} p front mid back part cut q = go (below p q) refl
+  where
+    go : (o : Option Path) → below p q ≡ o → listed (front ++ (placed p part ++ back)) q ≡ elim o [ None ↦ listed (front ++ (mid ++ back)) q | Some rest ↦ listed part rest ]
+    go None e =
+        let off = not_above p q e in
+        listed_append front (placed p part ++ back) (mid ++ back) q
+        (listed_after (placed p part) back q (mid_off p q (placed p part) (placed_below p part) off)
+        ∙ sym (listed_after mid back q (mid_off p q mid cut.below off)))
+    go (Some rest) e =
+        let is = below_gives p q rest e in
+        let above : IsAbove p q = (rest, is) in
+        listed_after front (placed p part ++ back) q (front_off p q front cut.before above)
+        ∙ listed_before (placed p part) back q (back_off p q back cut.after above)
+        ∙ ap (listed (placed p part)) is ∙ listed_placed p part rest
+
+pub graft_at_rows : {F : Type 0} (p : Path) (front mid back part : Listing F) → p ≢ [] → IsCut p front mid back → at (front ++ (placed p part ++ back)) ≡ graft (at (front ++ (mid ++ back))) p (listed part)
+graft_at_rows {F} p front mid back part some cut = by_each _ _ (everywhere p some (graft_listed p front mid back part cut))
+  where
+    everywhere : (p : Path) → p ≢ [] → ((q : Path) → listed (front ++ (placed p part ++ back)) q ≡ graft (listed (front ++ (mid ++ back))) p (listed part) q) → (q : Path) → at (front ++ (placed p part ++ back)) q ≡ graft (at (front ++ (mid ++ back))) p (listed part) q
+    everywhere [] some h q = absurd (some refl)
+    everywhere (n ∷ p) some h [] = refl
+    everywhere (n ∷ p) some h (m ∷ q) = h (m ∷ q)
