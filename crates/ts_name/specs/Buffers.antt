@@ -3,6 +3,7 @@
 --     HasNo            no separator among the bytes
 --     IsWhole          the bytes end with a separator, or there are none
 --     IsBuffer         the bytes that some lawful path is kept as
+--     HoldsParent      the bytes that a path's parent is kept as
 use Rattle.std.specs.Prelude.{◌≡◌, ◌≢◌, ℕ, ◌==◌, if◌then◌else◌, List, [], ◌∷◌, ◌++◌, flat_map}
 use Rattle.std.specs.List.{AllByRecursion}
 use Rattle.ts_name.specs.Paths.{Name, Path, IsPath}
@@ -32,3 +33,7 @@ pub record IsWhole (separator : ℕ) (bytes : List ℕ) : Type 0 where
 pub record IsBuffer (bytes : List ℕ) : Type 0 where
   pub lawful : IsPath (pieces 0 bytes)
   pub whole : IsWhole 0 bytes
+
+-- the path has a parent, and these bytes hold it
+abbrev pub HoldsParent : List ℕ → Path → Type 0
+HoldsParent bytes path = (parent : Path) × (name : Name) × (path ≡ parent ++ name ∷ []) × IsBuffer bytes × (pieces 0 bytes ≡ parent)

@@ -1,6 +1,7 @@
 //! The escaped form of names.
-ghost use Rattle.std.specs.Prelude.{◌≡◌, ◌<◌, ◌++◌, length, take, IfSome, OnOk, List, ℕ};
+ghost use Rattle.std.specs.Prelude.{◌≡◌, ◌≢◌, MatchOption, IfOk, IsTrue, ◌<◌, ◌++◌, length, take, OnOk, List, ℕ};
 ghost use Rattle.ts_name.specs.Paths.{is_escaped, upper_hex_digit, byte_text, name_text};
+ghost use Rattle.ts_name.specs.Escapes.{AreBytes, digits, HasNoDigits, HasNoByte, HasNoBytes};
 
 use std::alloc::{AllocError, Global};
 
@@ -21,7 +22,7 @@ fn hex_digit(n: u8) -> u8
 
 /// The number of an upper-case hex digit.
 fn hex_value(digit: u8) -> Option<u8>
-    ensures { IfSome result (λ n. n < 16) }
+    ensures { MatchOption result ((n : ℕ) → n < 16 → digit ≢ upper_hex_digit n) (λ n. (n < 16) × (digit ≡ upper_hex_digit n)) }
 {
     match digit {
         b'0'..=b'9' => Some(digit - b'0'),
@@ -30,22 +31,31 @@ fn hex_value(digit: u8) -> Option<u8>
     }
 }
 
+/// The escaped byte of which the digits stand first in a text, and the text after it.
+fn split_digits(text: &[u8]) -> Option<(u8, &[u8])>
+    ensures { MatchOption result (HasNoDigits text.now) (λ r. (r.0 < 256) × IsTrue (is_escaped r.0) × (text.now ≡ digits r.0 ++ r.1.now)) }
+{
+    let (high, rest) = text.split_first()?;
+    let (low, rest) = rest.split_first()?;
+    let b = 16 * hex_value(*high)? + hex_value(*low)?;
+    if is_escaped(b) { Some((b, rest)) } else { None }
+}
+
 /// The byte that a text begins with, in its escaped form, and the text after it.
 fn split_byte(text: &[u8]) -> Option<(u8, &[u8])>
-    ensures { IfSome result (λ r. length r.1.now < length text.now) }
+    ensures { MatchOption result (HasNoByte text.now) (λ r. (r.0 < 256) × (text.now ≡ byte_text r.0 ++ r.1.now)) }
 {
-    match text {
-        [b'%', high, low, rest @ ..] => {
-            let b = 16 * hex_value(*high)? + hex_value(*low)?;
-            is_escaped(b).then_some((b, rest))
-        }
-        [b, rest @ ..] if !is_escaped(*b) => Some((*b, rest)),
-        _ => None,
+    let (first, rest) = text.split_first()?;
+    if *first == b'%' {
+        return split_digits(rest);
     }
+    if is_escaped(*first) { None } else { Some((*first, rest)) }
 }
 
 /// The bytes of which a text is the escaped form, or `None` where there are no such bytes.
-pub(crate) fn unescaped(alloc: Global, text: &[u8]) -> Result<Option<Vec<u8>>, AllocError> {
+pub(crate) fn unescaped(alloc: Global, text: &[u8]) -> Result<Option<Vec<u8>>, AllocError>
+    ensures { IfOk result (λ o. MatchOption o (HasNoBytes text.now) (λ v. AreBytes v.items × (text.now ≡ name_text v.items))) }
+{
     let mut bytes = Vec::with_capacity(alloc, text.len())?;
     let mut rest = text;
     while !rest.is_empty() {

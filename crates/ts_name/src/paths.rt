@@ -1,6 +1,7 @@
 //! Paths, as the names from the root down.
-ghost use Rattle.std.specs.Prelude.{◌≡◌, ◌↔◌, ◌++◌, ◌∷◌, [], List, ℕ, length, sum_by, if◌then◌else◌, is_ok, take, IfOk, OnOk, IsErrOf, IsOkUnless, IsTrue, MatchOption, MatchResult};
+ghost use Rattle.std.specs.Prelude.{◌≡◌, ◌⊎◌, ◌↔◌, ◌++◌, ◌∷◌, [], List, ℕ, length, sum_by, if◌then◌else◌, is_ok, take, IfOk, IfSome, OnOk, IsErrOf, IsOkUnless, IsTrue, MatchOption, MatchResult};
 ghost use Rattle.ts_name.specs.Paths.{IsPath, IsAbove, IsPathText, HasNoNames, HasBadName, IsPastLimit, path_text, below};
+ghost use Rattle.ts_name.specs.Buffers.{HoldsParent};
 
 use crate::buffer::{MOST_BYTES, MOST_NAMES, concatenated, depth_of, end_names, has_good_names, is_within_limits, split_name};
 use crate::escape::{push_escaped, unescaped};
@@ -44,14 +45,22 @@ impl Path {
     ///
     /// A text that isn't of this form anywhere is `BadText`, whatever else is wrong; else one bad name is `BadName`; else
     /// more than 64 names, or names of more than 4,096 bytes in all, are `TooLong`.
-    pub fn parse_text(alloc: Global, text: &[u8]) -> Result<Path, PathFault> {
+    pub fn parse_text(alloc: Global, text: &[u8]) -> Result<Path, PathFault>
+        ensures ok { IfOk result (λ p. IsPathText text.now p) }
+        ensures reads { (p : List (List ℕ)) → IsPathText text.now p → (result ≡ Ok p) ⊎ IsErrOf result PathFault.OutOfMemory }
+        ensures bad_text { ¬ IsErrOf result PathFault.OutOfMemory → (IsErrOf result PathFault.BadText ↔ HasNoNames text.now) }
+        ensures bad_name { ¬ IsErrOf result PathFault.OutOfMemory → (IsErrOf result PathFault.BadName ↔ HasBadName text.now) }
+        ensures too_long { ¬ IsErrOf result PathFault.OutOfMemory → (IsErrOf result PathFault.TooLong ↔ IsPastLimit text.now) }
+    {
         let Some((first, rest)) = text.split_first() else {
             return Ok(Path::root(alloc));
         };
         if *first != b'/' {
             return Err(PathFault::BadText);
         }
-        let mut bytes = unescaped(alloc, rest)?.ok_or(PathFault::BadText)?;
+        let Some(mut bytes) = unescaped(alloc, rest)? else {
+            return Err(PathFault::BadText);
+        };
         if bytes.contains(&0) {
             return Err(PathFault::BadName);
         }
@@ -142,9 +151,20 @@ impl Path {
         last
     }
 
+    /// Whether this path has a parent and `other` is that parent or goes on from it.
+    pub fn has_parent_above(&self, other: &Path) -> bool
+        ensures { IsTrue result ↔ ((parent : List (List ℕ)) × (name : List ℕ) × (self.now ≡ parent ++ name ∷ []) × IsAbove parent other.now) }
+    {
+        match self.parent_bytes() {
+            Some(parent) => other.bytes.starts_with(parent),
+            None => false,
+        }
+    }
+
     /// The same path once more.
     pub fn copy(&self, alloc: Global) -> Result<Path, PathFault>
-        ensures { MatchResult result (λ p. p ≡ self.now) (λ e. e ≡ PathFault.OutOfMemory) }
+        ensures value { MatchResult result (λ p. p ≡ self.now) (λ e. e ≡ PathFault.OutOfMemory) }
+        ensures lawful { IfOk result IsPath }
     {
         Ok(Path {
             bytes: Vec::from_slice(alloc, &self.bytes)?,
@@ -153,20 +173,31 @@ impl Path {
 
     /// The path without its last name. The root has no parent.
     pub fn parent(&self, alloc: Global) -> Result<Option<Path>, PathFault>
-        ensures { MatchResult result (λ p. MatchOption p (self.now ≡ []) (λ q. (name : List ℕ) × (self.now ≡ q ++ name ∷ []))) (λ e. e ≡ PathFault.OutOfMemory) }
+        ensures value { MatchResult result (λ p. MatchOption p (self.now ≡ []) (λ q. (name : List ℕ) × (self.now ≡ q ++ name ∷ []))) (λ e. e ≡ PathFault.OutOfMemory) }
+        ensures lawful { IfOk result (λ p. IfSome p IsPath) }
     {
-        let Some(name) = self.last() else {
+        let Some(parent) = self.parent_bytes() else {
             return Ok(None);
         };
-        let end = self.bytes.len() - name.len() - 1;
-        let bytes = Vec::from_slice(alloc, &self.bytes[..end])?;
+        let bytes = Vec::from_slice(alloc, parent)?;
         Ok(Some(Path { bytes }))
+    }
+
+    /// The bytes that hold the parent.
+    fn parent_bytes(&self) -> Option<&[u8]>
+        ensures { MatchOption result (self.now ≡ []) (λ bytes. HoldsParent bytes.now self.now) }
+    {
+        let name = self.last()?;
+        let end = self.bytes.len() - name.len() - 1;
+        Some(&self.bytes[..end])
     }
 
     /// This path followed by a name, or `TooLong` past the limits of a path.
     pub fn child(&self, alloc: Global, name: &Name) -> Result<Path, PathFault>
         ensures ok { IfOk result (λ p. p ≡ self.now ++ name.now ∷ []) }
+        ensures lawful { IfOk result IsPath }
         ensures too_long { IsErrOf result PathFault.TooLong ↔ (¬ IsPath (self.now ++ name.now ∷ [])) }
+        ensures memory { IsPath (self.now ++ name.now ∷ []) → IsOkUnless result PathFault.OutOfMemory }
     {
         let name = name.as_bytes();
         if self.depth() >= MOST_NAMES || self.size() + name.len() > MOST_BYTES {
@@ -180,7 +211,9 @@ impl Path {
     /// This path followed by the names of `rest`, or `TooLong` past the limits of a path.
     pub fn join(&self, alloc: Global, rest: &Path) -> Result<Path, PathFault>
         ensures ok { IfOk result (λ p. p ≡ self.now ++ rest.now) }
+        ensures lawful { IfOk result IsPath }
         ensures too_long { IsErrOf result PathFault.TooLong ↔ (¬ IsPath (self.now ++ rest.now)) }
+        ensures memory { IsPath (self.now ++ rest.now) → IsOkUnless result PathFault.OutOfMemory }
     {
         let is_short = self.size() + rest.size() <= MOST_BYTES;
         if !is_short || self.depth() + rest.depth() > MOST_NAMES {
@@ -192,7 +225,8 @@ impl Path {
 
     /// What is left of this path below `top`, or `None` where it isn't at or below it.
     pub fn below(&self, alloc: Global, top: &Path) -> Result<Option<Path>, PathFault>
-        ensures { MatchResult result (λ o. o ≡ below top.now self.now) (λ e. e ≡ PathFault.OutOfMemory) }
+        ensures value { MatchResult result (λ o. o ≡ below top.now self.now) (λ e. e ≡ PathFault.OutOfMemory) }
+        ensures lawful { IfOk result (λ o. IfSome o IsPath) }
     {
         let Some(rest) = self.bytes.strip_prefix(top.bytes.as_slice()) else {
             return Ok(None);

@@ -1,5 +1,5 @@
 -- What stands when rows take the place of those below a path: a listing, whose tree is a graft.
-use Rattle.std.proofs.Common.{◌≡◌, ◌≢◌, ◌⊎◌, ℕ, zero, suc, ◌<◌, ◌≤◌, ◌+◌, Bool, true, false, cond, List, [], ◌∷◌, ◌++◌, length, get_or, take, drop, Option, Some, None, refl, sym, ap, ap₂, ◌∙◌, subst, inl, inr, arith, map, append_assoc, append-nil}
+use Rattle.std.proofs.Common.{◌≡◌, ◌≢◌, ◌⊎◌, ℕ, zero, suc, ◌<◌, ◌≤◌, ◌+◌, ◌-◌, Bool, true, false, cond, List, [], ◌∷◌, ◌++◌, length, get_or, take, drop, Option, Some, None, refl, sym, ap, ap₂, ◌∙◌, subst, inl, inr, arith, map, append_assoc, append-nil}
 use Rattle.std.specs.List.{AllByRecursion}
 use Rattle.ts_name.specs.Paths.{Name, Path, IsPath, IsAbove, IsBefore, same_path, path_cmp, below}
 use Rattle.ts_model.specs.Trees.{Listing, listed, at, Ascend, IsListing, IsSubListing, sub}
@@ -9,6 +9,7 @@ use Rattle.ts_model.specs.declared.row.Content.TheVariants.{Absent, Dir, File}
 use Rattle.ts_model.specs.declared.row.Row.{Row}
 use Rattle.ts_table.specs.Tables.{is_above, rows_below, placed, IsPlace, IsCut}
 use Rattle.ts_table.proofs.Paths.{same_path_equal, same_path_itself, same_path_differ, before_cases, before_trans, before_itself, below_append, below_gives, not_above, above_trans, append_same, last_name, same_parent, snoc_not_empty, below_order, before_below, before_all_below, before_not_below, below_before}
+use Rattle.ts_table.proofs.Found.{whole}
 use Rattle.ts_table.proofs.Rows.{by_each, at_each, weaker, all_append, all_left, all_right, all_map, all_both, ascend_rest, ascend_first, ascend_cons, ascend_left, ascend_right, AllBefore, ascend_join, ascend_across, ascend_pair, listed_holds, listed_none, listed_after, listed_before, listed_append, listed_here, listed_placed, placed_below, placed_ascend, graft_at_rows}
 
 -- ---- parents
@@ -208,3 +209,17 @@ IsListing-none {F} = record { ascending = tt; rows_are = tt; parents = λ p name
     none : (p : Path) (name : Name) → at {F = F} [] (p ++ name ∷ []) ≢ Absent → ⊥
     none [] name there = there refl
     none (n ∷ p) name there = there refl
+
+-- ---- rows put between the bounds of a path
+
+pub record IsReplaced {F : Type 0} (rows new : Listing F) (p : Path) (part : Listing F) : Type 0 where
+  pub listing : IsListing new
+  pub tree : at new ≡ graft (at rows) p (listed part)
+
+pub replaced : {F : Type 0} (rows new : Listing F) (p : Path) (part : Listing F) (start end : ℕ) → IsListing rows → start ≤ end → IsCut p (take start rows) (take (end - start) (drop start rows)) (drop end rows) → IsPlace (at rows) p → IsSubListing part → AllByRecursion (λ row. IsPath row.path) (placed p part) → new ≡ take start rows ++ (placed p part ++ drop end rows) → IsReplaced rows new p part
+replaced {F} rows new p part start end lists le cut place of_part paths is =
+    let parts = whole rows start end le in
+    record {
+      listing = subst (λ z. IsListing z) (sym is) (IsListing-placed p (take start rows) (take (end - start) (drop start rows)) (drop end rows) part (subst (λ z. IsListing z) parts lists) cut (subst (λ z. IsPlace (at z) p) parts place) of_part paths);
+      tree = ap (λ z. at z) is ∙ graft_at_rows p (take start rows) (take (end - start) (drop start rows)) (drop end rows) part place.not_root cut ∙ ap (λ z. graft (at z) p (listed part)) (sym parts);
+    }

@@ -83,7 +83,7 @@ not_found {F} rows p i some under parted = sym (at_listed rows p some ∙ ap (λ
 
 -- ---- the rows at or below a path
 
-is_lt_Less : (o : Ordering) → is_lt o ≡ true → o ≡ Less
+pub is_lt_Less : (o : Ordering) → is_lt o ≡ true → o ≡ Less
 is_lt_Less Less e = refl
 is_lt_Less Equal e = cc
 is_lt_Less Greater e = cc

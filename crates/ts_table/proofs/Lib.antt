@@ -1,5 +1,10 @@
 pub mod Cuts
+pub mod Drained
+pub mod Exits
 pub mod Found
+pub mod Last
 pub mod Listings
 pub mod Paths
+pub mod Placing
+pub mod Relative
 pub mod Rows

@@ -98,7 +98,7 @@ filter_append test (x ∷ xs) ys = go (test x) (filter_append test xs ys)
     go false e = e
 
 -- what holds of each element holds of those that a filter keeps
-filter_all : {A : Type 0} (P : A → Type 0) (test : A → Bool) (xs : List A) → AllByRecursion P xs → AllByRecursion P (filter test xs)
+pub filter_all : {A : Type 0} (P : A → Type 0) (test : A → Bool) (xs : List A) → AllByRecursion P xs → AllByRecursion P (filter test xs)
 filter_all P test [] h = tt
 filter_all P test (x ∷ xs) h = go (test x) (filter_all P test xs h.1)
   where
@@ -106,7 +106,7 @@ filter_all P test (x ∷ xs) h = go (test x) (filter_all P test xs h.1)
     go true more = (h.0, more)
     go false more = more
 
-filter_ascend : {F : Type 0} (test : Row F → Bool) (rows : Listing F) → Ascend rows → Ascend (filter test rows)
+pub filter_ascend : {F : Type 0} (test : Row F → Bool) (rows : Listing F) → Ascend rows → Ascend (filter test rows)
 filter_ascend test [] h = tt
 filter_ascend {F} test (row ∷ rows) h = go (test row) (filter_ascend test rows (ascend_rest row rows h))
   where

@@ -1,7 +1,9 @@
 -- What the calls of a table say of its rows.
 --     rows_below p rows    the rows at p and below it
 --     placed p rows        rows relative to p, as they stand below p
+--     relative p rows      the rows at p and below it, relative to p
 --     IsPlace t p          p is not the root, and its parent is a directory of t
+--     grafted t edits      t with each edit's rows at its path, one edit after another
 --     IsCut p front mid back    rows before p, at p or below it, and after all that
 --     seen                 a content behind a reference
 use Rattle.std.specs.Prelude.{◌≡◌, ◌≢◌, Bool, true, false, List, [], ◌∷◌, ◌++◌, Option, Some, None, map, filter}
@@ -22,6 +24,15 @@ rows_below p rows = filter (λ row. is_above p row.path) rows
 
 abbrev pub placed : {F : Type 0} → Path → Listing F → Listing F
 placed p rows = map (λ row. record { path = p ++ row.path; content = row.content }) rows
+
+abbrev pub relative : {F : Type 0} → Path → Listing F → Listing F
+relative p [] = []
+relative p (row ∷ rows) = elim (below p row.path) [ None ↦ relative p rows | Some rest ↦ record { path = rest; content = row.content } ∷ relative p rows ]
+
+-- the row that the root has where a listing is seen from it
+abbrev pub root_row : {F : Type 0} → Path → Listing F
+root_row [] = record { path = []; content = Dir } ∷ []
+root_row (name ∷ names) = []
 
 pub record IsPlace {F : Type 0} (t : Path → Content F) (p : Path) : Type 0 where
   pub not_root : p ≢ []

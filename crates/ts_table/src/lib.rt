@@ -1,8 +1,13 @@
 //! Tables of paths: what is at each path of a tree or a print, in path order.
 #![tactic(auto)]
 
+mod copies;
+mod edits;
 mod fault;
+mod subtable;
 mod table;
 
+pub use copies::CopyFile;
 pub use fault::TableFault;
+pub use subtable::SubTable;
 pub use table::Table;

@@ -1,5 +1,8 @@
 //! A table of paths.
-ghost use Rattle.std.specs.Prelude.{◌≡◌, ◌↔◌, ◌++◌, ◌∷◌, [], if◌then◌else◌, is_ok, IfErr, IsTrue, length, take, drop, ◌-◌, ◌≤◌};
+ghost use Rattle.std.specs.Prelude.{◌≡◌, ◌↔◌, ◌++◌, ◌∷◌, [], if◌then◌else◌, is_ok, false, IfErr, IfOk, ◌≢◌, IsTrue, length, take, drop, ◌-◌, ◌≤◌};
+ghost use Rattle.std.specs.List.{AllByRecursion};
+ghost use Rattle.ts_name.specs.Paths.{IsBefore};
+ghost use Rattle.ts_model.specs.declared.row.Content.{Content};
 ghost use Rattle.ts_model.specs.Trees.{Ascend, IsListing, at, sub};
 ghost use Rattle.ts_table.specs.Tables.{rows_below, seen, IsCut};
 
@@ -12,7 +15,7 @@ use ts_name::Path;
 /// What is at each path but the root, which is a directory.
 #[derive(Drop)]
 pub struct Table<F> {
-    rows: Vec<Row<F>>,
+    pub(crate) rows: Vec<Row<F>>,
 }
 
 impl<F> Model for Table<F> {
@@ -91,10 +94,41 @@ impl<F> Table<F> {
 
     /// The rows at a path and below it, in path order. It takes no memory.
     pub fn sub(&self, path: &Path) -> &[Row<F>]
-        ensures { result.now ≡ rows_below path.now self.now }
+        ensures rows { result.now ≡ rows_below path.now self.now }
+        ensures listing { IsListing self.now }
     {
         let (start, end) = bounds(&self.rows, path);
         &self.rows[start..end]
+    }
+
+    /// Whether two tables have the same at a path and below it. It takes no memory.
+    pub fn sub_eq(&self, other: &Table<F>, path: &Path) -> bool
+    where
+        F: PartialEq,
+        requires { (x y : F) → IsTrue (F.eq x y) ↔ (x ≡ y) }
+        ensures { IsTrue result ↔ (sub (at self.now) path.now ≡ sub (at other.now) path.now) }
+    {
+        same_rows(self.sub(path), other.sub(path))
+    }
+
+    /// Whether a row of this path, with a directory or a file, may come next: the path is not the root, comes after all
+    /// others, and has a directory as its parent.
+    pub fn can_push(&self, alloc: Global, path: &Path) -> Result<bool, TableFault>
+        ensures yes { IfOk result (λ may. IsTrue may → (content : Content F) → content ≢ Content.Absent → IsListing (self.now ++ record { path = path.now; content = content } ∷ [])) }
+        ensures no { IfOk result (λ may. may ≡ false → (content : Content F) → ¬ IsListing (self.now ++ record { path = path.now; content = content } ∷ [])) }
+        ensures fault { IfErr result (λ e. e ≡ TableFault.OutOfMemory) }
+    {
+        if !is_after(path, self.rows()) {
+            return Ok(false);
+        }
+        let Some(parent) = path.parent(alloc)? else {
+            return Ok(false);
+        };
+        prove!(path.depth() <= 64);
+        match self.get(&parent) {
+            Content::Dir => Ok(true),
+            Content::Absent | Content::File(_) => Ok(false),
+        }
     }
 
     /// Puts a row at the end. After an error nothing has changed, and the row is dropped.
@@ -132,4 +166,38 @@ pub(crate) fn bounds<F>(rows: &[Row<F>], path: &Path) -> (usize, usize)
     let rest = &rows[start..];
     let count = rest.partition_point(|row| path.is_prefix(&row.path));
     (start, start + count)
+}
+
+/// Whether a path comes after those of all rows.
+fn is_after<F>(path: &Path, rows: &[Row<F>]) -> bool
+    requires { Ascend rows.now }
+    ensures { IsTrue result ↔ AllByRecursion (λ row. IsBefore row.path path.now) rows.now }
+{
+    match rows.last() {
+        Some(row) => row.path < *path,
+        None => true,
+    }
+}
+
+/// Whether two lists of rows are the same.
+fn same_rows<F: PartialEq>(ours: &[Row<F>], theirs: &[Row<F>]) -> bool
+    requires { (x y : F) → IsTrue (F.eq x y) ↔ (x ≡ y) }
+    ensures { IsTrue result ↔ (ours.now ≡ theirs.now) }
+{
+    if ours.len() != theirs.len() {
+        return false;
+    }
+    for (index, row) in ours.iter().enumerate() {
+        if !same_row(row, &theirs[index]) {
+            return false;
+        }
+    }
+    true
+}
+
+fn same_row<F: PartialEq>(x: &Row<F>, y: &Row<F>) -> bool
+    requires { (x y : F) → IsTrue (F.eq x y) ↔ (x ≡ y) }
+    ensures { IsTrue result ↔ (x.now ≡ y.now) }
+{
+    x.path == y.path && x.content == y.content
 }

@@ -4,6 +4,7 @@
 --     Reading                a line reader, as contracts see it
 --     Answers old r new      what a call that answers r does
 use Rattle.std.specs.Prelude.{◌≡◌, ◌≢◌, ◌⊎◌, ℕ, ◌<◌, ◌≤◌, Bool, true, false, List, [], ◌∷◌, ◌++◌, length, take, slice_index, Option, Some, None, IfSome, Result, Ok, Err}
+use Rattle.std.specs.Borrow.{Bor}
 use Rattle.std.specs.List.{AllByRecursion}
 use Rattle.std.specs.Io.KnownBytes.{Keeps, Consumes, IsAtEnd}
 use Rattle.ts_text.specs.declared.fault.TextFault.{TextFault}
@@ -69,11 +70,23 @@ Answers old (Err fault.OutOfMemory) new = ⊥
 Answers old (Err fault.Failed) new = HasFailed old new
 Answers old (Err fault.NotCanonical) new = HasRefused old new
 
+-- the next line itself
+abbrev pub AnswersLine : Reading → Result (Option (Bor (List ℕ))) TextFault → Reading → Type 0
+AnswersLine old (Ok (Some line)) new = GivesLine old new × (line.now ≡ new.line)
+AnswersLine old (Ok None) new = HasEnded old new
+AnswersLine old (Err e) new = Answers old (Err e) new
+
 -- whoever has ended or refused answers the same for good
 abbrev pub Stays : State → Result Bool TextFault → Type 0
 Stays Going r = Unit {0}
 Stays Ended r = r ≡ Ok false
 Stays (Refused e) r = r ≡ Err e
+
+-- the same of an answer with the line
+abbrev pub StaysLine : State → Result (Option (Bor (List ℕ))) TextFault → Type 0
+StaysLine Going r = Unit {0}
+StaysLine Ended r = r ≡ Ok None
+StaysLine (Refused e) r = r ≡ Err e
 
 -- what a search for the next line finds in the bytes that are held, before what the source has left
 abbrev pub Finds : List ℕ → Option (List ℕ) → Result (Option ℕ) TextFault → Type 0

@@ -1,7 +1,10 @@
 //! The lines of a source's bytes.
 ghost use Rattle.std.specs.Prelude.{◌≡◌, ◌+◌, ◌-◌, ◌<◌, ◌≤◌, ℕ, List, [], ◌∷◌, ◌++◌, length, take, drop, slice_index, IfOk, IfErr, IfSome, IfNone, ◌≢◌};
 ghost use Rattle.std.specs.Io.KnownBytes.{Keeps, prepend_known};
-ghost use Rattle.ts_text.specs.Lines.{Answers, Finds, FailuresFit, Stays, HasNoLine};
+ghost use Rattle.std.specs.Borrow.{sem};
+ghost use Rattle.std.specs.Io.BufRead.{Rests};
+ghost use Rattle.ts_text.specs.contracts.lines.Lines.{the_row};
+ghost use Rattle.ts_text.specs.Lines.{Answers, AnswersLine, Finds, FailuresFit, Stays, StaysLine, HasNoLine};
 ghost use Rattle.ts_text.specs.declared.fault.TextFault.TheVariants as fault;
 ghost use Rattle.ts_text.specs.declared.state.State.TheVariants as state;
 
@@ -86,6 +89,19 @@ impl<S: Source> Lines<S> {
                 self.state = State::Refused(fault);
                 Err(fault)
             }
+        }
+    }
+
+    /// Goes to the next line and answers it without its line feed, or `None` at the end. It takes
+    /// no memory. What `advance` says of the answer holds of this one.
+    pub fn next(&mut self) -> Result<Option<&[u8]>, TextFault>
+        ensures* answers { sem 𝓛 (Rests (the_row S.row S.Source) self.entry (λ new. AnswersLine self.old result new)) }
+        ensures stays { StaysLine self.old.state result }
+    {
+        if self.advance()? {
+            Ok(Some(self.line()))
+        } else {
+            Ok(None)
         }
     }
 

@@ -5,8 +5,8 @@ use Rattle.ts_name.proofs.Buffers.{Holds, Holds-same, above_from_bytes}
 use Rattle.ts_name.proofs.Prefixes.{below_by_bytes, none_by_bytes}
 use Rattle.ts_name.proofs.paths.Path.below.Goals as goal
 
-pub returns-in_default : goal.returns-in_default
-returns-in_default c =
+pub returns-in_default-clause-value : goal.returns-in_default-clause-value
+returns-in_default-clause-value c =
     let self : Holds c.self.inside.bytes.items c.args.self.now = record { buffer = c.self.invariant; path_is = c.self.view_is } in
     let top : Holds c.top.inside.bytes.items c.args.top.now = record { buffer = c.top.invariant; path_is = c.top.view_is } in
     none_by_bytes _ _ _ _ (Holds-same c.as_slice.ensures.value top) (Holds-same c.deref.ensures.value self) (strip_prefix_is (λ x y. (eqb-true x y, eq-eqb x y)) c.deref.result.now c.as_slice.result.now None c.in_default.ensures.cases)
@@ -15,14 +15,20 @@ starts : (c : goal.In_ok-bytes) → c.deref.result.now ≡ c.as_slice.result.now
 starts c =
     strip_prefix_is (λ x y. (eqb-true x y, eq-eqb x y)) c.deref.result.now c.as_slice.result.now (Some c.in-Some.rest) c.in-Some.ensures.cases
 
-pub invariant_of-result : goal.invariant_of-result
-invariant_of-result c =
+left : (c : goal.In_ok-bytes) → Holds c.in_ok-bytes.bytes.items (pieces 0 c.in-Some.rest.now)
+left c =
     let self : Holds c.self.inside.bytes.items c.args.self.now = record { buffer = c.self.invariant; path_is = c.self.view_is } in
     let top : Holds c.top.inside.bytes.items c.args.top.now = record { buffer = c.top.invariant; path_is = c.top.view_is } in
-    (Holds-same c.in_ok-bytes.ensures.items (above_from_bytes _ _ _ _ (Holds-same c.as_slice.ensures.value top) (Holds-same c.deref.ensures.value self) _ (starts c)).0).buffer
+    Holds-same c.in_ok-bytes.ensures.items (above_from_bytes _ _ _ _ (Holds-same c.as_slice.ensures.value top) (Holds-same c.deref.ensures.value self) _ (starts c)).0
 
-pub returns : goal.returns
-returns c =
+pub invariant_of-result : goal.invariant_of-result
+invariant_of-result c = (left c).buffer
+
+pub returns-clause-lawful : goal.returns-clause-lawful
+returns-clause-lawful c = (left c).buffer.lawful
+
+pub returns-clause-value : goal.returns-clause-value
+returns-clause-value c =
     let self : Holds c.self.inside.bytes.items c.args.self.now = record { buffer = c.self.invariant; path_is = c.self.view_is } in
     let top : Holds c.top.inside.bytes.items c.args.top.now = record { buffer = c.top.invariant; path_is = c.top.view_is } in
     ap (λ z. Some (pieces 0 z)) c.in_ok-bytes.ensures.items ∙ below_by_bytes _ _ _ _ (Holds-same c.as_slice.ensures.value top) (Holds-same c.deref.ensures.value self) _ (starts c)

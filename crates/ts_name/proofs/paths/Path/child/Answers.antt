@@ -19,3 +19,6 @@ invariant_of-result c = (child_held c).buffer
 
 pub returns-clause-ok : goal.returns-clause-ok
 returns-clause-ok c = (child_held c).path_is
+
+pub returns-clause-lawful : goal.returns-clause-lawful
+returns-clause-lawful c = (child_held c).buffer.lawful

@@ -22,3 +22,6 @@ invariant_of-result c = (joined c).buffer
 
 pub returns-clause-ok : goal.returns-clause-ok
 returns-clause-ok c = (joined c).path_is
+
+pub returns-clause-lawful : goal.returns-clause-lawful
+returns-clause-lawful c = (joined c).buffer.lawful

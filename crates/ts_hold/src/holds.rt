@@ -1,0 +1,117 @@
+//! Hold rules.
+ghost use Rattle.std.specs.Prelude.{◌≡◌, ◌≢◌, ◌↔◌, [], List, IfErr, IfOk, IsTrue, map};
+ghost use Rattle.ts_model.specs.Holds.{Names, RuleNames};
+ghost use Rattle.ts_model.specs.Texts.{IsRules, IsRulesText, rule_line, text};
+ghost use Rattle.ts_model.specs.declared.hold.Rule.{Rule};
+ghost use Rattle.ts_text.specs.Lines.{FailuresFit};
+ghost use Rattle.ts_text.specs.Sources.{Writes};
+ghost use Rattle.ts_text.specs.declared.fault.TextFault.TheVariants as fault;
+
+use crate::faults::HoldFault;
+use crate::lines::first_line;
+use crate::pattern::fits;
+use crate::reader::RuleReader;
+use crate::write::push_rule;
+use std::alloc::Global;
+use std::marker::Model;
+use ts_model::hold::Rule;
+use ts_name::Path;
+use ts_text::{Sink, TextFault, write_line};
+
+/// Hold rules in order, at most 4,096. What they name stays untouched.
+#[derive(Drop)]
+pub struct Holds {
+    pub(crate) rules: Vec<Rule>,
+}
+
+impl Model for Holds {
+    ghost use Rattle.std.specs.Prelude.{List};
+    ghost use Rattle.ts_model.specs.declared.hold.Rule.{Rule};
+    ghost use Rattle.ts_model.specs.Texts.{IsRules};
+
+    ghost Value = { List Rule };
+
+    ghost view = { λ h. h.rules.items };
+
+    ghost invariant = { λ h. IsRules h.rules.items };
+}
+
+impl Holds {
+    ghost use Rattle.ts_hold.specs.Rules.{GivesRules, TellsBadLine};
+
+    /// No rules. Takes no memory.
+    pub fn none(alloc: Global) -> Holds
+        ensures { result ≡ [] }
+    {
+        Holds {
+            rules: Vec::new(alloc),
+        }
+    }
+
+    /// The rules in order.
+    pub fn rules(&self) -> &[Rule]
+        ensures rules { result.now ≡ self.now }
+        ensures lawful { IsRules self.now }
+    {
+        self.rules.as_slice()
+    }
+
+    /// Whether some rule names the path. Takes no memory.
+    pub fn holds(&self, path: &Path) -> bool
+        ensures { IsTrue result ↔ Names self.now path.now }
+    {
+        let rules = self.rules();
+        for rule in rules {
+            if names(rule, path) {
+                return true;
+            }
+        }
+        false
+    }
+
+    /// The rules that a text spells, one a line. A bad line is told by its number, the first one of them.
+    pub fn parse(alloc: Global, text: &[u8]) -> Result<Holds, HoldFault>
+        ensures found { IfOk result (IsRulesText text.now) }
+        ensures bad { IfErr result (TellsBadLine text.now) }
+        ensures only { (rules : List Rule) → IsRulesText text.now rules → GivesRules rules result }
+    {
+        let mut reader = RuleReader::new(alloc);
+        let mut rest = text;
+        'next: while !rest.is_empty() {
+            let Some((line, after)) = first_line(rest) else {
+                return Err(reader.fault());
+            };
+            reader.line(line)?;
+            rest = after;
+        }
+        Ok(reader.finish())
+    }
+
+    /// Writes the text of the rules. Where the sink fails, or memory for a line runs out, a beginning of it went out.
+    pub fn encode<W: Sink>(&self, alloc: Global, sink: &mut W) -> Result<(), TextFault>
+        ensures written { Writes (W.holds sink.old) (W.holds sink.new) (text (map rule_line self.now)) result }
+        ensures failures { FailuresFit (W.failures sink.old) (W.failures sink.new) result }
+        ensures err { IfErr result (λ e. e ≢ fault.NotCanonical) }
+    {
+        let rules = self.rules();
+        let mut line = Vec::new(alloc);
+        for rule in rules {
+            line.clear();
+            push_rule(rule, &mut line)?;
+            write_line(sink, &line)?;
+        }
+        Ok(())
+    }
+}
+
+fn names(rule: &Rule, path: &Path) -> bool
+    ensures { IsTrue result ↔ RuleNames path.now rule.now }
+{
+    match rule {
+        Rule::OnePath(named) => path == named,
+        Rule::LastName(pattern) => match path.last() {
+            Some(name) => fits(pattern.as_slice(), name),
+            None => false,
+        },
+    }
+}

@@ -1,0 +1,18 @@
+//! Hold rules: which paths they name, and their text.
+#![tactic(auto)]
+
+mod faults;
+mod holds;
+pub mod laws;
+mod lines;
+mod pattern;
+mod reader;
+mod symbols;
+mod write;
+
+pub use faults::HoldFault;
+pub use holds::Holds;
+pub use reader::RuleReader;
+
+#[cfg(test)]
+mod tests;

@@ -1,0 +1,119 @@
+-- The escaped form of bytes.
+use Rattle.std.proofs.Common.{◌≡◌, ◌≢◌, suc, ◌==◌, ◌+◌, ◌*◌, ◌/◌, ◌%◌, ◌<◌, ◌≤◌, ◌&&◌, ◌||◌, nat_le, nat_lt, ℕ, IsTrue, Bool, true, false, cond, eqb, ltb, List, [], ◌∷◌, ◌++◌, Option, Some, None, MatchOption, take, drop, length, flat_map, refl, sym, ap, ap₂, subst, ◌∙◌, eqb-true, eq-eqb, append_assoc, append-nil, arith, rules, length-append}
+use Rattle.std.proofs.lemmas.Bool.{cond-true, cond-false, false≢true, ltb-true, ltb-false}
+use Rattle.std.proofs.lemmas.Bool.Decides.{nat_tests}
+use Rattle.std.proofs.lemmas.List.Concat.{flat_map-append}
+use Rattle.std.specs.List.{AllByRecursion}
+use Rattle.ts_name.specs.Paths.{is_escaped, upper_hex_digit, byte_text, name_text}
+use Rattle.ts_name.proofs.Utf8.{all_append}
+use Rattle.ts_name.specs.Escapes.{digits, AreBytes, HasNoDigits, HasNoByte, HasNoBytes}
+
+-- ---- digits
+
+-- different numbers have different digits
+pub same_digit : (m n : ℕ) → m < 16 → n < 16 → upper_hex_digit m ≡ upper_hex_digit n → m ≡ n
+same_digit m n h k e = go (ltb m 10) (ltb n 10) refl refl e
+  where
+    go : (s t : Bool) → ltb m 10 ≡ s → ltb n 10 ≡ t → cond s (48 + m) (55 + m) ≡ cond t (48 + n) (55 + n) → m ≡ n
+    go true true f g e = omega arith
+    go true false f g e = absurd (omega (arith, ltb-true m 10 f, ltb-false n 10 g))
+    go false true f g e = absurd (omega (arith, ltb-false m 10 f, ltb-true n 10 g))
+    go false false f g e = omega arith
+
+-- different bytes have different digits
+pub same_digits : (b c : ℕ) (rest more : List ℕ) → b < 256 → c < 256 → digits b ++ rest ≡ digits c ++ more → (b ≡ c) × (rest ≡ more)
+same_digits b c rest more h k e =
+    let first : upper_hex_digit (b / 16) ≡ upper_hex_digit (c / 16) = cc in
+    let second : upper_hex_digit (b % 16) ≡ upper_hex_digit (c % 16) = cc in
+    let high = same_digit (b / 16) (c / 16) (omega arith) (omega arith) first in
+    let low = same_digit (b % 16) (c % 16) (omega arith) (omega arith) second in
+    (omega arith, cc)
+
+-- a byte has its text in one way
+pub same_byte : (b c : ℕ) (rest more : List ℕ) → b < 256 → c < 256 → byte_text b ++ rest ≡ byte_text c ++ more → (b ≡ c) × (rest ≡ more)
+same_byte b c rest more h k e = go (is_escaped b) (is_escaped c) refl refl e
+  where
+    go : (s t : Bool) → is_escaped b ≡ s → is_escaped c ≡ t → cond s (37 ∷ digits b) (b ∷ []) ++ rest ≡ cond t (37 ∷ digits c) (c ∷ []) ++ more → (b ≡ c) × (rest ≡ more)
+    go true true f g e = same_digits b c rest more h k cc
+    go true false f g e =
+        let is : c ≡ 37 = cc in absurd (false≢true (sym g ∙ ap is_escaped is))
+    go false true f g e =
+        let is : b ≡ 37 = cc in absurd (false≢true (sym f ∙ ap is_escaped is))
+    go false false f g e = (let s : b ≡ c = cc in s, let s : rest ≡ more = cc in s)
+
+-- ---- a text, read so far
+
+-- these bytes were read, and a text of any bytes goes on so
+pub record ReadSoFar (text rest bytes : List ℕ) : Type 0 where
+  pub fit : AreBytes bytes
+  pub read : text ≡ name_text bytes ++ rest
+  pub more : (all : List ℕ) → AreBytes all → text ≡ name_text all → (after : List ℕ) × AreBytes after × (rest ≡ name_text after)
+
+pub ReadSoFar-none : (text : List ℕ) → ReadSoFar text text []
+ReadSoFar-none text = record { fit = tt; read = refl; more = λ all fit e. (all, fit, e) }
+
+pub name_text-append : (x y : List ℕ) → name_text (x ++ y) ≡ name_text x ++ name_text y
+name_text-append x y = flat_map-append byte_text x y
+
+empty_text : (b : ℕ) (rest : List ℕ) → byte_text b ++ rest ≢ []
+empty_text b rest e = go (is_escaped b) e
+  where
+    go : (s : Bool) → cond s (37 ∷ digits b) (b ∷ []) ++ rest ≡ [] → ⊥
+    go true e = cc
+    go false e = cc
+
+pub ReadSoFar-more : (text rest bytes after : List ℕ) (b : ℕ) → ReadSoFar text rest bytes → b < 256 → rest ≡ byte_text b ++ after → ReadSoFar text after (bytes ++ b ∷ [])
+ReadSoFar-more text rest bytes after b g small e = record {
+  fit = all_append (λ c. c < 256) bytes (b ∷ []) g.fit (small, tt);
+  read = g.read ∙ ap (λ z. name_text bytes ++ z) e ∙ sym (append_assoc (name_text bytes) (byte_text b) after) ∙ ap (λ z. z ++ after) (ap (λ z. name_text bytes ++ z) (sym (append-nil (byte_text b))) ∙ sym (name_text-append bytes (b ∷ [])));
+  more = λ all fit f. next (g.more all fit f);
+}
+  where
+    next : ((tail : List ℕ) × AreBytes tail × (rest ≡ name_text tail)) → (tail : List ℕ) × AreBytes tail × (after ≡ name_text tail)
+    next ([], fit, f) = absurd (empty_text b after (sym e ∙ f))
+    next (c ∷ tail, fit, f) = (tail, fit.1, (same_byte b c after (name_text tail) small fit.0 (sym e ∙ f)).1)
+
+pub ReadSoFar-stuck : (text rest bytes : List ℕ) → ReadSoFar text rest bytes → rest ≢ [] → HasNoByte rest → HasNoBytes text
+ReadSoFar-stuck text rest bytes g some stuck all fit e = next (g.more all fit e)
+  where
+    next : ((tail : List ℕ) × AreBytes tail × (rest ≡ name_text tail)) → ⊥
+    next ([], fit, f) = some f
+    next (c ∷ tail, fit, f) = stuck c (name_text tail) fit.0 f
+
+pub ReadSoFar-all : (text rest bytes : List ℕ) → ReadSoFar text rest bytes → rest ≡ [] → AreBytes bytes × (text ≡ name_text bytes)
+ReadSoFar-all text rest bytes g e = (g.fit, g.read ∙ ap (λ z. name_text bytes ++ z) e ∙ append-nil (name_text bytes))
+
+-- what begins with `%` is as its digits are
+pub byte_from_digits : {R : Type 0} (b : R → ℕ) (after : R → List ℕ) (text rest : List ℕ) (o : Option R) → text ≡ 37 ∷ rest → MatchOption o (HasNoDigits rest) (λ r. (b r < 256) × IsTrue (is_escaped (b r)) × (rest ≡ digits (b r) ++ after r)) → MatchOption o (HasNoByte text) (λ r. (b r < 256) × (text ≡ byte_text (b r) ++ after r))
+byte_from_digits b after text rest None e h = λ c more small f. go c more small (is_escaped c) refl (sym e ∙ f)
+  where
+    go : (c : ℕ) (more : List ℕ) → c < 256 → (s : Bool) → is_escaped c ≡ s → 37 ∷ rest ≡ cond s (37 ∷ digits c) (c ∷ []) ++ more → ⊥
+    go c more small true g f = h c more small g cc
+    go c more small false g f = let is : c ≡ 37 = cc in false≢true (sym g ∙ ap is_escaped is)
+byte_from_digits b after text rest (Some r) e h =
+    (h.0, e ∙ ap (λ z. 37 ∷ z) h.2 ∙ ap (λ s. cond s (37 ∷ digits (b r)) (b r ∷ []) ++ after r) (sym h.1))
+
+-- a text is shorter by what was read
+pub shorter_byte : (b : ℕ) (rest after : List ℕ) → rest ≡ byte_text b ++ after → length after < length rest
+shorter_byte b rest after e = go (is_escaped b) e
+  where
+    go : (s : Bool) → rest ≡ cond s (37 ∷ digits b) (b ∷ []) ++ after → length after < length rest
+    go true e = omega (arith, ap length e)
+    go false e = omega (arith, ap length e)
+
+-- bytes have their text in one way
+pub same_text : (x y : List ℕ) → AreBytes x → AreBytes y → name_text x ≡ name_text y → x ≡ y
+same_text [] [] h k e = refl
+same_text [] (c ∷ y) h k e = absurd (empty_text c (name_text y) (sym e))
+same_text (b ∷ x) [] h k e = absurd (empty_text b (name_text x) e)
+same_text (b ∷ x) (c ∷ y) h k e =
+    let parts = same_byte b c (name_text x) (name_text y) h.0 k.0 e in
+    ap₂ ◌∷◌ parts.0 (same_text x y h.1 k.1 parts.1)
+
+-- the test for no bytes
+pub nothing : (xs : List ℕ) (r : Bool) → r ≡ (length xs == 0) → r ≡ true → xs ≡ []
+nothing [] r e h = refl
+nothing (x ∷ xs) r e h = absurd (let l : suc (length xs) ≡ 0 = eqb-true _ _ (sym e ∙ h) in omega arith)
+
+pub something : (xs : List ℕ) (r : Bool) → r ≡ (length xs == 0) → r ≡ false → xs ≢ []
+something xs r e h f = false≢true (sym h ∙ e ∙ ap (λ z. length z == 0) f)

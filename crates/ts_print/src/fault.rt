@@ -1,0 +1,55 @@
+ghost use Rattle.std.specs.Prelude.{◌≡◌};
+ghost use Rattle.ts_print.specs.Faults.{fault_number};
+
+use std::alloc::{AllocError, AllocFailed};
+use thiserror::Error;
+
+/// Why a call on prints was refused.
+#[derive(Clone, Copy, Debug, PartialEq, Eq, Error)]
+pub enum PrintFault {
+    #[error("out of memory")]
+    OutOfMemory,
+    #[error("a path would be too long or too deep")]
+    TooLong,
+    #[error("the reader or the writer failed")]
+    Failed,
+    #[error("not the text of a print")]
+    NotCanonical,
+}
+
+impl PrintFault {
+    /// The fault's number: 1 for memory, 4 for a path past a limit, 5 for a reader or writer, 6 for a text that isn't
+    /// canonical.
+    pub fn number(&self) -> u8
+        ensures { result ≡ fault_number self.now }
+    {
+        match self {
+            PrintFault::OutOfMemory => 1,
+            PrintFault::TooLong => 4,
+            PrintFault::Failed => 5,
+            PrintFault::NotCanonical => 6,
+        }
+    }
+}
+
+impl From<AllocError> for PrintFault {
+    ghost use Rattle.std.specs.Prelude.{◌≡◌};
+    ghost use Rattle.ts_print.specs.declared.fault.PrintFault.TheVariants.{OutOfMemory};
+
+    ghost from_gives = { λ _ e. e ≡ OutOfMemory };
+
+    fn from(_fault: AllocError) -> PrintFault {
+        PrintFault::OutOfMemory
+    }
+}
+
+impl<T: Drop> From<AllocFailed<T>> for PrintFault {
+    ghost use Rattle.std.specs.Prelude.{◌≡◌};
+    ghost use Rattle.ts_print.specs.declared.fault.PrintFault.TheVariants.{OutOfMemory};
+
+    ghost from_gives = { λ _ e. e ≡ OutOfMemory };
+
+    fn from(_fault: AllocFailed<T>) -> PrintFault {
+        PrintFault::OutOfMemory
+    }
+}

@@ -1,0 +1,98 @@
+ghost use Rattle.std.specs.Prelude.{◌≡◌, ◌++◌, ◌∷◌, [], IfErr, IfOk, is_ok, if◌then◌else◌};
+ghost use Rattle.ts_model.specs.Texts.{IsPrintBody, IsTreeBody, StampFits};
+ghost use Rattle.ts_model.specs.Trees.{IsListing, at};
+ghost use Rattle.ts_table.specs.Tables.{rows_below};
+ghost use Rattle.ts_print.specs.Prints.{stamped_rows};
+
+use crate::fault::PrintFault;
+use crate::stamps::stamped;
+use std::alloc::Global;
+use std::marker::Model;
+use ts_model::items::Items;
+use ts_model::row::{Content, Row, Stamp};
+use ts_name::Path;
+use ts_table::Table;
+
+/// What is at each path, with a stamp in place of a file's bytes. The root is a directory.
+#[derive(Drop)]
+pub struct Print {
+    table: Table<Stamp>,
+}
+
+impl Model for Print {
+    ghost use Rattle.std.specs.Prelude.{List};
+    ghost use Rattle.ts_model.specs.declared.row.Row.{Row};
+    ghost use Rattle.ts_model.specs.declared.row.Stamp.{Stamp};
+
+    ghost Value = { List (Row Stamp) };
+
+    ghost view = { λ p. p.table };
+}
+
+impl Print {
+    /// The print of the root alone. It takes no memory.
+    pub fn empty(alloc: Global) -> Self
+        ensures { result ≡ [] }
+    {
+        Print {
+            table: Table::new(alloc),
+        }
+    }
+
+    /// What is at each path but the root, in path order. It takes no memory.
+    pub fn rows(&self) -> &[Row<Stamp>]
+        ensures rows { result.now ≡ self.now }
+        ensures listing { IsListing self.now }
+    {
+        self.table.rows()
+    }
+
+    /// What is at a path. It takes no memory.
+    pub fn get(&self, path: &Path) -> Content<Stamp>
+        ensures { result ≡ at self.now path.now }
+    {
+        match self.table.get(path) {
+            Content::Absent => Content::Absent,
+            Content::Dir => Content::Dir,
+            Content::File(stamp) => Content::File(*stamp),
+        }
+    }
+
+    /// The rows at a path and below it, in path order; all rows for the root. It takes no memory.
+    pub fn sub(&self, path: &Path) -> &[Row<Stamp>]
+        ensures { result.now ≡ rows_below path.now self.now }
+    {
+        self.table.sub(path)
+    }
+
+    /// Adds a row after all that are there. A refusal changes nothing.
+    pub fn push(&mut self, row: Row<Stamp>) -> Result<(), PrintFault>
+        requires { IsListing (self.old ++ row ∷ []) }
+        ensures rows { self.new ≡ (if is_ok result then self.old ++ row ∷ [] else self.old) }
+        ensures fault { IfErr result (λ e. e ≡ PrintFault.OutOfMemory) }
+    {
+        match self.table.push(row) {
+            Ok(()) => Ok(()),
+            Err(_) => Err(PrintFault::OutOfMemory),
+        }
+    }
+
+    /// The print of a tree, given by its rows.
+    pub fn of_rows(alloc: Global, rows: &[Row<Items<u8>>]) -> Result<Print, PrintFault>
+        requires { IsListing rows.now }
+        ensures rows { IfOk result (λ print. print ≡ stamped_rows rows.now) }
+        ensures fault { IfErr result (λ e. e ≡ PrintFault.OutOfMemory) }
+    {
+        let mut made = Vec::with_capacity(alloc, rows.len())?;
+        for row in rows {
+            let Ok(path) = row.path.copy(alloc) else {
+                return Err(PrintFault::OutOfMemory);
+            };
+            let content = stamped(&row.content);
+            made.push(Row { path, content })?;
+        }
+        Ok(Print {
+            table: Table::from_rows(made),
+        })
+    }
+}

@@ -1,0 +1,26 @@
+-- Rows that are placed one after another.
+use Rattle.std.proofs.Common.{◌≡◌, List, [], ◌∷◌, ◌++◌, refl, sym, ap, ◌∙◌, subst, append_assoc, append-nil}
+use Rattle.std.specs.List.{AllByRecursion}
+use Rattle.ts_name.specs.Paths.{Path, IsPath}
+use Rattle.ts_model.specs.Trees.{Listing}
+use Rattle.ts_model.specs.declared.row.Row.{Row}
+use Rattle.ts_table.specs.Tables.{placed}
+use Rattle.ts_table.proofs.Rows.{all_append, all_left, all_right}
+
+pub placed_append : {F : Type 0} (p : Path) (xs ys : Listing F) → placed p (xs ++ ys) ≡ placed p xs ++ placed p ys
+placed_append p [] ys = refl
+placed_append p (x ∷ xs) ys = ap (λ z. record { path = p ++ x.path; content = x.content } ∷ z) (placed_append p xs ys)
+
+-- one more row
+pub placed_push : {F : Type 0} (p : Path) (xs : Listing F) (row : Row F) → placed p (xs ++ row ∷ []) ≡ placed p xs ++ record { path = p ++ row.path; content = row.content } ∷ []
+placed_push p xs row = placed_append p xs (row ∷ [])
+
+-- whose path is one too
+pub paths_push : {F : Type 0} (p : Path) (xs : Listing F) (row : Row F) → AllByRecursion (λ row. IsPath row.path) (placed p xs) → IsPath (p ++ row.path) → AllByRecursion (λ row. IsPath row.path) (placed p (xs ++ row ∷ []))
+paths_push {F} p xs row all one = subst (λ z. AllByRecursion (λ (row : Row F). IsPath row.path) z) (sym (placed_push p xs row)) (all_append (λ (row : Row F). IsPath row.path) (placed p xs) _ all (one, tt))
+
+-- where one isn't, not all are
+pub past_limit : {F : Type 0} (p : Path) (all xs ys : Listing F) (row : Row F) → all ≡ xs ++ row ∷ ys → ¬ IsPath (p ++ row.path) → ¬ AllByRecursion (λ row. IsPath row.path) (placed p all)
+past_limit {F} p all xs ys row is bad h =
+    let parts = subst (λ z. AllByRecursion (λ (row : Row F). IsPath row.path) z) (ap (placed p) is ∙ placed_append p xs (row ∷ ys)) h in
+    let rest = all_right (λ (row : Row F). IsPath row.path) (placed p xs) (placed p (row ∷ ys)) parts in bad rest.0

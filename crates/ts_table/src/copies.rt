@@ -1,0 +1,83 @@
+//! What a table's files are copied by.
+ghost use Rattle.std.specs.Prelude.{◌≡◌, IfErr, IfOk, MatchResult};
+ghost use Rattle.ts_model.specs.Trees.{at, listed, sub};
+
+use crate::fault::TableFault;
+use crate::subtable::SubTable;
+use crate::table::Table;
+use std::alloc::{AllocError, Global};
+use ts_model::items::Items;
+use ts_model::row::{Content, Row, Stamp};
+use ts_name::Path;
+
+/// Data of a file that can be copied.
+pub trait CopyFile {
+    /// The same data once more.
+    fn copy_file(&self, alloc: Global) -> Result<Self, AllocError>
+        ensures { IfOk result (λ copy. copy ≡ self.now) };
+}
+
+impl CopyFile for Items<u8> {
+    fn copy_file(&self, alloc: Global) -> Result<Self, AllocError> {
+        Ok(Items::new(Vec::from_slice(alloc, self.as_slice())?))
+    }
+}
+
+impl CopyFile for Stamp {
+    fn copy_file(&self, _alloc: Global) -> Result<Self, AllocError> {
+        Ok(*self)
+    }
+}
+
+impl CopyFile for u8 {
+    fn copy_file(&self, _alloc: Global) -> Result<Self, AllocError> {
+        Ok(*self)
+    }
+}
+
+/// The same content once more.
+pub(crate) fn copy_content<F: CopyFile>(alloc: Global, content: &Content<F>) -> Result<Content<F>, AllocError>
+    ensures { IfOk result (λ copy. copy ≡ content.now) }
+{
+    Ok(match content {
+        Content::Absent => Content::Absent,
+        Content::Dir => Content::Dir,
+        Content::File(file) => Content::File(file.copy_file(alloc)?),
+    })
+}
+
+impl<F: CopyFile + Drop> Table<F> {
+    /// The same table once more.
+    pub fn copy(&self, alloc: Global) -> Result<Table<F>, TableFault>
+        ensures { MatchResult result (λ table. table ≡ self.now) (λ e. e ≡ TableFault.OutOfMemory) }
+    {
+        let mut rows = Vec::new(alloc);
+        for row in self.rows() {
+            let path = row.path.copy(alloc)?;
+            let content = copy_content(alloc, &row.content)?;
+            rows.push(Row { path, content })?;
+        }
+        Ok(Table { rows })
+    }
+
+    /// What is at a path and below it, by the rest of the path.
+    pub fn sub_table(&self, alloc: Global, path: &Path) -> Result<SubTable<F>, TableFault>
+        ensures part { IfOk result (λ part. listed part ≡ sub (at self.now) path.now) }
+        ensures fault { IfErr result (λ e. e ≡ TableFault.OutOfMemory) }
+    {
+        let mut rows = Vec::new(alloc);
+        if path.is_root() {
+            let path = Path::root(alloc);
+            let content = Content::Dir;
+            rows.push(Row { path, content })?;
+        }
+        for row in self.sub(path) {
+            if let Some(rest) = row.path.below(alloc, path)? {
+                let content = copy_content(alloc, &row.content)?;
+                let path = rest;
+                rows.push(Row { path, content })?;
+            }
+        }
+        Ok(SubTable { rows })
+    }
+}
