@@ -1,5 +1,5 @@
 -- What is decided in a lawful snapshot: changes, held paths, dirt and reasons.
-use Rattle.std.proofs.Common.{◌≡◌, ◌≢◌, ◌⊎◌, ◌↔◌, List, [], ◌∷◌, ◌++◌, Contains, refl, sym, ap, ◌∙◌, subst, inl, inr}
+use Rattle.std.proofs.Common.{◌≡◌, ◌≢◌, ◌⊎◌, List, [], ◌∷◌, ◌++◌, Contains, refl, sym, ap, ◌∙◌, subst, inl, inr}
 use Rattle.std.proofs.lemmas.List.Elements.{Contains-append_left, Contains-append_right}
 use Rattle.std.proofs.Math.Decide.{map_dec}
 use Rattle.ts_name.specs.Paths.{Name, Path, IsAbove}
@@ -71,6 +71,7 @@ decide_fits (Byte b ∷ symbols) [] = no (λ h. h)
 decide_fits (Byte b ∷ symbols) (x ∷ xs) = Dec-both (same_number b x) (decide_fits symbols xs)
 decide_fits (Star ∷ symbols) xs = decide_cut (Fits symbols) (decide_fits symbols) xs
 
+-- whether a rule names a path
 decide_rule : (p : Path) (rule : Rule) → Dec (RuleNames p rule)
 decide_rule p (OnePath path) = same_names p path
 decide_rule p (LastName pattern) = elim (last_name p) [
@@ -88,6 +89,7 @@ decide_named rules p = decide_Any (RuleNames p) (decide_rule p) rules
 -- ---- a snapshot
 
 module _ (s : Snapshot) (lawful : IsSnapshot s) where
+  -- a side's print is a tree
   pub replica_tree : (on : Side) → IsTree (replica s on)
   replica_tree side.First = lawful.first
   replica_tree side.Second = lawful.second
@@ -110,6 +112,7 @@ module _ (s : Snapshot) (lawful : IsSnapshot s) where
   abbrev places : List Path
   places = lawful.first.present ++ (lawful.second.present ++ lawful.archive.present)
 
+  -- held paths are among these
   held_within : (h : Path) → IsHeldIn s h → Contains places h
   held_within h held = elim held.present [
     | inl there ↦ Contains-append_left lawful.first.present _ h (lawful.first.finite h there)
@@ -141,6 +144,7 @@ module _ (s : Snapshot) (lawful : IsSnapshot s) where
     | no none ↦ yes (by_each (sub s.first p) (sub s.second p) (λ rest. stable (same_stamp_at _ _) (λ n. none (rest, n))))
   ]
 
+  -- whether a path has what a reason says
   decide_because : (p : Path) (r : Reason) → Dec (Because s p r)
   decide_because p reason.Dir = Dec-both (decide_dirs s.first s.second p) (Dec-not (same_stamp_at (s.archive p) Dir))
   decide_because p reason.Same = map_dec (λ h. (h.0, h.1.0, h.1.1)) (λ h. (h.0, (h.1, h.2)))

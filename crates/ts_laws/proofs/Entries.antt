@@ -1,9 +1,9 @@
 -- The entries of a plan: exactly the paths with a reason, and the nearest new directory above one is at its parent.
-use Rattle.std.proofs.Common.{◌≡◌, ◌≢◌, ◌⊎◌, ◌↔◌, ℕ, [], ◌∷◌, ◌++◌, sym, ap, ◌∙◌, subst, inl, inr, append_assoc, append-nil}
+use Rattle.std.proofs.Common.{◌≡◌, ◌≢◌, ◌⊎◌, ℕ, [], ◌∷◌, ◌++◌, sym, ap, ◌∙◌, subst, inl, inr, append_assoc, append-nil}
 use Rattle.ts_name.specs.Paths.{Name, Path, IsAbove}
 use Rattle.ts_model.specs.Sync.{Snapshot, IsSnapshot, AreBothDirs, IsBelowDirs, HasReason}
 use Rattle.ts_model.specs.Plans.{EntryIs, NearestDir, Wrong, Valid}
-use Rattle.ts_model.specs.declared.row.Content.TheVariants.{Absent, Dir}
+use Rattle.ts_model.specs.declared.row.Content.TheVariants.{Dir}
 use Rattle.ts_model.specs.declared.plan.PlanRule.TheVariants.{ReasonsHold, EntriesComplete}
 use Rattle.ts_model.specs.declared.plan.Reason.{Reason}
 use Rattle.ts_model.specs.declared.plan.Reason.TheVariants as reason
@@ -27,10 +27,15 @@ entry_has_reason s plan lawful valid p r is =
 -- a path with a reason has an entry with that reason
 pub reason_has_entry : (s : Snapshot) (plan : Plan) → Valid s plan → (p : Path) (r : Reason) → HasReason s p r → IsEntryOf plan p r
 reason_has_entry s plan valid p r has =
-    let found = entry_exists s plan valid p r has in
-    (found.0, found.1, found.2, found.3, one_reason s p found.1.reason r
-    (λ n. reason_holds s plan valid found.0 found.1 found.2 (λ here. n (subst (λ z. HasReason s z found.1.reason) found.3 here)))
-    (λ n. n has))
+    let found = entry_exists s plan valid p r has in (
+      found.0,
+      found.1,
+      found.2,
+      found.3,
+      one_reason s p found.1.reason r
+          (λ n. reason_holds s plan valid found.0 found.1 found.2 (λ here. n (subst (λ z. HasReason s z found.1.reason) found.3 here)))
+          (λ n. n has),
+    )
 
 -- entries are the paths with a reason
 pub entries_are_reasons : (s : Snapshot) (plan : Plan) → IsSnapshot s → Valid s plan → EntriesAreReasons s plan
@@ -77,9 +82,14 @@ module _ (s : Snapshot) (plan : Plan) (lawful : IsSnapshot s) (reasons : (place 
           not_root (n ∷ q) e = cc
       go (inr (parent, last, is)) =
           let has : HasReason s p reason.Dir = ((parent, last, is, dirs_above s (IsWhole-from_snapshot s lawful) parent p last [] is dirs), (dirs, new)) in
-          let found = entry_from_complete s plan complete p reason.Dir has in
-          (found.0, found.1, found.2, found.3, one_reason s p found.1.reason reason.Dir
-          (λ n. reason_of found.0 found.1 found.2 (λ here. n (subst (λ z. HasReason s z found.1.reason) found.3 here))) (λ n. n has))
+          let found = entry_from_complete s plan complete p reason.Dir has in (
+            found.0,
+            found.1,
+            found.2,
+            found.3,
+            one_reason s p found.1.reason reason.Dir
+                (λ n. reason_of found.0 found.1 found.2 (λ here. n (subst (λ z. HasReason s z found.1.reason) found.3 here))) (λ n. n has),
+          )
 
   -- the nearest new directory strictly above an entry is at its parent
   pub nearest_is_parent : (e d : ℕ) (h : NearestDir plan e d) → (name : Name) × (h.below.path ≡ h.dir.path ++ name ∷ [])
@@ -88,15 +98,22 @@ module _ (s : Snapshot) (plan : Plan) (lawful : IsSnapshot s) (reasons : (place 
       below : IsBelowDirs s.first s.second h.below.path
       below = Below-from s h.below.path h.below.reason (reason_of e h.below h.is_below)
 
-      -- a new directory between the two would be nearer
+      -- no entry of a new directory is between the two
+      none_between : (m : Name) (ms : Path) → below.0 ≡ h.dir.path ++ m ∷ ms → (k : ℕ) (entry : Entry) → EntryIs plan k entry → entry.path ≡ below.0 → entry.reason ≡ reason.Dir → ⊥
+      none_between m ms at k entry is same new =
+          let over : h.below.path ≡ entry.path ++ below.1 ∷ [] = below.2 ∙ ap (λ z. z ++ below.1 ∷ []) (sym same) in
+          let further = h.nearest k entry is new (below.1 ∷ [], over) (λ e. not_below_itself entry.path below.1 [] (e ∙ over)) in
+          let beyond : entry.path ++ further.0 ≡ h.dir.path ++ m ∷ (ms ++ further.0) = ap (λ z. z ++ further.0) (same ∙ at) ∙ append_assoc h.dir.path (m ∷ ms) further.0 in
+          not_below_itself h.dir.path m (ms ++ further.0) (further.1 ∙ beyond)
+
+      -- though a directory between them would be new
       nearer : (m : Name) (ms : Path) → below.0 ≡ h.dir.path ++ m ∷ ms → ⊥
       nearer m ms at =
           let nothing = Dir-nothing_below s (IsWhole-from_snapshot s lawful) h.dir.path m ms (subst (λ z. ¬ (¬ HasReason s h.dir.path z)) h.new_dir (reason_of d h.dir h.is_dir)) in
           let found = new_dir_entry below.0 m ms h.dir.path at below.3 (λ dir. let e = sym (ap s.archive at ∙ nothing) ∙ dir in cc) in
-          let further = h.nearest found.0 found.1 found.2 found.4 (below.1 ∷ [], below.2 ∙ ap (λ z. z ++ below.1 ∷ []) (sym found.3))
-          (λ same. not_below_itself below.0 below.1 [] (sym found.3 ∙ same ∙ below.2)) in
-          not_below_itself h.dir.path m (ms ++ further.0) (further.1 ∙ ap (λ z. z ++ further.0) (found.3 ∙ at) ∙ append_assoc h.dir.path (m ∷ ms) further.0)
+          none_between m ms at found.0 found.1 found.2 found.3 found.4
 
+      -- so the parent is the directory
       at_parent : (more : Path) → below.0 ≡ h.dir.path ++ more → (name : Name) × (h.below.path ≡ h.dir.path ++ name ∷ [])
       at_parent [] at = (below.1, below.2 ∙ ap (λ z. z ++ below.1 ∷ []) (at ∙ append-nil h.dir.path))
       at_parent (m ∷ ms) at = absurd (nearer m ms at)

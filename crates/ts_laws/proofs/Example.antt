@@ -5,7 +5,7 @@ use Rattle.std.proofs.lemmas.Option.{none-some, same_Some}
 use Rattle.std.proofs.lemmas.Str.{IsUtf8-from_ascii}
 use Rattle.ts_name.specs.Paths.{Name, Path, IsName, IsPath, same_name}
 use Rattle.ts_model.specs.Trees.{Tree, sub, stamp_of, stamped, print_of, IsTree}
-use Rattle.ts_model.specs.Sync.{Snapshot, replica, HasReason, Because, AreBothDirs, TouchesHeld, IsDirty, Agree}
+use Rattle.ts_model.specs.Sync.{Snapshot, HasReason, Because, AreBothDirs, TouchesHeld, IsDirty, Agree}
 use Rattle.ts_model.specs.Plans.{EntryIs, ActionIs, KindIs, IsCopied, IsPiece, IsMarked, AscendBelow, Waits, Valid}
 use Rattle.ts_model.specs.declared.plan.PlanRule.TheVariants.{Limits, EntriesAscend, ReasonsHold, EntriesComplete, PredsAscend, OneCommit, PiecesLawful, PiecesComplete, OneMark, PiecesFirst, CommitFirst, DirFirst}
 use Rattle.ts_model.specs.declared.plan.Side.TheVariants as side
@@ -13,7 +13,6 @@ use Rattle.ts_model.specs.declared.plan.Reason.TheVariants as reason
 use Rattle.ts_model.specs.declared.row.Content.{Content}
 use Rattle.ts_model.specs.declared.row.Content.TheVariants.{Absent, Dir, File}
 use Rattle.ts_model.specs.declared.row.Stamp.{Stamp}
-use Rattle.ts_model.specs.declared.plan.Side.{Side}
 use Rattle.ts_model.specs.declared.plan.Reason.{Reason}
 use Rattle.ts_model.specs.declared.plan.Entry.{Entry}
 use Rattle.ts_model.specs.declared.plan.Kind.{Kind}
@@ -30,33 +29,42 @@ use Rattle.ts_laws.proofs.Paths.{same_name_equal}
 abbrev x_name : Name
 x_name = 120 ∷ []
 
+-- its path
 abbrev x_path : Path
 x_path = (120 ∷ []) ∷ []
 
+-- a tree of the root alone
 abbrev bare : {F : Type 0} → Path → Content F
 bare [] = Dir
 bare (n ∷ ps) = Absent
 
+-- a tree of one file, with these bytes
 abbrev with_file : List ℕ → Tree
 with_file bytes [] = Dir
 with_file bytes (n ∷ []) = cond (same_name n (120 ∷ [])) (File bytes) Absent
 with_file bytes (n ∷ m ∷ ps) = Absent
 
+-- the file is new in the first replica
 abbrev state : List ℕ → Snapshot
 state bytes = record { archive = bare; first = print_of (with_file bytes); second = print_of bare; rules = [] }
 
+-- it is to be copied
 abbrev entry : Entry
 entry = record { path = (120 ∷ []) ∷ []; reason = reason.First }
 
+-- its one byte is staged
 abbrev piece : Action
 piece = record { kind = Piece 0 0 1 ((120 ∷ []) ∷ []); preds = [] }
 
+-- then it is put in place
 abbrev commit : Action
 commit = record { kind = Commit 0; preds = 0 ∷ [] }
 
+-- then the archive is brought up to date
 abbrev mark : Action
 mark = record { kind = Mark 0; preds = 1 ∷ [] }
 
+-- the whole plan
 abbrev plan : Plan
 plan = record {
   entries = (record { path = (120 ∷ []) ∷ []; reason = reason.First }) ∷ [];
@@ -65,15 +73,18 @@ plan = record {
 
 -- ---- the trees
 
+-- the first byte of a name
 abbrev first_byte : Name → ℕ
 first_byte [] = 0
 first_byte (c ∷ cs) = c
 
+-- the name is ASCII
 x_is_ascii : (i : ℕ) → slice_index x_name i < 128
 x_is_ascii zero = omega arith
 x_is_ascii (suc zero) = omega arith
 x_is_ascii (suc (suc i)) = omega arith
 
+-- the name is one
 x_is_name : IsName x_name
 x_is_name = record {
   utf8 = IsUtf8-from_ascii x_name x_is_ascii;
@@ -85,9 +96,11 @@ x_is_name = record {
   not_reserved = λ e. omega (arith, ap first_byte e);
 }
 
+-- the path is one
 x_is_path : IsPath x_path
 x_is_path = record { names = (x_is_name, tt); depth = omega arith; size = omega arith }
 
+-- the tree of the file is one
 tree_with_file : (bytes : List ℕ) → IsTree (with_file bytes)
 tree_with_file bytes = record { root = refl; parents = parents; paths = paths; present = [] ∷ x_path ∷ []; finite = finite }
   where
@@ -112,6 +125,7 @@ tree_with_file bytes = record { root = refl; parents = parents; paths = paths; p
     ]
     paths (n ∷ m ∷ ps) there = absurd (there refl)
 
+-- so is that of the root alone
 tree_bare : (F : Type 0) → IsTree (bare {F = F})
 tree_bare F = record { root = refl; parents = parents; paths = paths; present = [] ∷ []; finite = finite }
   where
@@ -146,6 +160,7 @@ only_content x (inr (inl (p, is))) = absurd (nowhere p is)
     nowhere (n ∷ ps) e = cc
 only_content x (inr (inr (i, rows, there, has))) = absurd (let k : there.0 < 0 = there.1 in omega arith)
 
+-- the premises hold
 premises : Premises (state (7 ∷ [])) (with_file (7 ∷ [])) bare []
 premises = record {
   snapshot = record { archive = tree_bare Stamp; first = IsTree-print (with_file (7 ∷ [])) (tree_with_file (7 ∷ [])); second = IsTree-print bare (tree_bare (List ℕ)) };
@@ -155,13 +170,16 @@ premises = record {
 
 -- ---- the one reason
 
+-- nothing is held
 not_held : (bytes : List ℕ) (p : Path) → ¬ TouchesHeld (state bytes) p
 not_held bytes p touches = let h = touches.1.named in omega (arith, h.2)
 
+-- the path is clean in the second replica
 clean_second : (bytes : List ℕ) → ¬ IsDirty (state bytes) side.Second x_path
 clean_second bytes (inl changed) = changed.1 refl
 clean_second bytes (inr touches) = not_held bytes x_path touches
 
+-- the path is to be copied from the first
 has_first : (bytes : List ℕ) → HasReason (state bytes) x_path reason.First
 has_first bytes = (([], 120 ∷ [], refl, (refl, refl)), (no_dirs, differ, inl ([], changed), clean_second bytes))
   where
@@ -199,16 +217,19 @@ only_x bytes p r (([], name, e, dirs), why) = elim (cases_Bool (same_name name (
 
 -- ---- the plan
 
+-- the plan has one entry
 one_entry : (k : ℕ) (x : Entry) → EntryIs plan k x → (k ≡ 0) × (x ≡ entry)
 one_entry zero x is = (refl, sym (same_Some entry x is))
 one_entry (suc k) x is = absurd (none-some x is)
 
+-- and three actions
 three_actions : (i : ℕ) (x : Action) → ActionIs plan i x → ((i ≡ 0) × (x ≡ piece)) ⊎ (((i ≡ 1) × (x ≡ commit)) ⊎ ((i ≡ 2) × (x ≡ mark)))
 three_actions zero x is = inl (refl, sym (same_Some piece x is))
 three_actions (suc zero) x is = inr (inl (refl, sym (same_Some commit x is)))
 three_actions (suc (suc zero)) x is = inr (inr (refl, sym (same_Some mark x is)))
 three_actions (suc (suc (suc i))) x is = absurd (none-some x is)
 
+-- of these kinds
 kinds : (i : ℕ) (kind : Kind) → KindIs plan i kind → ((i ≡ 0) × (kind ≡ Piece 0 0 1 x_path)) ⊎ (((i ≡ 1) × (kind ≡ Commit 0)) ⊎ ((i ≡ 2) × (kind ≡ Mark 0)))
 kinds i kind (x, is, e) = elim (three_actions i x is) [
   | inl (at, same) ↦ inl (at, sym e ∙ ap (λ z. z.kind) same)
@@ -216,9 +237,11 @@ kinds i kind (x, is, e) = elim (three_actions i x is) [
   | inr (inr (at, same)) ↦ inr (inr (at, sym e ∙ ap (λ z. z.kind) same))
 ]
 
+-- the piece is the first
 piece_at : (i e offset size : ℕ) (p : Path) → KindIs plan i (Piece e offset size p) → (i ≡ 0) × (Piece e offset size p ≡ Piece 0 0 1 x_path)
 piece_at i e offset size p kind = elim (kinds i (Piece e offset size p) kind) [ inl h ↦ h | inr (inl (at, same)) ↦ cc | inr (inr (at, same)) ↦ cc ]
 
+-- the commit is the second
 commit_at : (i e : ℕ) → KindIs plan i (Commit e) → (i ≡ 1) × (e ≡ 0)
 commit_at i e kind = elim (kinds i (Commit e) kind) [
   | inl (at, same) ↦ cc
@@ -226,6 +249,7 @@ commit_at i e kind = elim (kinds i (Commit e) kind) [
   | inr (inr (at, same)) ↦ cc
 ]
 
+-- the mark is the third
 mark_at : (i e : ℕ) → KindIs plan i (Mark e) → (i ≡ 2) × (e ≡ 0)
 mark_at i e kind = elim (kinds i (Mark e) kind) [
   | inl (at, same) ↦ cc
@@ -233,15 +257,19 @@ mark_at i e kind = elim (kinds i (Mark e) kind) [
   | inr (inr (at, same)) ↦ (at, (let f : Mark e ≡ Mark 0 = same in cc))
 ]
 
+-- the first is the piece
 piece_kind : KindIs plan 0 (Piece 0 0 1 x_path)
 piece_kind = (piece, refl, refl)
 
+-- the second is the commit
 commit_kind : KindIs plan 1 (Commit 0)
 commit_kind = (commit, refl, refl)
 
+-- the third is the mark
 mark_kind : KindIs plan 2 (Mark 0)
 mark_kind = (mark, refl, refl)
 
+-- the entry is copied
 copied_entry : IsCopied plan 0
 copied_entry = (entry, side.First, (refl, refl))
 
@@ -280,6 +308,7 @@ only_lawful_piece e offset size p (x, side.First, stamp, copies, over, file, ran
     let found = only_file p stamp file in
     ((one_entry e x copies.0).0, omega (arith, range.within, found.1), found.0)
 
+-- the plan is valid
 example_valid : Valid (state (7 ∷ [])) plan
 example_valid Limits place (e, n) = n (record { entries = omega arith; actions = omega arith; preds = omega arith })
 example_valid EntriesAscend place (k, before, x, e, is_before, is, n) = absurd (let at = (one_entry place x is).0 in omega arith)

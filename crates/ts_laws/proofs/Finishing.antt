@@ -1,21 +1,21 @@
 -- A legal run without a failure goes on until each action is done.
-use Rattle.std.proofs.Common.{◌≡◌, ◌⊎◌, ℕ, zero, suc, ◌-◌, ◌<◌, ◌≤◌, min, Bool, true, false, ◌==◌, List, [], ◌∷◌, ◌++◌, length, take, drop, Contains, sym, refl, ap, ◌∙◌, subst, inl, inr, append_assoc, append-nil, length-take, length-drop, arith, eq-eqb}
+use Rattle.std.proofs.Common.{◌≡◌, ◌⊎◌, ℕ, zero, suc, ◌-◌, ◌<◌, min, Bool, true, false, ◌==◌, List, [], ◌∷◌, ◌++◌, length, take, drop, Contains, sym, refl, ap, ◌∙◌, subst, inl, inr, append_assoc, append-nil, length-take, length-drop, arith, eq-eqb}
 use Rattle.std.specs.List.{list_any}
 use Rattle.std.proofs.lemmas.Bool.{cases_eq, or_from, and_from}
 use Rattle.std.proofs.lemmas.List.Elements.{Contains-append_cases}
 use Rattle.std.proofs.lemmas.Option.{slice_get_within}
 use Rattle.ts_name.specs.Paths.{Path}
-use Rattle.ts_model.specs.Trees.{Tree, Listing, listed, sub, stamped, stamp_of, print_of, IsTree, HasContent}
-use Rattle.ts_model.specs.Sync.{Snapshot, IsSnapshot, AreReplicas, replica}
-use Rattle.ts_model.specs.Plans.{ActionIs, KindIs, Waits, Copies, IsCopied, IsPiece, IsRange, Valid}
+use Rattle.ts_model.specs.Trees.{Listing, listed, sub, stamped, stamp_of, print_of, IsTree, HasContent}
+use Rattle.ts_model.specs.Sync.{Snapshot, replica}
+use Rattle.ts_model.specs.Plans.{ActionIs, KindIs, Waits, IsCopied, IsPiece, IsRange, Valid}
 use Rattle.ts_model.specs.declared.plan.PlanRule.TheVariants.{PiecesLawful, OneCommit}
-use Rattle.ts_model.specs.Runs.{Run, claims, takes, acts, finishes, fails, releases, Has, HasNot, IsPieceOf, WordsAllow, Does, LegalFrom, Legal, start}
-use Rattle.ts_model.specs.Headline.{AllDone, Meets}
+use Rattle.ts_model.specs.Runs.{Run, claims, takes, acts, finishes, fails, releases, Has, HasNot, IsPieceOf, Does, LegalFrom, Legal, start}
+use Rattle.ts_model.specs.Headline.{Meets}
 use Rattle.ts_model.specs.declared.row.Content.{Content}
 use Rattle.ts_model.specs.declared.row.Content.TheVariants.{Absent, Dir, File}
 use Rattle.ts_model.specs.declared.row.Stamp.{Stamp}
 use Rattle.ts_model.specs.declared.step.Step.{Step}
-use Rattle.ts_model.specs.declared.step.Step.TheVariants.{Claim, Take, Act, Done, Fail, Release}
+use Rattle.ts_model.specs.declared.step.Step.TheVariants.{Claim, Take, Act, Done, Release}
 use Rattle.ts_model.specs.declared.step.Work.{Work}
 use Rattle.ts_model.specs.declared.step.Work.TheVariants.{Staged, Put, Marked}
 use Rattle.ts_model.specs.declared.plan.Side.{Side}
@@ -25,19 +25,23 @@ use Rattle.ts_model.specs.declared.plan.Kind.TheVariants.{Piece, Commit, Mark}
 use Rattle.ts_model.specs.declared.plan.Action.{Action}
 use Rattle.ts_model.specs.declared.plan.Plan.{Plan}
 use Rattle.ts_laws.specs.Laws.{IsUnfailed, tree_of, IsOwnWork, Finishes, CanFinish}
-use Rattle.ts_laws.proofs.Basics.{Start, Start-from, at_each, stable}
+use Rattle.ts_laws.proofs.Settings.{Begun, begun_at}
+use Rattle.ts_laws.proofs.Basics.{Start-from, at_each, stable}
 use Rattle.ts_laws.proofs.Lists.{Among, Among-from_Contains, Contains-from_Among, any_last, below_bound, element_at}
 use Rattle.ts_laws.proofs.Runs.{Allowed, IsRun-from_legal, all_released, preds_ascend}
 use Rattle.ts_laws.proofs.Cuts.{legal_append, any_in_longer, none_in_both}
 use Rattle.ts_laws.proofs.Plans.{decide_waits, finds_pieces}
-use Rattle.ts_laws.proofs.Rules.{decide_is_piece, decide_copied, decide_piece_of}
+use Rattle.ts_laws.proofs.ActionKinds.{decide_piece_of}
+use Rattle.ts_laws.proofs.Rules.{decide_is_piece, decide_copied}
 use Rattle.ts_laws.proofs.Rows.{sub_listing_of}
 
 -- a fact that more steps keep
 abbrev Lasts : (Run → Type 0) → Type 0
 Lasts P = (r more : Run) → P r → P (r ++ more)
 
-module _ (s : Snapshot) (plan : Plan) (valid : Valid s plan) (a b : Tree) (begin : Start s a b) where
+module _ (given : Begun) where
+  open given use {setting.{s, plan, valid, a, b}, begin}
+
   -- an action that did its own work
   abbrev DidOwn : ℕ → Work → Type 0
   DidOwn i work = (kind : Kind) × KindIs plan i kind × IsOwnWork a b plan kind work
@@ -137,10 +141,12 @@ module _ (s : Snapshot) (plan : Plan) (valid : Valid s plan) (a b : Tree) (begin
 
   -- ---- the work of an action
 
+  -- a side's tree has its print
   replica_is : (from : Side) → print_of (tree_of a b from) ≡ replica s from
   replica_is side.First = begin.first_print
   replica_is side.Second = begin.second_print
 
+  -- and is a tree
   source_tree : (from : Side) → IsTree (tree_of a b from)
   source_tree side.First = begin.first
   source_tree side.Second = begin.second
@@ -174,8 +180,7 @@ module _ (s : Snapshot) (plan : Plan) (valid : Valid s plan) (a b : Tree) (begin
     where
       go : IsPiece s plan e offset size p → (work : Work) × Does s plan (Piece e offset size p) work × IsOwnWork a b plan (Piece e offset size p) work
       go (entry, from, stamp, copies, over, file, range) =
-          let found = file_from_stamped (tree_of a b from p) stamp (at_each (replica_is from) p ∙ file) in
-          (
+          let found = file_from_stamped (tree_of a b from p) stamp (at_each (replica_is from) p ∙ file) in (
             Staged (take size (drop offset found.0)),
             range_length found.0 offset size (subst (λ z. IsRange z offset size) (sym found.2) range),
             (entry, from, found.0, copies, found.1, refl),
@@ -183,17 +188,20 @@ module _ (s : Snapshot) (plan : Plan) (valid : Valid s plan) (a b : Tree) (begin
 
   -- ---- one action after another
 
+  -- a step that was made stays made
   has_lasts : (test : Step → Bool) → Lasts (λ z. Has z test)
   has_lasts test r more h = any_in_longer test r more h
 
+  -- a step that acts on nothing
   no_act : (step : Step) → ((i : ℕ) → acts i step ≡ false) → (i : ℕ) (work : Work) → step ≡ Act i work → DidOwn i work
   no_act step none i work e = absurd (let f : acts i step ≡ true = ap (acts i) e ∙ eq-eqb i i refl in let g = sym f ∙ none i in cc)
 
   -- an action whose predecessors were released to it is claimed
   reach_claim : (i : ℕ) (action : Action) → ActionIs plan i action → (r : Run) → IsGoing r → ((j : ℕ) → Among j action.preds → Has r (releases j i)) → Reaches r (λ z. Has z (claims i))
-  reach_claim i action is r going released = reach_step r (claims i) (Claim i) (eq-eqb i i refl) (λ j. refl) (λ none.
-      ((((action, is), none, all_released plan r i action (IsRun-from_legal s plan valid (start s a b) r going.legal).counted is released), tt),
-      no_act (Claim i) (λ j. refl)))
+  reach_claim i action is r going released = reach_step r (claims i) (Claim i) (eq-eqb i i refl) (λ j. refl) (λ none. (
+    (((action, is), none, all_released plan r i action (IsRun-from_legal s plan valid (start s a b) r going.legal).counted is released), tt),
+    no_act (Claim i) (λ j. refl),
+  ))
 
   -- the pieces of a commit that is claimed are taken
   reach_takes : (i : ℕ) (r : Run) → IsGoing r → Has r (claims i) → Reaches r (λ z. (k : ℕ) → k < length plan.actions → IsPieceOf plan i k → Has z (takes k))
@@ -242,6 +250,7 @@ module _ (s : Snapshot) (plan : Plan) (valid : Valid s plan) (a b : Tree) (begin
     pub finished : Has r (finishes i)
     pub released : (j : ℕ) → Waits plan j i → Has r (releases i j)
 
+  -- and stays so
   settled_lasts : (i : ℕ) → Lasts (IsSettled i)
   settled_lasts i r more h = record {
     finished = has_lasts (finishes i) r more h.finished;
@@ -289,13 +298,16 @@ module _ (s : Snapshot) (plan : Plan) (valid : Valid s plan) (a b : Tree) (begin
   finish r legal unfailed = go (reach_all r (record { legal = legal; unfailed = unfailed }))
     where
       go : Reaches r (λ z. (i : ℕ) → i < length plan.actions → IsSettled i z) → (more : Run) × Finishes s plan a b r more
-      go found = (found.more, record {
-        legal = legal_append s plan [] r found.more legal found.legal;
-        unfailed = found.unfailed;
-        done = λ i is. (found.holds i (slice_get_within plan.actions i is.0 is.1)).finished;
-        own = found.own;
-        met = met;
-      })
+      go found = (
+        found.more,
+        record {
+          legal = legal_append s plan [] r found.more legal found.legal;
+          unfailed = found.unfailed;
+          done = λ i is. (found.holds i (slice_get_within plan.actions i is.0 is.1)).finished;
+          own = found.own;
+          met = met;
+        },
+      )
         where
           met : (bytes : List ℕ) → Meets a b (r ++ found.more) bytes → Meets a b r bytes
           met bytes (inl h) = inl h
@@ -307,4 +319,4 @@ module _ (s : Snapshot) (plan : Plan) (valid : Valid s plan) (a b : Tree) (begin
 
 -- so a valid plan is never a dead end
 pub can_finish : (s : Snapshot) (plan : Plan) → Valid s plan → CanFinish s plan
-can_finish s plan valid = λ a b r lawful are legal unfailed. finish s plan valid a b (Start-from s a b lawful are) r legal unfailed
+can_finish s plan valid = λ a b r lawful are legal unfailed. finish (begun_at s plan valid a b (Start-from s a b lawful are)) r legal unfailed

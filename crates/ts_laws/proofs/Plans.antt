@@ -11,14 +11,14 @@ use Rattle.ts_model.specs.declared.plan.Reason.TheVariants as reason
 use Rattle.ts_model.specs.declared.plan.Side.{Side}
 use Rattle.ts_model.specs.declared.plan.Reason.{Reason}
 use Rattle.ts_model.specs.declared.plan.Entry.{Entry}
-use Rattle.ts_model.specs.declared.plan.Kind.{Kind}
-use Rattle.ts_model.specs.declared.plan.Kind.TheVariants.{Piece, Commit, Mark}
+use Rattle.ts_model.specs.declared.plan.Kind.TheVariants.{Commit, Mark}
 use Rattle.ts_model.specs.declared.plan.Action.{Action}
 use Rattle.ts_model.specs.declared.plan.Plan.{Plan}
 use Rattle.ts_model.specs.declared.row.Content.TheVariants.{Absent}
 use Rattle.ts_laws.proofs.Basics.{stable, same_number, same_names}
 use Rattle.ts_laws.proofs.Paths.{decide_before, before_itself, before_trans, compared, above, under, beside, not_below_itself}
 use Rattle.ts_laws.proofs.Lists.{find_index, element_at, Among, Among-from_Contains, Contains-from_Among}
+use Rattle.ts_laws.proofs.ActionKinds.{decide_commit, decide_mark, decide_is}
 use Rattle.ts_laws.proofs.Runs.{same_action, IsRun-from_legal, pred_count_is, unreleased_count}
 use Rattle.ts_laws.proofs.Reasons.{decide_reason}
 
@@ -86,15 +86,10 @@ module _ (s : Snapshot) (plan : Plan) (valid : Valid s plan) where
 
   -- an entry with a source has a commit
   pub commit_exists : (e : ℕ) (entry : Entry) (from : Side) → EntryIs plan e entry → source entry.reason ≡ Some from → (i : ℕ) × KindIs plan i (Commit e)
-  commit_exists e entry from is from_is = elim (find_index (λ action. action.kind ≡ Commit e) (λ action. decide_commit action.kind) plan.actions) [
+  commit_exists e entry from is from_is = elim (find_index (λ action. action.kind ≡ Commit e) (λ action. decide_is Commit decide_commit action.kind e) plan.actions) [
     | inl found ↦ (found.0, (found.1, found.2, found.3))
     | inr none ↦ absurd (valid OneCommit (length plan.actions + e) (inr (e, refl, (entry, from, (is, from_is)), λ i kind. none i kind.0 kind.1 kind.2)))
   ]
-    where
-      decide_commit : (kind : Kind) → Dec (kind ≡ Commit e)
-      decide_commit (Piece f offset size p) = no (λ same. cc)
-      decide_commit (Commit f) = elim (same_number f e) [ yes same ↦ yes (ap Commit same) | no n ↦ no (λ same. n cc) ]
-      decide_commit (Mark f) = no (λ same. cc)
 
   -- and only one
   pub one_commit : (i j e : ℕ) → KindIs plan i (Commit e) → KindIs plan j (Commit e) → i ≡ j
@@ -108,15 +103,10 @@ module _ (s : Snapshot) (plan : Plan) (valid : Valid s plan) where
 
   -- an entry that isn't skipped has a mark
   pub mark_exists : (e : ℕ) (entry : Entry) → EntryIs plan e entry → (¬ IsSkipped entry.reason) → (i : ℕ) × KindIs plan i (Mark e)
-  mark_exists e entry is markable = elim (find_index (λ action. action.kind ≡ Mark e) (λ action. decide_mark action.kind) plan.actions) [
+  mark_exists e entry is markable = elim (find_index (λ action. action.kind ≡ Mark e) (λ action. decide_is Mark decide_mark action.kind e) plan.actions) [
     | inl found ↦ (found.0, (found.1, found.2, found.3))
     | inr none ↦ absurd (valid OneMark (length plan.actions + e) (inr (e, refl, (entry, is, markable), λ i kind. none i kind.0 kind.1 kind.2)))
   ]
-    where
-      decide_mark : (kind : Kind) → Dec (kind ≡ Mark e)
-      decide_mark (Piece f offset size p) = no (λ same. cc)
-      decide_mark (Commit f) = no (λ same. cc)
-      decide_mark (Mark f) = elim (same_number f e) [ yes same ↦ yes (ap Mark same) | no n ↦ no (λ same. n cc) ]
 
   -- and only one
   pub one_mark : (i j e : ℕ) → KindIs plan i (Mark e) → KindIs plan j (Mark e) → i ≡ j

@@ -1,20 +1,17 @@
 -- What `trial` answers for a bundle is one: a plan breaks one rule at one place at most, and there is one result at most.
-use Rattle.std.proofs.Common.{◌≡◌, ◌≢◌, ◌⊎◌, ℕ, ◌<◌, List, [], ◌∷◌, ◌++◌, get_or, codes, decimal, refl, sym, ap, ap₂, ◌∙◌, subst, inl, inr}
-use Rattle.std.proofs.lemmas.Bool.{cases_order}
+use Rattle.std.proofs.Common.{◌≡◌, ◌≢◌, ◌⊎◌, ℕ, List, [], ◌∷◌, ◌++◌, codes, decimal, refl, sym, ap, ap₂, ◌∙◌, subst, inl, inr}
 use Rattle.ts_name.specs.Paths.{Path}
 use Rattle.ts_model.specs.Trees.{Listing, Tree, Print, at, print_of, AreApart}
 use Rattle.ts_model.specs.declared.hold.Rule.{Rule}
 use Rattle.ts_model.specs.Sync.{Snapshot, HasReason, IsSkipped}
-use Rattle.ts_model.specs.Plans.{rule_number, Wrong, Broken}
+use Rattle.ts_model.specs.Plans.{rule_number}
 use Rattle.ts_model.specs.declared.plan.PlanRule.{PlanRule}
-use Rattle.ts_model.specs.declared.plan.PlanRule.TheVariants.{Limits, EntriesAscend, ReasonsHold, EntriesComplete, PredsAscend, OneCommit, PiecesLawful, PiecesComplete, OneMark, PiecesFirst, CommitFirst, DirFirst}
 use Rattle.ts_model.specs.Headline.{FinalArchive, Meets, HasOnePair}
 use Rattle.ts_model.specs.Texts.{Bundle, IsBundle, text, words}
 use Rattle.ts_model.specs.Trial.{snapshot_of, result_lines, IsRefused, IsResult}
 use Rattle.ts_model.specs.Trees.{IsListing}
 use Rattle.ts_model.specs.declared.row.Stamp.{Stamp}
 use Rattle.ts_model.specs.declared.plan.Reason.{Reason}
-use Rattle.ts_model.specs.declared.plan.Plan.{Plan}
 use Rattle.ts_laws.proofs.Basics.{Start, IsTree-print, by_each, at_each, stable, same_stamp_at}
 use Rattle.ts_laws.proofs.Listings.{IsTree-from_listing, one_listing}
 use Rattle.ts_laws.proofs.Pairs.{either, one_at_most}

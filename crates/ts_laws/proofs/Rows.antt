@@ -1,5 +1,5 @@
 -- Rows from a tree: what is at finitely many paths, listed in path order.
-use Rattle.std.proofs.Common.{◌≡◌, ◌≢◌, ◌⊎◌, ◌+◌, ◌≤◌, Ordering, Less, Equal, Greater, Option, Some, None, List, [], ◌∷◌, ◌++◌, length, Contains, sum_by, refl, sym, ap, ◌∙◌, subst, inl, inr, append_assoc, length-append, arith}
+use Rattle.std.proofs.Common.{◌≡◌, ◌≢◌, ◌⊎◌, Ordering, Less, Equal, Greater, Option, Some, None, List, [], ◌∷◌, ◌++◌, length, refl, sym, ap, ◌∙◌, subst, inl, inr, append_assoc, length-append, arith}
 use Rattle.std.specs.List.{AllByRecursion}
 use Rattle.std.proofs.lemmas.List.Sums.{sum_by-append}
 use Rattle.ts_name.specs.Paths.{Name, Path, IsName, IsPath, IsBefore, path_cmp, below}
@@ -11,7 +11,7 @@ use Rattle.ts_laws.proofs.Basics.{at_each, by_each, same_names}
 use Rattle.ts_laws.proofs.Paths.{below_append, before_flip, tied_paths}
 use Rattle.ts_laws.proofs.Lists.{Among, Among-from_Contains}
 use Rattle.ts_laws.proofs.Words.{all_parts}
-use Rattle.ts_laws.proofs.Listings.{paths_of, decide_absent, listed_here, listed_there, listed_among, absent_elsewhere, weaker}
+use Rattle.ts_laws.proofs.Listings.{paths_of, decide_absent, listed_here, listed_there, listed_among, weaker}
 
 -- ---- a row put in its place
 
@@ -32,6 +32,7 @@ put_ascends_after {F} r x (y ∷ rows) before ascend = go (path_cmp x.path y.pat
     go Equal e more = ascend
     go Greater e more = (ascend.0, more (before_flip x.path y.path e))
 
+-- it keeps the order
 put_ascends : {F : Type 0} (x : Row F) (rows : Listing F) → Ascend rows → Ascend (put_row x rows)
 unfolding put_row
 put_ascends x [] ascend = tt
@@ -97,6 +98,7 @@ pub record ListsAll {F : Type 0} (t : Path → Content F) (rows : Listing F) : T
   pub each : AllByRecursion (λ row. (row.content ≡ t row.path) × (row.content ≢ Absent)) rows
   pub all : (p : Path) → listed rows p ≡ t p
 
+-- they ascend
 rows_ascend : {F : Type 0} (t : Path → Content F) (ps : List Path) → Ascend (rows_at t ps)
 unfolding rows_at with_row
 rows_ascend t [] = tt
@@ -107,6 +109,7 @@ rows_ascend {F} t (p ∷ ps) = go (t p) (rows_ascend t ps)
     go Dir more = put_ascends _ (rows_at t ps) more
     go (File x) more = put_ascends _ (rows_at t ps) more
 
+-- each says what is there
 rows_each : {F : Type 0} (t : Path → Content F) (ps : List Path) → AllByRecursion (λ row. (row.content ≡ t row.path) × (row.content ≢ Absent)) (rows_at t ps)
 unfolding rows_at with_row
 rows_each t [] = tt
@@ -121,6 +124,7 @@ rows_each {F} t (p ∷ ps) = go (t p) refl (rows_each t ps)
     go Dir e more = put_all (λ row. (row.content ≡ t row.path) × (row.content ≢ Absent)) (record { path = p; content = Dir }) (rows_at t ps) (sym e, λ f. cc) more
     go (File x) e more = put_all (λ row. (row.content ≡ t row.path) × (row.content ≢ Absent)) (record { path = p; content = File x }) (rows_at t ps) (sym e, λ f. cc) more
 
+-- and what is there has its path among them
 rows_among : {F : Type 0} (t : Path → Content F) (ps : List Path) (q : Path) → t q ≢ Absent → Among q ps → Among q (paths_of (rows_at t ps))
 unfolding rows_at with_row
 rows_among t [] q there among = absurd among
@@ -178,6 +182,7 @@ unfolding without_root
 without_root_same t [] differ = absurd (differ refl)
 without_root_same t (name ∷ names) differ = refl
 
+-- the rows are a listing of this tree
 pub record IsListingOf {F : Type 0} (t : Path → Content F) (rows : Listing F) : Type 0 where
   pub listing : IsListing rows
   pub each : AllByRecursion (λ row. row.content ≡ t row.path) rows
@@ -219,6 +224,7 @@ rests : Path → List Path → List Path
 rests p [] = []
 rests p (q ∷ qs) = elim (below p q) [ None ↦ rests p qs | Some rest ↦ rest ∷ rests p qs ]
 
+-- what is left of one of them is among these
 rests_among : (p rest : Path) (qs : List Path) → Among (p ++ rest) qs → Among rest (rests p qs)
 unfolding rests
 rests_among p rest [] among = absurd among
@@ -242,6 +248,7 @@ rest_is_path p rest is = record {
   size = omega (arith, sum_by-append length p rest, is.size);
 }
 
+-- the rows are those of a subtree
 pub record IsSubListingOf {F : Type 0} (t : Path → Content F) (p : Path) (rows : Listing F) : Type 0 where
   pub listing : IsSubListing rows
   pub same : listed rows ≡ sub t p

@@ -12,13 +12,14 @@ use Rattle.ts_laws.proofs.Words.{first_byte, AreLines, IsClean, IsLine, Spelled,
 
 -- ---- hold rules
 
+-- how a symbol is spelled
 pub data SymbolSpelled (x : Symbol) (l : List ℕ) : Type 0 where
   a_star : x ≡ Star → l ≡ 42 ∷ [] → SymbolSpelled x l
   byte_in_digits : (b : ℕ) → x ≡ Byte b → (b ≡ 42) ⊎ (is_escaped b ≡ true) → l ≡ escape b → SymbolSpelled x l
   byte_as_it_is : (b : ℕ) → x ≡ Byte b → b ≢ 42 → is_escaped b ≡ false → l ≡ b ∷ [] → SymbolSpelled x l
 
 -- each symbol has one of these spellings
-spelled_symbol : (x : Symbol) → SymbolSpelled x (symbol_text x)
+pub spelled_symbol : (x : Symbol) → SymbolSpelled x (symbol_text x)
 spelled_symbol Star = a_star refl refl
 spelled_symbol (Byte b) = go (b == 42) refl
   where
@@ -67,7 +68,7 @@ some_symbol x u e = go (symbol_text x) (spelled_symbol x) e
     go p (byte_as_it_is b is_x differ plain is) h = not_nothing b [] p is h
 
 -- a text is of one pattern
-one_pattern : (xs ys : List Symbol) → flat_map symbol_text xs ≡ flat_map symbol_text ys → xs ≡ ys
+pub one_pattern : (xs ys : List Symbol) → flat_map symbol_text xs ≡ flat_map symbol_text ys → xs ≡ ys
 one_pattern [] [] e = refl
 one_pattern [] (y ∷ ys) e = absurd (some_symbol y (flat_map symbol_text ys) e)
 one_pattern (x ∷ xs) [] e = absurd (some_symbol x (flat_map symbol_text xs) (sym e))
@@ -90,7 +91,7 @@ clean_pattern [] fits = tt
 clean_pattern (x ∷ xs) fits = clean_append (symbol_text x) (flat_map symbol_text xs) (clean_symbol x fits.0) (clean_pattern xs fits.1)
 
 -- a rule's line in words
-pub rule_words : Rule → Words
+unfoldable pub rule_words : Rule → Words
 rule_words (OnePath path) = codes "path" ∷ path_text path ∷ []
 rule_words (LastName pattern) = codes "name" ∷ flat_map symbol_text pattern ∷ []
 
@@ -116,7 +117,7 @@ rules_are_lines [] fits = tt
 rules_are_lines (rule ∷ rules) fits = (rule_is_line rule fits.0, rules_are_lines rules fits.1)
 
 -- a line is of one rule
-one_rule : (x y : Rule) → RuleFits x → RuleFits y → rule_words x ≡ rule_words y → x ≡ y
+pub one_rule : (x y : Rule) → RuleFits x → RuleFits y → rule_words x ≡ rule_words y → x ≡ y
 unfolding rule_words
 one_rule (OnePath p) (OnePath q) fits_x fits_y e =
     let word = cons_parts (codes "path") (codes "path") (path_text p ∷ []) (path_text q ∷ []) e in

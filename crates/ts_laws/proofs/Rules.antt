@@ -1,26 +1,23 @@
 -- Whether a plan breaks a rule at a place: it is decided, and so is whether the plan is valid.
-use Rattle.std.proofs.Common.{◌≡◌, ◌≢◌, ◌⊎◌, ℕ, zero, suc, ◌+◌, ◌-◌, ◌%◌, ◌<◌, ◌≤◌, min, List, [], ◌∷◌, ◌++◌, length, get_or, Contains, Option, Some, None, slice_get, sum_by, count_by, sym, refl, ap, ◌∙◌, subst, inl, inr, append-nil, arith}
+use Rattle.std.proofs.Common.{◌≡◌, ◌≢◌, ◌⊎◌, ℕ, zero, suc, ◌+◌, ◌-◌, ◌%◌, ◌<◌, min, List, [], ◌∷◌, ◌++◌, length, get_or, Contains, Option, Some, None, slice_get, sum_by, count_by, sym, refl, ap, ◌∙◌, subst, inl, inr, append-nil, arith}
 use Rattle.std.specs.Ordering.{is_lt}
 use Rattle.std.proofs.lemmas.Bool.{cases_order}
 use Rattle.std.proofs.lemmas.List.Elements.{Contains-append_left, Contains-append_right}
 use Rattle.std.proofs.lemmas.List.Sums.{count_by-le-length}
 use Rattle.std.proofs.lemmas.Option.{none-some, same_Some, slice_get_within}
 use Rattle.std.proofs.Math.Decide.{map_dec}
-use Rattle.ts_name.specs.Paths.{Name, Path, IsAbove, IsBefore, path_cmp}
+use Rattle.ts_name.specs.Paths.{Path, IsAbove, IsBefore, path_cmp}
 use Rattle.ts_model.specs.Trees.{Print, sub}
-use Rattle.ts_model.specs.Sync.{Snapshot, IsSnapshot, replica, HasReason, Because, IsSkipped, IsChanged}
-use Rattle.ts_model.specs.Plans.{EntryIs, ActionIs, KindIs, Waits, source, Copies, IsCopied, IsMarked, piece_size, IsRange, IsPiece, WithinLimits, AscendBelow, entry_limit, action_limit, pred_limit, IsOutOfOrder, HasWrongReason, Lacks, Earlier, NotOneEach, NearestDir, rule_number, Wrong, Broken, Valid}
-use Rattle.ts_model.specs.Runs.{IsPieceOf}
+use Rattle.ts_model.specs.Sync.{Snapshot, IsSnapshot, replica, HasReason, Because}
+use Rattle.ts_model.specs.Plans.{EntryIs, KindIs, Waits, source, IsCopied, IsMarked, piece_size, IsRange, IsPiece, WithinLimits, AscendBelow, entry_limit, action_limit, pred_limit, IsOutOfOrder, Lacks, Earlier, NotOneEach, NearestDir, rule_number, Wrong, Broken, Valid}
 use Rattle.ts_model.specs.declared.plan.PlanRule.{PlanRule}
 use Rattle.ts_model.specs.declared.plan.PlanRule.TheVariants.{Limits, EntriesAscend, ReasonsHold, EntriesComplete, PredsAscend, OneCommit, PiecesLawful, PiecesComplete, OneMark, PiecesFirst, CommitFirst, DirFirst}
 use Rattle.ts_model.specs.declared.plan.Side.{Side}
-use Rattle.ts_model.specs.declared.plan.Side.TheVariants as side
 use Rattle.ts_model.specs.declared.plan.Reason.{Reason}
 use Rattle.ts_model.specs.declared.plan.Reason.TheVariants as reason
 use Rattle.ts_model.specs.declared.plan.Entry.{Entry}
 use Rattle.ts_model.specs.declared.plan.Kind.{Kind}
 use Rattle.ts_model.specs.declared.plan.Kind.TheVariants.{Piece, Commit, Mark}
-use Rattle.ts_model.specs.declared.plan.Action.{Action}
 use Rattle.ts_model.specs.declared.plan.Plan.{Plan}
 use Rattle.ts_model.specs.declared.row.Content.{Content}
 use Rattle.ts_model.specs.declared.row.Content.TheVariants.{Absent, Dir, File}
@@ -29,8 +26,9 @@ use Rattle.ts_laws.proofs.Basics.{by_each, stable, Dec-both, Dec-either, Dec-not
 use Rattle.ts_laws.proofs.Paths.{decide_above, decide_before, nothing_below, IsRooted}
 use Rattle.ts_laws.proofs.Lists.{Among, Contains-from_Among, decide_within, decide_ascend}
 use Rattle.ts_laws.proofs.Search.{decide_less, decide_at_most, decide_at, least_below, decide_number, decide_place, decide_more}
-use Rattle.ts_laws.proofs.Reasons.{decide_reason, decide_skipped, IsWhole, IsWhole-from_snapshot}
-use Rattle.ts_laws.proofs.Steps.{same_entry, decide_marked}
+use Rattle.ts_laws.proofs.Reasons.{decide_reason, IsWhole, IsWhole-from_snapshot}
+use Rattle.ts_laws.proofs.Steps.{decide_marked}
+use Rattle.ts_laws.proofs.ActionKinds.{PieceParts, piece_of, decide_commit, decide_mark, decide_piece, decide_some_kind, decide_earlier, kind_as, decide_piece_at, decide_entry_at, decide_of_entry, decide_not_one_each}
 use Rattle.ts_laws.proofs.Plans.{decide_waits}
 use Rattle.ts_laws.proofs.Deciding.{decide_has_reason, replica_tree}
 
@@ -56,6 +54,7 @@ rule_at-rule_number PiecesFirst = refl
 rule_at-rule_number CommitFirst = refl
 rule_at-rule_number DirFirst = refl
 
+-- one number is of one rule
 one_number : (r q : PlanRule) → rule_number r ≡ rule_number q → r ≡ q
 one_number r q e = sym (rule_at-rule_number r) ∙ ap rule_at e ∙ rule_at-rule_number q
 
@@ -74,53 +73,7 @@ one_broken s plan r q k l h g =
     same : r ≡ q
     same = one_number r q (equal_from_neither (rule_number r) (rule_number q) (λ less. g.earlier r k less h.wrong) (λ less. h.earlier q l less g.wrong))
 
--- ---- kinds
-
--- a commit, and its entry has a decided fact
-decide_commit : (P : ℕ → Type 0) → ((e : ℕ) → Dec (P e)) → (kind : Kind) → Dec ((e : ℕ) × (kind ≡ Commit e) × P e)
-decide_commit P d (Piece e offset size p) = no (λ h. let f = h.1 in cc)
-decide_commit P d (Mark e) = no (λ h. let f = h.1 in cc)
-decide_commit P d (Commit e) = elim (d e) [
-  | yes h ↦ yes (e, refl, h)
-  | no n ↦ no (λ h. n (subst P (let f = h.1 in cc) h.2))
-]
-
--- a mark, and its entry has it
-decide_mark : (P : ℕ → Type 0) → ((e : ℕ) → Dec (P e)) → (kind : Kind) → Dec ((e : ℕ) × (kind ≡ Mark e) × P e)
-decide_mark P d (Piece e offset size p) = no (λ h. let f = h.1 in cc)
-decide_mark P d (Commit e) = no (λ h. let f = h.1 in cc)
-decide_mark P d (Mark e) = elim (d e) [
-  | yes h ↦ yes (e, refl, h)
-  | no n ↦ no (λ h. n (subst P (let f = h.1 in cc) h.2))
-]
-
--- what a piece says
-pub record PieceParts : Type 0 where
-  pub entry : ℕ
-  pub offset : ℕ
-  pub size : ℕ
-  pub path : Path
-
--- as a kind
-abbrev piece_of : PieceParts → Kind
-piece_of x = Piece x.entry x.offset x.size x.path
-
--- a piece, and it has a decided fact
-decide_piece : (P : PieceParts → Type 0) → ((x : PieceParts) → Dec (P x)) → (kind : Kind) → Dec ((x : PieceParts) × (kind ≡ piece_of x) × P x)
-decide_piece P d (Commit e) = no (λ h. let f = h.1 in cc)
-decide_piece P d (Mark e) = no (λ h. let f = h.1 in cc)
-decide_piece P d (Piece e offset size p) = elim (d (record { entry = e; offset = offset; size = size; path = p })) [
-  | yes h ↦ yes (record { entry = e; offset = offset; size = size; path = p }, refl, h)
-  | no n ↦ no (λ h. n (subst P (same h.0 h.1) h.2))
-]
-  where
-    same : (x : PieceParts) → ◌≡◌ {A = Kind} (Piece e offset size p) (piece_of x) → x ≡ record { entry = e; offset = offset; size = size; path = p }
-    same x f =
-        let entries : x.entry ≡ e = cc in
-        let offsets : x.offset ≡ offset = cc in
-        let sizes : x.size ≡ size = cc in
-        let paths : x.path ≡ p = cc in
-        λ i. record { entry = entries i; offset = offsets i; size = sizes i; path = paths i }
+-- ---- parts of a plan
 
 -- whether a side is the source, with a decided fact
 decide_source : (o : Option Side) (P : Side → Type 0) → ((from : Side) → Dec (P from)) → Dec ((from : Side) × (o ≡ Some from) × P from)
@@ -137,7 +90,7 @@ decide_file (File x) P d = elim (d x) [ yes h ↦ yes (x, refl, h) | no n ↦ no
     same y f = cc
 
 -- whether some reason has a decided fact
-decide_some_reason : (P : Reason → Type 0) → ((r : Reason) → Dec (P r)) → Dec ((r : Reason) × P r)
+pub decide_some_reason : (P : Reason → Type 0) → ((r : Reason) → Dec (P r)) → Dec ((r : Reason) × P r)
 decide_some_reason P d = decide_within P d all (λ r h. Contains-from_Among all r (among r))
   where
     all : List Reason
@@ -180,73 +133,6 @@ decide_out_of_order entries (suc k) = map_dec
 -- ---- what the actions say
 
 module _ (plan : Plan) where
-  -- whether an action's kind has a decided fact
-  pub decide_kind_at : (i : ℕ) (P : Kind → Type 0) → ((kind : Kind) → Dec (P kind)) → Dec ((kind : Kind) × KindIs plan i kind × P kind)
-  decide_kind_at i P d = map_dec
-      (λ h. (h.0.kind, (h.0, h.1, refl), h.2))
-      (λ h. (h.1.0, h.1.1, subst P (sym h.1.2) h.2))
-      (decide_at plan.actions i (λ action. P action.kind) (λ action. d action.kind))
-
-  -- whether some action's kind has one
-  pub decide_some_kind : (P : ℕ → Kind → Type 0) → ((i : ℕ) (kind : Kind) → Dec (P i kind)) → Dec ((i : ℕ) × (kind : Kind) × KindIs plan i kind × P i kind)
-  decide_some_kind P d = map_dec
-      (λ h. (h.0, h.1.kind, (h.1, h.2, refl), h.3))
-      (λ h. (h.0, h.2.0, h.2.1, subst (P h.0) (sym h.2.2) h.3))
-      (decide_place plan.actions (λ i action. P i action.kind) (λ i action. d i action.kind))
-
-  -- whether an earlier action's kind has one
-  decide_earlier : (i : ℕ) (P : Kind → Type 0) → ((kind : Kind) → Dec (P kind)) → Dec (Earlier plan i P)
-  decide_earlier i P d = map_dec
-      (λ h. (h.0, h.2.0, h.1, h.2.1, h.2.2))
-      (λ h. (h.0, h.2, (h.1, h.3, h.4)))
-      (decide_number (λ j. (kind : Kind) × KindIs plan j kind × P kind) (λ j. decide_kind_at j P d) i)
-
-  -- a kind that is another
-  kind_as : (i : ℕ) (x y : Kind) → KindIs plan i x → x ≡ y → KindIs plan i y
-  kind_as i x y is e = subst (λ z. KindIs plan i z) e is
-
-  -- whether an action is a piece, with a decided fact
-  decide_piece_at : (i : ℕ) (P : PieceParts → Type 0) → ((x : PieceParts) → Dec (P x)) → Dec ((x : PieceParts) × KindIs plan i (piece_of x) × P x)
-  decide_piece_at i P d = map_dec
-      (λ h. (h.2.0, kind_as i h.0 (piece_of h.2.0) h.1 h.2.1, h.2.2))
-      (λ h. (piece_of h.0, h.1, (h.0, refl, h.2)))
-      (decide_kind_at i (λ kind. (x : PieceParts) × (kind ≡ piece_of x) × P x) (decide_piece P d))
-
-  -- ---- one commit and one mark for each entry that wants it
-
-  module _ (kind : ℕ → Kind) (each : (P : ℕ → Type 0) → ((e : ℕ) → Dec (P e)) → (k : Kind) → Dec ((e : ℕ) × (k ≡ kind e) × P e)) where
-    -- whether an action is of this kind, with a decided fact of its entry
-    decide_entry_at : (i : ℕ) (P : ℕ → Type 0) → ((e : ℕ) → Dec (P e)) → Dec ((e : ℕ) × KindIs plan i (kind e) × P e)
-    decide_entry_at i P d = map_dec
-        (λ h. (h.2.0, kind_as i h.0 (kind h.2.0) h.1 h.2.1, h.2.2))
-        (λ h. (kind h.0, h.1, (h.0, refl, h.2)))
-        (decide_kind_at i (λ k. (e : ℕ) × (k ≡ kind e) × P e) (each P d))
-
-    decide_is : (k : Kind) (e : ℕ) → Dec (k ≡ kind e)
-    decide_is k e = map_dec (λ h. h.1 ∙ ap kind h.2) (λ f. (e, f, refl)) (each (λ f. f ≡ e) (λ f. same_number f e) k)
-
-    -- whether the action of an entry is somewhere, with a decided fact of its number
-    decide_of_entry : (e : ℕ) (P : ℕ → Type 0) → ((i : ℕ) → Dec (P i)) → Dec ((i : ℕ) × KindIs plan i (kind e) × P i)
-    decide_of_entry e P d = map_dec
-        (λ h. (h.0, kind_as h.0 h.1 (kind e) h.2 h.3.0, h.3.1))
-        (λ h. (h.0, kind e, h.1, (refl, h.2)))
-        (decide_some_kind (λ i k. (k ≡ kind e) × P i) (λ i k. Dec-both (decide_is k e) (d i)))
-
-    -- whether an entry has no such action
-    decide_none : (e : ℕ) → Dec ((i : ℕ) → ¬ KindIs plan i (kind e))
-    decide_none e = map_dec
-        (λ none. λ i is. none (i, is, refl))
-        (λ none. λ h. none h.0 h.1)
-        (Dec-not (decide_of_entry e (λ i. i ≡ i) (λ i. yes refl)))
-
-    -- whether not just each entry that wants such an action has one
-    pub decide_not_one_each : (Wants : ℕ → Type 0) → ((e : ℕ) → Dec (Wants e)) → (place : ℕ) → Dec (NotOneEach plan kind Wants place)
-    decide_not_one_each Wants d place = Dec-either
-        (decide_entry_at place (λ e. (¬ Wants e) ⊎ Earlier plan place (λ k. k ≡ kind e))
-        (λ e. Dec-either (Dec-not (d e)) (decide_earlier place (λ k. k ≡ kind e) (λ k. decide_is k e))))
-        (map_dec (λ h. (h.0, h.1, h.2.0, h.2.1)) (λ h. (h.0, h.1, (h.2, h.3)))
-        (decide_more (length plan.actions) place (λ e. Wants e × ((i : ℕ) → ¬ KindIs plan i (kind e))) (λ e. Dec-both (d e) (decide_none e))))
-
   -- whether an entry is copied
   pub decide_copied : (e : ℕ) → Dec (IsCopied plan e)
   decide_copied e = map_dec
@@ -255,15 +141,6 @@ module _ (plan : Plan) where
       (decide_at plan.entries e (λ entry. (from : Side) × (source entry.reason ≡ Some from) × (from ≡ from))
       (λ entry. decide_source (source entry.reason) (λ from. from ≡ from) (λ from. yes refl)))
 
-  -- whether an action is a piece of a commit's entry
-  pub decide_piece_of : (c k : ℕ) → Dec (IsPieceOf plan c k)
-  decide_piece_of c k = map_dec
-      (λ h. record { entry = h.0; offset = h.2.0.offset; size = h.2.0.size; path = h.2.0.path; commit = h.1;
-        piece = kind_as k (piece_of h.2.0) (Piece h.0 h.2.0.offset h.2.0.size h.2.0.path) h.2.1 (λ i. Piece (h.2.2 i) h.2.0.offset h.2.0.size h.2.0.path) })
-      (λ (h : IsPieceOf plan c k). (h.entry, h.commit, (record { entry = h.entry; offset = h.offset; size = h.size; path = h.path }, h.piece, refl)))
-      (decide_entry_at Commit decide_commit c (λ e. (x : PieceParts) × KindIs plan k (piece_of x) × (x.entry ≡ e))
-      (λ e. decide_piece_at k (λ x. x.entry ≡ e) (λ x. same_number x.entry e)))
-
   -- ---- the nearest new directory above
 
   -- what the nearest is, besides an entry
@@ -271,6 +148,7 @@ module _ (plan : Plan) where
   IsNearest below dir = (dir.reason ≡ reason.Dir) × IsAbove dir.path below.path × (dir.path ≢ below.path)
       × ((k : ℕ) (other : Entry) → EntryIs plan k other → other.reason ≡ reason.Dir → IsAbove other.path below.path → other.path ≢ below.path → IsAbove other.path dir.path)
 
+  -- whether no other is nearer
   decide_nearer : (below dir : Entry)
       → Dec ((k : ℕ) (other : Entry) → EntryIs plan k other → other.reason ≡ reason.Dir → IsAbove other.path below.path → other.path ≢ below.path → IsAbove other.path dir.path)
   decide_nearer below dir = map_dec
@@ -281,6 +159,7 @@ module _ (plan : Plan) where
       (λ k other. Dec-both (decide_reason other.reason reason.Dir) (Dec-both (decide_above other.path below.path)
       (Dec-both (Dec-not (same_names other.path below.path)) (Dec-not (decide_above other.path dir.path)))))))
 
+  -- whether a new directory is the nearest
   decide_is_nearest : (below dir : Entry) → Dec (IsNearest below dir)
   decide_is_nearest below dir = map_dec
       (λ h. (h.0, h.1.0, h.1.1.0, h.1.1.1))
@@ -378,6 +257,7 @@ module _ (s : Snapshot) (lawful : IsSnapshot s) where
     abbrev IsSamePiece : ℕ → ℕ → Path → Kind → Type 0
     IsSamePiece e offset p kind = (other : ℕ) × (kind ≡ Piece e offset other p)
 
+    -- whether a kind is the same piece
     decide_same_piece : (e offset : ℕ) (p : Path) (kind : Kind) → Dec (IsSamePiece e offset p kind)
     decide_same_piece e offset p kind = map_dec
         (λ h. (h.0.size, h.1 ∙ again h.0 h.2))
@@ -387,6 +267,7 @@ module _ (s : Snapshot) (lawful : IsSnapshot s) where
         again : (x : PieceParts) → (x.entry ≡ e) × ((x.offset ≡ offset) × (x.path ≡ p)) → ◌≡◌ {A = Kind} (Piece x.entry x.offset x.size x.path) (Piece e offset x.size p)
         again x h = λ i. Piece (h.0 i) (h.1.0 i) x.size (h.1.1 i)
 
+    -- whether no action is one
     decide_no_piece : (e offset : ℕ) (p : Path) → Dec (IsNoPiece e offset p)
     decide_no_piece e offset p = map_dec
         (λ none. λ i other is. none (i, Piece e offset other p, is, (other, refl)))
@@ -397,7 +278,7 @@ module _ (s : Snapshot) (lawful : IsSnapshot s) where
     decide_lacks_piece : (e : ℕ) → Dec ((offset len : ℕ) × (p : Path) × IsPiece s plan e offset len p × IsNoPiece e offset p)
     decide_lacks_piece e = map_dec
         (λ h. let at_path = h.2.2.1 in let in_file = at_path.1.2 in
-            (in_file.0, _, h.2.2.0, (h.0, h.2.0, at_path.1.0, (h.1, h.2.1), at_path.0, at_path.1.1, in_file.2.0), in_file.2.1))
+        (in_file.0, _, h.2.2.0, (h.0, h.2.0, at_path.1.0, (h.1, h.2.1), at_path.0, at_path.1.1, in_file.2.0), in_file.2.1))
         (λ h. let piece = h.3 in (piece.0, piece.3.0, (piece.1, piece.3.1, (h.2, (piece.4, (piece.2, piece.5, (h.0, piece.6.within, (any_length piece.2.size h.0 h.1 piece.6, h.4))))))))
         (decide_at plan.entries e (λ entry. (from : Side) × (source entry.reason ≡ Some from) × LacksFrom entry from)
         (λ entry. decide_source (source entry.reason) (LacksFrom entry) (decide_from entry)))
@@ -490,6 +371,7 @@ module _ (s : Snapshot) (lawful : IsSnapshot s) where
     abbrev past : ℕ
     past = length plan.entries + length plan.actions + 1
 
+    -- a wrong place for such an action is within these
     one_each_within : (kind : ℕ → Kind) (Wants : ℕ → Type 0) → ((e : ℕ) → Wants e → e < length plan.entries) → (place : ℕ) → NotOneEach plan kind Wants place → place < past
     one_each_within kind Wants within place (inl h) = let less = kind_within place (kind h.0) h.1 in omega arith
     one_each_within kind Wants within place (inr h) = let less = within h.0 h.2 in omega (arith, h.1)
@@ -514,11 +396,12 @@ module _ (s : Snapshot) (lawful : IsSnapshot s) where
     abbrev IsBrokenAt : ℕ → Type 0
     IsBrokenAt n = (rule : PlanRule) × (rule_number rule ≡ n) × ((k : ℕ) × (k < past) × Wrong s plan rule k)
 
+    -- whether it is
     decide_broken_at : (n : ℕ) → Dec (IsBrokenAt n)
     decide_broken_at n = map_dec
         (λ h. (rule_at n, h.0, h.1))
         (λ h. let same : h.0 ≡ rule_at n = sym (rule_at-rule_number h.0) ∙ ap rule_at h.1 in
-            (ap rule_number (sym same) ∙ h.1, subst (λ r. (k : ℕ) × (k < past) × Wrong s plan r k) same h.2))
+        (ap rule_number (sym same) ∙ h.1, subst (λ r. (k : ℕ) × (k < past) × Wrong s plan r k) same h.2))
         (Dec-both (same_number (rule_number (rule_at n)) n) (decide_number (Wrong s plan (rule_at n)) (decide_wrong (rule_at n)) past))
 
     -- there are twelve
@@ -546,9 +429,13 @@ module _ (s : Snapshot) (lawful : IsSnapshot s) where
         first : (n : ℕ) → IsBrokenAt n → ((m : ℕ) → m < n → ¬ IsBrokenAt m) → (rule : PlanRule) × (place : ℕ) × Broken s plan rule place
         first n (rule, is, somewhere) none = elim (least_below (Wrong s plan rule) (decide_wrong rule) past) [
           | inr nowhere ↦ absurd (nowhere somewhere.0 somewhere.1 somewhere.2)
-          | inl found ↦ (rule, found.0, record {
+          | inl found ↦ (
+            rule,
+            found.0,
+            record {
               earlier = λ r k less wrong. none (rule_number r) (omega (arith, is, less)) (r, refl, (k, wrong_within r k wrong, wrong));
               wrong = found.2;
               least = found.3;
-            })
+            },
+          )
         ]

@@ -157,6 +157,7 @@ pub act_ready : (s : Snapshot) (plan : Plan) (r : Run) (i : ℕ) (step : Step) �
 act_ready s plan r i (Act j work) e allowed = subst (λ z. IsPending r z) (sym (eqb-true i j e)) allowed.0.0
 act_ready s plan r i _ e allowed = cc
 
+-- what each step has behind it
 pub record IsOrdered (plan : Plan) (r : Run) : Type 0 where
   pub claimed : (i j : ℕ) → Has r (claims i) → Waits plan i j → Has r (finishes j)
   pub acted : (i : ℕ) → Has r (acts i) → Has r (claims i)
@@ -191,6 +192,7 @@ ordered_next s plan r step counted ordered allowed = record {
         let a : Allowed s plan r (Claim i) = subst (λ z. Allowed s plan r z) (claim_is i step now) allowed in
         ordered.released j i (none_open plan r i waits.0 counted waits.1 a.0.2 j (Among-from_Contains waits.0.preds j waits.2))
 
+-- what each legal run has
 pub record IsRun (plan : Plan) (r : Run) : Type 0 where
   pub counted : IsCounted plan r
   pub ordered : IsOrdered plan r

@@ -87,6 +87,7 @@ pub record IsCommitted (s : Snapshot) (plan : Plan) (w : State) (step : Step) (o
   pub print : print_of content ≡ sub (replica s (other on)) entry.path
   pub tree : tree_on (after_step s plan w step) on ≡ graft (tree_on w on) entry.path content
 
+-- what a step does to a side
 pub data Change (s : Snapshot) (plan : Plan) (w : State) (step : Step) (on : Side) : Type 0 where
   kept : tree_on (after_step s plan w step) on ≡ tree_on w on → Change s plan w step on
   copied : (i e : ℕ) (entry : Entry) (rows : Listing (List ℕ)) → step ≡ Act i (Put rows) → KindIs plan i (Commit e) → EntryIs plan e entry → source entry.reason ≡ Some (other on)
@@ -167,6 +168,7 @@ decide_marked plan e = go (slice_get plan.entries e) refl
 pub mark_is_marked : (s : Snapshot) (plan : Plan) → Valid s plan → (i e : ℕ) → KindIs plan i (Mark e) → IsMarked plan e
 mark_is_marked s plan valid i e kind = stable (decide_marked plan e) (λ n. valid OneMark i (inl (e, kind, inl n)))
 
+-- what a step does to the archive
 pub data Marking (s : Snapshot) (plan : Plan) (w : State) (step : Step) : Type 0 where
   unmarked : (after_step s plan w step).archive ≡ w.archive → Marking s plan w step
   marks : (i e : ℕ) (entry : Entry) → step ≡ Act i Marked → KindIs plan i (Mark e) → EntryIs plan e entry → ¬ IsSkipped entry.reason

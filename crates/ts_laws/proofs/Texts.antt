@@ -71,9 +71,27 @@ one_bundle_text = record {
 
 -- ---- archives, whose last line counts rows without a limit, so it is told by its first byte alone
 
--- the lines before the last
-abbrev front_words : Listing Stamp → List Words
+-- the lines before the last, in words
+abbrev pub front_words : Listing Stamp → List Words
 front_words rows = (codes "twosync-archive" ∷ codes "1" ∷ []) ∷ print_words rows
+
+-- each is a line
+pub front_are_lines : (rows : Listing Stamp) → PrintFits rows → AreLines (front_words rows)
+front_are_lines rows fits = ((clean_from_test (codes "twosync-archive") refl, clean_from_test (codes "1") refl), print_are_lines rows fits)
+
+-- the words spell the lines
+pub front_spelled : (rows : Listing Stamp) → codes "twosync-archive 1" ∷ print_lines rows ≡ map words (front_words rows)
+front_spelled rows = ap (λ z. codes "twosync-archive 1" ∷ z) (print_spelled rows)
+
+-- those lines are of one print
+one_front_words : (x y : Listing Stamp) → PrintFits x → PrintFits y → front_words x ≡ front_words y → x ≡ y
+one_front_words x y fits_x fits_y e = (one_print x y (codes "end") [] [] fits_x fits_y (ended (print_words x) (print_words y)
+    (cons_parts (codes "twosync-archive" ∷ codes "1" ∷ []) (codes "twosync-archive" ∷ codes "1" ∷ []) (print_words x) (print_words y) e).1)).0
+
+-- and so is their text
+pub one_front : (x y : Listing Stamp) → PrintFits x → PrintFits y → archive_front x ≡ archive_front y → x ≡ y
+one_front x y fits_x fits_y e = one_front_words x y fits_x fits_y
+    (one_lines (front_words x) (front_words y) (codes "twosync-archive 1" ∷ print_lines x) (codes "twosync-archive 1" ∷ print_lines y) (front_are_lines x fits_x) (front_are_lines y fits_y) (front_spelled x) (front_spelled y) e)
 
 -- an archive's text is of one print
 pub one_archive_text : OneToOne IsArchiveText
@@ -81,16 +99,12 @@ one_archive_text = record {
   one_value = λ bytes x y is_x is_y.
       let fits_x = print_fits x is_x.print in
       let fits_y = print_fits y is_y.print in
-      let fronts = one_spelling_before 101 (front_words x) (front_words y) _ _ (front_lines x fits_x) (front_lines y fits_y) (front_other x) (front_other y)
-      (sym (spelled x) ∙ sym is_x.spelled ∙ is_y.spelled ∙ spelled y) in
-      (one_print x y (codes "end") [] [] fits_x fits_y (ended (print_words x) (print_words y)
-      (cons_parts (codes "twosync-archive" ∷ codes "1" ∷ []) (codes "twosync-archive" ∷ codes "1" ∷ []) (print_words x) (print_words y) fronts).1)).0;
+      one_front_words x y fits_x fits_y
+      (one_spelling_before 101 (front_words x) (front_words y) _ _ (front_are_lines x fits_x) (front_are_lines y fits_y) (front_other x) (front_other y)
+      (sym (spelled x) ∙ sym is_x.spelled ∙ is_y.spelled ∙ spelled y));
   one_text = λ bytes more x is_x is_y. is_x.spelled ∙ sym is_y.spelled;
 }
   where
-    front_lines : (rows : Listing Stamp) → PrintFits rows → AreLines (front_words rows)
-    front_lines rows fits = ((clean_from_test (codes "twosync-archive") refl, clean_from_test (codes "1") refl), print_are_lines rows fits)
-
     front_other : (rows : Listing Stamp) → AllByRecursion (StartsOther 101) (front_words rows)
     front_other rows = (λ u v e. absurd (let k : ◌≡◌ {A = ℕ} 116 101 = cc in omega arith), rows_start_other rows)
 
@@ -99,4 +113,4 @@ one_archive_text = record {
     last rows = text (words (codes "end" ∷ decimal (length (print_lines rows)) ∷ encode_lower (sha256 (archive_front rows)) ∷ []) ∷ [])
 
     spelled : (rows : Listing Stamp) → archive_text rows ≡ spell (front_words rows) ++ 101 ∷ drop 1 (last rows)
-    spelled rows = ap (λ z. z ++ last rows) (spells (codes "twosync-archive 1" ∷ print_lines rows) (front_words rows) (ap (λ z. codes "twosync-archive 1" ∷ z) (print_spelled rows)))
+    spelled rows = ap (λ z. z ++ last rows) (spells (codes "twosync-archive 1" ∷ print_lines rows) (front_words rows) (front_spelled rows))

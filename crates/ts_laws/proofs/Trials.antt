@@ -1,20 +1,18 @@
 -- What `trial` answers for a bundle: something, since the plan is refused or is run to its end.
-use Rattle.std.proofs.Math.Decide.{map_dec}
-use Rattle.std.proofs.Common.{◌≡◌, ◌≢◌, ◌⊎◌, ℕ, zero, suc, ◌^◌, ◌<◌, min, Bool, true, false, cond, List, [], ◌∷◌, ◌++◌, length, codes, decimal, refl, sym, ap, ◌∙◌, subst, inl, inr, arith}
+use Rattle.std.proofs.Common.{◌≡◌, ◌≢◌, ◌⊎◌, ℕ, zero, suc, ◌<◌, Bool, true, false, cond, List, [], ◌∷◌, ◌++◌, refl, sym, ap, ◌∙◌, subst, inl, inr, arith}
 use Rattle.std.specs.List.{AllByRecursion}
 use Rattle.std.specs.Int.{to_be_bytes, w32}
 use Rattle.std.specs.Prelude.{slice_index}
 use Rattle.sha2.specs.Sha256.{sha256, digest_bytes, final_hash, initial_hash_256}
 use Rattle.sha2.proofs.Facts256.{length-sha256}
 use Rattle.ts_name.specs.Paths.{Path, same_path}
-use Rattle.ts_model.specs.Trees.{Tree, Print, Listing, listed, at, sub, stamped, print_of, IsTree, AreApart}
+use Rattle.ts_model.specs.Trees.{Tree, Print, Listing, listed, at, stamped, IsTree, AreApart}
 use Rattle.ts_model.specs.Sync.{Snapshot, HasReason, IsDirty, IsSkipped, Synced}
-use Rattle.ts_model.specs.Plans.{rule_number, Broken, Valid}
-use Rattle.ts_model.specs.Runs.{Run, State, after, start}
-use Rattle.ts_model.specs.Headline.{FinalArchive, Meets, IsComplete}
-use Rattle.ts_model.specs.Texts.{Bundle, IsBundle, IsBundleText, IsBytes, FileFits, StampFits, IsTreeBody, IsPrintBody, text, words}
-use Rattle.ts_model.specs.Trial.{snapshot_of, skipped_count, result_lines, IsRefused, IsResult, IsNoBundle, HasContentsApart, Trial}
-use Rattle.ts_model.specs.declared.plan.PlanRule.{PlanRule}
+use Rattle.ts_model.specs.Plans.{Valid}
+use Rattle.ts_model.specs.Runs.{Run, after, start}
+use Rattle.ts_model.specs.Headline.{FinalArchive, Meets}
+use Rattle.ts_model.specs.Texts.{Bundle, IsBundle, IsBundleText, IsBytes, FileFits, StampFits}
+use Rattle.ts_model.specs.Trial.{snapshot_of, IsNoBundle, HasContentsApart}
 use Rattle.ts_model.specs.declared.plan.Reason.{Reason}
 use Rattle.ts_model.specs.declared.plan.Side.{Side}
 use Rattle.ts_model.specs.declared.plan.Side.TheVariants as side
@@ -23,8 +21,8 @@ use Rattle.ts_model.specs.declared.row.Content.TheVariants.{Absent, Dir, File}
 use Rattle.ts_model.specs.declared.row.Row.{Row}
 use Rattle.ts_model.specs.declared.row.Stamp.{Stamp}
 use Rattle.ts_laws.specs.Laws.{HasAnswer, IsAnswered, Finishes}
-use Rattle.ts_laws.proofs.Basics.{Start, at_each, stable, Dec-both, IsTree-from_print, same_number}
-use Rattle.ts_laws.proofs.Search.{decide_less, decide_each}
+use Rattle.ts_laws.proofs.Settings.{Begun, begun_at, ran_at}
+use Rattle.ts_laws.proofs.Basics.{Start, at_each, stable, IsTree-from_print}
 use Rattle.ts_laws.proofs.Reasons.{IsWhole-from_snapshot, Place, inside, outside, place_of}
 use Rattle.ts_laws.proofs.Steps.{tree_on}
 use Rattle.ts_laws.proofs.Kept.{pair}
@@ -32,6 +30,7 @@ use Rattle.ts_laws.proofs.Deciding.{decide_dirty}
 use Rattle.ts_laws.proofs.Pairs.{either, which, pair_dirs, pair_edge}
 use Rattle.ts_laws.proofs.Listings.{weaker}
 use Rattle.ts_laws.proofs.Words.{all_append}
+use Rattle.ts_laws.proofs.ReadTrees.{decide_stamp_fits}
 use Rattle.ts_laws.proofs.Rows.{IsListingOf, listing_of}
 use Rattle.ts_laws.proofs.Rules.{valid_or_broken}
 use Rattle.ts_laws.proofs.Finishing.{finish}
@@ -77,21 +76,20 @@ stamp_fits Absent fits = tt
 stamp_fits Dir fits = tt
 stamp_fits (File bytes) fits = (fits.1, bytes-sha256 bytes, length-sha256 bytes)
 
--- whether a stamp fits
-decide_stamp_fits : (x : Content Stamp) → Dec (StampFits x)
-decide_stamp_fits Absent = yes tt
-decide_stamp_fits Dir = yes tt
-decide_stamp_fits (File stamp) = map_dec (λ h. (h.0, h.1.0, h.1.1)) (λ h. (h.0, (h.1, h.2)))
-    (Dec-both (decide_less stamp.size (2 ^ 64)) (Dec-both (decide_each (λ b. b < 256) (λ b. decide_less b 256) stamp.digest) (same_number (length stamp.digest) 32)))
-
 -- ---- the end of a run of a valid plan
 
 module _ (b : Bundle) (is : IsBundle b) (contents : AreApart (Meets (at b.first) (at b.second) [])) (valid : Valid (snapshot_of b) b.plan) where
+  -- what the checker reads
   abbrev s : Snapshot
   s = snapshot_of b
 
-  begin : Start s (at b.first) (at b.second)
+  -- its replicas
+  abbrev begin : Start s (at b.first) (at b.second)
   begin = Start-from_bundle b is
+
+  -- before a run
+  abbrev begun : Begun
+  begun = begun_at s b.plan valid (at b.first) (at b.second) begin
 
   -- what any pair has at a path, one of the replicas has there, or it is a directory
   pair_fits : (P : Content (List ℕ) → Type 0) → P Dir → ((from : Side) (q : Path) → P (tree_on (start s (at b.first) (at b.second)) from q))
@@ -130,35 +128,40 @@ module _ (b : Bundle) (is : IsBundle b) (contents : AreApart (Meets (at b.first)
       fits = pair_fits FileFits tt replica_fits c d synced
 
       go : (x : Listing (List ℕ)) × IsListingOf c x → (y : Listing (List ℕ)) × IsListingOf d y → (z : Listing Stamp) × IsListingOf archive z → HasAnswer b
-      go (x, lists_x) (y, lists_y) (z, lists_z) = (_, _, inr (record {
-        first = x;
-        second = y;
-        archive = z;
-        bodies = (
-          record { listing = lists_x.listing; files = listed_fits FileFits c x lists_x (fits side.First) },
-          record { listing = lists_y.listing; files = listed_fits FileFits d y lists_y (fits side.Second) },
-          record { listing = lists_z.listing; stamps = listed_fits StampFits archive z lists_z (archive_fits c (fits side.First) archive final) },
-        );
-        valid = valid;
-        pair = subst (λ t. Synced s (at b.first) (at b.second) (at x) t) (sym lists_y.same) (subst (λ t. Synced s (at b.first) (at b.second) t d) (sym lists_x.same) synced);
-        final = subst (λ t. FinalArchive s (at x) t) (sym lists_z.same) (subst (λ t. FinalArchive s t archive) (sym lists_x.same) final);
-        says = (refl, refl);
-      }))
+      go (x, lists_x) (y, lists_y) (z, lists_z) = (
+        _,
+        _,
+        inr (record {
+          first = x;
+          second = y;
+          archive = z;
+          bodies = (
+            record { listing = lists_x.listing; files = listed_fits FileFits c x lists_x (fits side.First) },
+            record { listing = lists_y.listing; files = listed_fits FileFits d y lists_y (fits side.Second) },
+            record { listing = lists_z.listing; stamps = listed_fits StampFits archive z lists_z (archive_fits c (fits side.First) archive final) },
+          );
+          valid = valid;
+          pair = subst (λ t. Synced s (at b.first) (at b.second) (at x) t) (sym lists_y.same) (subst (λ t. Synced s (at b.first) (at b.second) t d) (sym lists_x.same) synced);
+          final = subst (λ t. FinalArchive s (at x) t) (sym lists_z.same) (subst (λ t. FinalArchive s t archive) (sym lists_x.same) final);
+          says = (refl, refl);
+        }),
+      )
 
   -- what is left once each action is done makes a result
   result_of_run : (more : Run) → Finishes s b.plan (at b.first) (at b.second) [] more → HasAnswer b
   result_of_run more finishes =
       let apart = λ (x y : List ℕ) (met_x : Meets (at b.first) (at b.second) more x) (met_y : Meets (at b.first) (at b.second) more y). contents x y (finishes.met x met_x) (finishes.met y met_y) in
-      let done = complete s b.plan valid (at b.first) (at b.second) begin more finishes.legal apart finishes.done in
-      let closed = archive_is_closed s b.plan valid begin.lawful (at b.first) (at b.second) more finishes.legal in
+      let ran = ran_at begun more finishes.legal apart in
+      let done = complete ran finishes.done in
+      let closed = archive_is_closed begun.setting more finishes.legal in
       let w = after s b.plan (start s (at b.first) (at b.second)) more in
-      let asks = asks_for_same s b.plan valid (at b.first) (at b.second) begin more finishes.legal apart w.first w.second done.0 closed.0 closed.1 in
+      let asks = asks_for_same ran w.first w.second done.0 closed.0 closed.1 in
       result_from w.first w.second w.archive done.0 done.1 (IsTree-from_print w.first asks.lawful.first) (IsTree-from_print w.second asks.lawful.second)
       (subst (λ t. IsTree t) (sym closed.2) asks.lawful.archive)
 
   -- a valid plan has a result
   pub has_result : HasAnswer b
-  has_result = let found = finish s b.plan valid (at b.first) (at b.second) begin [] tt (λ i. refl) in result_of_run found.0 found.1
+  has_result = let found = finish begun [] tt (λ i. refl) in result_of_run found.0 found.1
 
 -- a bundle has an answer
 pub some_answer : (b : Bundle) → IsBundle b → AreApart (Meets (at b.first) (at b.second) []) → HasAnswer b
@@ -168,6 +171,6 @@ some_answer b is contents = elim (valid_or_broken (snapshot_of b) (Start-from_bu
 ]
 
 -- bytes that are of a bundle, or of none, have an answer
-pub some_trial : (bytes : List ℕ) → HasContentsApart bytes → ((b : Bundle) × IsBundleText bytes b) ⊎ IsNoBundle bytes → IsAnswered bytes
-some_trial bytes contents (inr none) = (_, _, inl (none, (refl, refl)))
-some_trial bytes contents (inl (b, is)) = let found = some_answer b is.bundle (contents b is) in (found.0, found.1, inr (b, is, found.2))
+pub some_trial_of : (bytes : List ℕ) → HasContentsApart bytes → ((b : Bundle) × IsBundleText bytes b) ⊎ IsNoBundle bytes → IsAnswered bytes
+some_trial_of bytes contents (inr none) = (_, _, inl (none, (refl, refl)))
+some_trial_of bytes contents (inl (b, is)) = let found = some_answer b is.bundle (contents b is) in (found.0, found.1, inr (b, is, found.2))

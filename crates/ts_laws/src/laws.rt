@@ -1,33 +1,23 @@
 //! The laws. Each function has an empty body, and its contract is the law.
 
-ghost use Rattle.std.specs.List.{list_any};
-ghost use Rattle.std.specs.Prelude.{◌≡◌, ◌⊎◌, ℕ, Bool, not, List, [], length, count_by};
-ghost use Rattle.ts_model.specs.Headline.{AllDone, ArchiveAgrees, Completes, FinalArchive, HasOnePair, Meets, NotStuck, OnePair, OriginalOrFinal, Premises};
-ghost use Rattle.ts_model.specs.declared.hold.Rule.{Rule};
-ghost use Rattle.ts_model.specs.Plans.{ActionIs, Valid};
-ghost use Rattle.ts_model.specs.Resume.{ArchiveIsClosed, CanResume, CutsAreLegal, IsClosedPart, archive_of_part, stopped};
-ghost use Rattle.ts_model.specs.Runs.{Has, IsPieceOf, Legal, Run, after, claims, finishes, open_count, releases, start};
-ghost use Rattle.ts_model.specs.Sync.{HasReason, IsSnapshot, Snapshot, Synced};
+ghost use Rattle.std.specs.Prelude.{◌≡◌, ◌⊎◌, ℕ, List, []};
+ghost use Rattle.ts_laws.specs.Laws.{AreDecided, ArePrinted, CanFinish, CountsOpen, DirsAreParents, DirtIsDifference, EndsAlike, EntriesAreReasons, FindsPieces, HasAnswer, IsAnswered, IsDecided, IsReasonDecided, Keeps, OneToOne, ValidExample};
+ghost use Rattle.ts_model.specs.Headline.{ArchiveAgrees, Completes, FinalArchive, HasOnePair, Meets, NotStuck, OnePair, OriginalOrFinal};
+ghost use Rattle.ts_model.specs.Plans.{Valid};
+ghost use Rattle.ts_model.specs.Resume.{ArchiveIsClosed, CanResume, CutsAreLegal};
+ghost use Rattle.ts_model.specs.Sync.{HasReason, IsSnapshot, Snapshot, listed_snapshot};
 ghost use Rattle.ts_model.specs.Texts.{Bundle, IsArchiveText, IsBundle, IsBundleText, IsPlanText, IsPrintText, IsRulesText, IsTreeText};
 ghost use Rattle.ts_model.specs.Trees.{AreApart, IsListing, Listing, Print, Tree, at, print_of};
-ghost use Rattle.ts_model.specs.Trial.{HasContentsApart, IsNoBundle, IsRefused, IsResult, Trial};
-ghost use Rattle.ts_laws.specs.Laws.{ArePrinted, CanFinish, DirtIsDifference, EntriesAreReasons, HasAnswer, IsAnswered, IsDecided, OneToOne, ValidExample};
-ghost use Rattle.ts_model.specs.declared.plan.Action.{Action};
+ghost use Rattle.ts_model.specs.Trial.{HasContentsApart, IsRefused, IsResult, Trial};
+ghost use Rattle.ts_model.specs.declared.hold.Rule.{Rule};
 ghost use Rattle.ts_model.specs.declared.plan.Plan.{Plan};
+ghost use Rattle.ts_model.specs.declared.plan.PlanRule.TheVariants.{EntriesComplete, ReasonsHold};
 ghost use Rattle.ts_model.specs.declared.plan.Reason.{Reason};
 ghost use Rattle.ts_model.specs.declared.plan.Side.{Side};
 ghost use Rattle.ts_model.specs.declared.row.Stamp.{Stamp};
 ghost use Rattle.ts_name.specs.Paths.{Path};
 
-/// While nothing failed and nothing that was claimed is open, all is done or something may be claimed.
-pub fn not_stuck()
-    ensures { (s : Snapshot) (plan : Plan) → Valid s plan → NotStuck s plan }
-{}
-
-/// A legal run without a failure, stopped anywhere, goes on without one until each action is done: no valid plan is a dead end.
-pub fn can_finish()
-    ensures { (s : Snapshot) (plan : Plan) → Valid s plan → CanFinish s plan }
-{}
+// ---- What every run of a valid plan keeps, and where it ends.
 
 /// Each path of each replica is original or final. Conflicts and held paths are as they were.
 pub fn original_or_final()
@@ -44,9 +34,36 @@ pub fn completes()
     ensures { (s : Snapshot) (plan : Plan) → Valid s plan → Completes s plan }
 {}
 
+/// While nothing failed and nothing that was claimed is open, all is done or something may be claimed.
+pub fn not_stuck()
+    ensures { (s : Snapshot) (plan : Plan) → Valid s plan → NotStuck s plan }
+{}
+
+/// A legal run without a failure, stopped anywhere, goes on without one until each action is done: no valid plan is a dead end.
+pub fn can_finish()
+    ensures { (s : Snapshot) (plan : Plan) → Valid s plan → CanFinish s plan }
+{}
+
+/// A commit that is claimed finds each of its pieces done.
+pub fn claimed_commits_find_their_pieces()
+    ensures { (s : Snapshot) (plan : Plan) → Valid s plan → FindsPieces s plan }
+{}
+
+/// The open predecessors of an action are those that were not released to it.
+pub fn words_count_open()
+    ensures { (s : Snapshot) (plan : Plan) → Valid s plan → CountsOpen s plan }
+{}
+
+// ---- Runs that were stopped.
+
 /// What a stopped run leaves asks for the same pair, from the archive of any closed part of its marks.
 pub fn can_resume()
     ensures { (s : Snapshot) (plan : Plan) → Valid s plan → CanResume s plan }
+{}
+
+/// Any valid plan for what a stopped run left, once it is done, ends with the same pair and the same final archive.
+pub fn resumed_runs_end_alike()
+    ensures { (s : Snapshot) (plan : Plan) → Valid s plan → EndsAlike s plan }
 {}
 
 /// Commits that were cut while they acted may be added to the run.
@@ -59,35 +76,11 @@ pub fn archive_is_closed()
     ensures { (s : Snapshot) (plan : Plan) → Valid s plan → ArchiveIsClosed s plan }
 {}
 
+// ---- What a snapshot asks for.
+
 /// A snapshot asks for one pair.
 pub fn one_pair()
     ensures { (s : Snapshot) → OnePair s }
-{}
-
-/// Whether a path has a reason, and which, is decided.
-pub fn decided_reasons()
-    ensures { (s : Snapshot) (p : Path) (r : Reason) → IsSnapshot s → Dec (HasReason s p r) }
-{}
-
-/// The entries of a valid plan are exactly the paths with a reason, each once and with that reason.
-pub fn entries_are_reasons()
-    ensures { (s : Snapshot) (plan : Plan) → IsSnapshot s → Valid s plan → EntriesAreReasons s plan }
-{}
-
-/// A plan is valid, or one rule is broken first, at one place.
-pub fn decided_rules()
-    ensures { (s : Snapshot) (plan : Plan) → IsSnapshot s → IsDecided s plan }
-{}
-
-/// Where a tree has the archive as its print and contents are apart, a path away from all held paths is dirty in a replica exactly where
-/// its subtrees in the replica and in that tree differ.
-pub fn dirt_is_difference()
-    ensures { (s : Snapshot) (on : Side) (t o : Tree) → IsSnapshot s → ArePrinted s on t o → DirtIsDifference s on t o }
-{}
-
-/// A path has one reason at most.
-pub fn one_reason()
-    ensures { (s : Snapshot) (p : Path) (r q : Reason) → HasReason s p r → HasReason s p q → r ≡ q }
 {}
 
 /// Listed replicas and a listed archive ask for one pair.
@@ -107,21 +100,45 @@ pub fn one_listing()
     ensures { (xs ys : Listing (List ℕ)) → IsListing xs → IsListing ys → at xs ≡ at ys → xs ≡ ys }
 {}
 
-/// `trial` answers something for a bundle whose contents are apart.
-pub fn some_answer()
-    ensures { (b : Bundle) → IsBundle b → AreApart (Meets (at b.first) (at b.second) []) → HasAnswer b }
+/// Where a tree has the archive as its print and contents are apart, a path away from all held paths is dirty in a replica exactly where
+/// its subtrees in the replica and in that tree differ.
+pub fn dirt_is_difference()
+    ensures { (s : Snapshot) (on : Side) (t o : Tree) → IsSnapshot s → ArePrinted s on t o → DirtIsDifference s on t o }
 {}
 
-/// `trial` answers something for bytes that are of a bundle, or of none, where contents are apart.
-pub fn some_trial()
-    ensures { (bytes : List ℕ) → HasContentsApart bytes → ((b : Bundle) × IsBundleText bytes b) ⊎ IsNoBundle bytes → IsAnswered bytes }
+// ---- Reasons and rules.
+
+/// A path has one reason at most.
+pub fn one_reason()
+    ensures { (s : Snapshot) (p : Path) (r q : Reason) → HasReason s p r → HasReason s p q → r ≡ q }
 {}
 
-/// What `trial` answers for a bundle is one text and one status.
-pub fn one_answer()
-    ensures { (b : Bundle) (v w : List ℕ) (m n : ℕ) → IsBundle b → IsRefused b v m ⊎ IsResult b v m → IsRefused b w n ⊎ IsResult b w n
-        → (v ≡ w) × (m ≡ n) }
+/// Whether a path has a reason, and which, is decided.
+pub fn decided_reasons()
+    ensures { (s : Snapshot) (p : Path) → IsSnapshot s → IsReasonDecided s p }
 {}
+
+/// The entries of a valid plan are exactly the paths with a reason, each once and with that reason.
+pub fn entries_are_reasons()
+    ensures { (s : Snapshot) (plan : Plan) → IsSnapshot s → Valid s plan → EntriesAreReasons s plan }
+{}
+
+/// Where each entry has its path's reason and no path with a reason is missing, the nearest new directory above an entry is at its parent.
+pub fn nearest_dirs_are_parents()
+    ensures { (s : Snapshot) (plan : Plan) → IsSnapshot s → Keeps s plan ReasonsHold → Keeps s plan EntriesComplete → DirsAreParents plan }
+{}
+
+/// A plan is valid, or one rule is broken first, at one place.
+pub fn decided_rules()
+    ensures { (s : Snapshot) (plan : Plan) → IsSnapshot s → IsDecided s plan }
+{}
+
+/// The premises can be met, by a valid plan of a piece, a commit and a mark.
+pub fn some_plan_is_valid()
+    ensures { ValidExample }
+{}
+
+// ---- Texts.
 
 /// A text is of one tree, and a tree has one text.
 pub fn one_tree_text()
@@ -153,35 +170,30 @@ pub fn one_bundle_text()
     ensures { OneToOne IsBundleText }
 {}
 
+/// Whether bytes are the text of a tree, print, archive, rules, plan or bundle is decided.
+pub fn decided_texts()
+    ensures { (bytes : List ℕ) → AreDecided bytes }
+{}
+
+// ---- Trials.
+
+/// `trial` answers something for a bundle whose contents are apart.
+pub fn some_answer()
+    ensures { (b : Bundle) → IsBundle b → AreApart (Meets (at b.first) (at b.second) []) → HasAnswer b }
+{}
+
+/// What `trial` answers for a bundle is one text and one status.
+pub fn one_answer()
+    ensures { (b : Bundle) (v w : List ℕ) (m n : ℕ) → IsBundle b → IsRefused b v m ⊎ IsResult b v m → IsRefused b w n ⊎ IsResult b w n
+        → (v ≡ w) × (m ≡ n) }
+{}
+
+/// `trial` answers something, whatever the bytes, where the contents of a bundle's files are apart.
+pub fn some_trial()
+    ensures { (bytes : List ℕ) → HasContentsApart bytes → IsAnswered bytes }
+{}
+
 /// `trial` answers one text and one status, whatever the bytes.
 pub fn one_trial()
     ensures { (bytes v w : List ℕ) (m n : ℕ) → Trial bytes v m → Trial bytes w n → (v ≡ w) × (m ≡ n) }
-{}
-
-/// A commit that is claimed finds each of its pieces done.
-pub fn claimed_commits_find_their_pieces()
-    ensures { (s : Snapshot) (plan : Plan) (r : Run) (c k : ℕ) → Valid s plan → Legal s plan r → Has r (claims c) → IsPieceOf plan c k
-        → Has r (finishes k) }
-{}
-
-/// The open predecessors of an action are those that were not released to it.
-pub fn words_count_open()
-    ensures { (s : Snapshot) (plan : Plan) (r : Run) (i : ℕ) (action : Action) → Valid s plan → Legal s plan r → ActionIs plan i action
-        → open_count plan r i ≡ count_by (λ j. not (list_any (releases j i) r)) action.preds }
-{}
-
-/// Any valid plan for what a stopped run left, once it is done, ends with the same pair and the same final archive.
-pub fn resumed_runs_end_alike()
-    ensures { (s : Snapshot) (plan : Plan) (a b c d : Tree) (r : Run) (part : ℕ → Bool) → Valid s plan → Premises s a b r → Legal s plan r
-        → Synced s a b c d → IsClosedPart plan r part
-        → let w = after s plan (start s a b) r in
-        let t = stopped s w (archive_of_part s plan part (length plan.actions)) in
-        (next : Plan) (more : Run) → Valid t next → Legal t next more → AreApart (Meets w.first w.second more) → AllDone next more
-        → let v = after t next (start t w.first w.second) more in
-        (v.first ≡ c) × (v.second ≡ d) × FinalArchive s c v.archive }
-{}
-
-/// The premises can be met, by a valid plan of a piece, a commit and a mark.
-pub fn some_plan_is_valid()
-    ensures { ValidExample }
 {}

@@ -173,10 +173,13 @@ first_end bytes i e =
     let here : get_or bytes i 0 ≡ 0 = eqb-true _ _ at.1 in
     let inside : i < length bytes = at.0 in
     let split : bytes ≡ take i bytes ++ (get_or bytes i 0 ∷ drop (suc i) bytes) = sym (take-append-drop i bytes) ∙ ap (λ z. take i bytes ++ z) (drop-cons bytes i 0 inside) in
-    let next : suc i ≡ i + 1 = omega arith in
-    (split ∙ ap₂ (λ x n. take i bytes ++ (x ∷ drop n bytes)) here next, free_by_index (take i bytes) (λ k l.
-      let below : k < i = omega (arith, length-take i bytes) in
-      nonzero (get_or (take i bytes) k 0) (ap (λ x. x == 0) (get_or-take i bytes k 0 below) ∙ at.2 k below)), inside)
+    let next : suc i ≡ i + 1 = omega arith in (
+      split ∙ ap₂ (λ x n. take i bytes ++ (x ∷ drop n bytes)) here next,
+      free_by_index (take i bytes) (λ k l.
+          let below : k < i = omega (arith, length-take i bytes) in
+          nonzero (get_or (take i bytes) k 0) (ap (λ x. x == 0) (get_or-take i bytes k 0 below) ∙ at.2 k below)),
+      inside,
+    )
 
 -- ---- whole buffers, by their names
 
@@ -292,16 +295,18 @@ pub IsPath-parts : (p q : Path) → IsPath (p ++ q) → IsPath p × IsPath q
 IsPath-parts p q h =
     let names = lawful_left p q h.names in
     let deep = h.depth in
-    let long = h.size in
-    (record {
-      names = names.0;
-      depth = omega (arith, length-append p q);
-      size = omega (arith, sum_by-append {X = List ℕ} length p q);
-    }, record {
-      names = names.1;
-      depth = omega (arith, length-append p q);
-      size = omega (arith, sum_by-append {X = List ℕ} length p q);
-    })
+    let long = h.size in (
+      record {
+        names = names.0;
+        depth = omega (arith, length-append p q);
+        size = omega (arith, sum_by-append {X = List ℕ} length p q);
+      },
+      record {
+        names = names.1;
+        depth = omega (arith, length-append p q);
+        size = omega (arith, sum_by-append {X = List ℕ} length p q);
+      },
+    )
 
 -- ---- a path that begins with another
 
@@ -311,11 +316,13 @@ above_from_bytes b d p q h k rest e =
     let split : pieces 0 d ≡ p ++ pieces 0 rest = ap (pieces 0) (e ∙ ap (λ z. z ++ rest) (bytes_held h)) ∙ pieces_ended 0 p rest (free_held h) in
     let is : q ≡ p ++ pieces 0 rest = sym k.path_is ∙ split in
     let lawful = IsPath-parts p (pieces 0 rest) (subst (λ z. IsPath z) is (lawful_held k)) in
-    let whole : ended 0 p ++ ended 0 (pieces 0 rest) ≡ ended 0 p ++ rest = sym (ended-append 0 p (pieces 0 rest)) ∙ ap (ended 0) (sym is) ∙ sym (bytes_held k) ∙ e ∙ ap (λ z. z ++ rest) (bytes_held h) in
-    (record {
-      buffer = record { lawful = lawful.1; whole = record { again = append_cancel (ended 0 p) _ _ whole } };
-      path_is = refl;
-    }, is)
+    let whole : ended 0 p ++ ended 0 (pieces 0 rest) ≡ ended 0 p ++ rest = sym (ended-append 0 p (pieces 0 rest)) ∙ ap (ended 0) (sym is) ∙ sym (bytes_held k) ∙ e ∙ ap (λ z. z ++ rest) (bytes_held h) in (
+      record {
+        buffer = record { lawful = lawful.1; whole = record { again = append_cancel (ended 0 p) _ _ whole } };
+        path_is = refl;
+      },
+      is,
+    )
 
 -- and the other way round
 pub bytes_from_above : (b d : List ℕ) (p q : Path) → Holds b p → Holds d q → (rest : Path) → q ≡ p ++ rest → d ≡ b ++ ended 0 rest

@@ -49,14 +49,18 @@ fn split_byte(text: &[u8]) -> Option<(u8, &[u8])>
     if *first == b'%' {
         return split_digits(rest);
     }
-    if is_escaped(*first) { None } else { Some((*first, rest)) }
+    if is_escaped(*first) {
+        None
+    } else {
+        Some((*first, rest))
+    }
 }
 
-/// The bytes of which a text is the escaped form, or `None` where there are no such bytes.
+/// The bytes of which a text is the escaped form, with room for one more, or `None` where there are no such bytes.
 pub(crate) fn unescaped(alloc: Global, text: &[u8]) -> Result<Option<Vec<u8>>, AllocError>
     ensures { IfOk result (λ o. MatchOption o (HasNoBytes text.now) (λ v. AreBytes v.items × (text.now ≡ name_text v.items))) }
 {
-    let mut bytes = Vec::with_capacity(alloc, text.len())?;
+    let mut bytes = Vec::with_capacity(alloc, text.len() + 1)?;
     let mut rest = text;
     while !rest.is_empty() {
         let Some((b, after)) = split_byte(rest) else {

@@ -3,7 +3,10 @@ ghost use Rattle.std.specs.Prelude.{◌≡◌, ◌⊎◌, ◌↔◌, ◌++◌, �
 ghost use Rattle.ts_name.specs.Paths.{IsPath, IsAbove, IsPathText, HasNoNames, HasBadName, IsPastLimit, path_text, below};
 ghost use Rattle.ts_name.specs.Buffers.{HoldsParent};
 
-use crate::buffer::{MOST_BYTES, MOST_NAMES, concatenated, depth_of, end_names, has_good_names, is_within_limits, split_name};
+use crate::buffer::{
+    MOST_BYTES, MOST_NAMES, concatenated, depth_of, end_names, has_good_names, is_within_limits,
+    split_name,
+};
 use crate::escape::{push_escaped, unescaped};
 use crate::faults::PathFault;
 use crate::names::Name;

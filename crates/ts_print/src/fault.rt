@@ -3,6 +3,7 @@ ghost use Rattle.ts_print.specs.Faults.{fault_number};
 
 use std::alloc::{AllocError, AllocFailed};
 use thiserror::Error;
+use ts_table::TableFault;
 
 /// Why a call on prints was refused.
 #[derive(Clone, Copy, Debug, PartialEq, Eq, Error)]
@@ -51,5 +52,19 @@ impl<T: Drop> From<AllocFailed<T>> for PrintFault {
 
     fn from(_fault: AllocFailed<T>) -> PrintFault {
         PrintFault::OutOfMemory
+    }
+}
+
+impl From<TableFault> for PrintFault {
+    ghost use Rattle.std.specs.Prelude.{◌≡◌};
+    ghost use Rattle.ts_print.specs.Faults.{fault_of_table};
+
+    ghost from_gives = { λ t e. e ≡ fault_of_table t };
+
+    fn from(fault: TableFault) -> PrintFault {
+        match fault {
+            TableFault::OutOfMemory => PrintFault::OutOfMemory,
+            TableFault::TooLong => PrintFault::TooLong,
+        }
     }
 }

@@ -1,8 +1,10 @@
-ghost use Rattle.std.specs.Prelude.{◌≡◌, ◌++◌, ◌∷◌, [], IfErr, IfOk, is_ok, if◌then◌else◌};
-ghost use Rattle.ts_model.specs.Texts.{IsPrintBody, IsTreeBody, StampFits};
-ghost use Rattle.ts_model.specs.Trees.{IsListing, at};
-ghost use Rattle.ts_table.specs.Tables.{rows_below};
+ghost use Rattle.std.specs.List.{AllByRecursion};
+ghost use Rattle.std.specs.Prelude.{◌≡◌, ◌++◌, ◌∷◌, ◌↔◌, [], IfErr, IfOk, IsErrOf, IsTrue, MatchResult, OnErr, OnOk, is_ok, if◌then◌else◌};
+ghost use Rattle.ts_model.specs.Runs.{bare_directory, graft};
+ghost use Rattle.ts_model.specs.Trees.{IsListing, at, listed, sub};
+ghost use Rattle.ts_name.specs.Paths.{IsPath};
 ghost use Rattle.ts_print.specs.Prints.{stamped_rows};
+ghost use Rattle.ts_table.specs.Tables.{IsPlace, placed, rows_below};
 
 use crate::fault::PrintFault;
 use crate::stamps::stamped;
@@ -11,7 +13,7 @@ use std::marker::Model;
 use ts_model::items::Items;
 use ts_model::row::{Content, Row, Stamp};
 use ts_name::Path;
-use ts_table::Table;
+use ts_table::{SubTable, Table};
 
 /// What is at each path, with a stamp in place of a file's bytes. The root is a directory.
 #[derive(Drop)]
@@ -71,10 +73,55 @@ impl Print {
         ensures rows { self.new ≡ (if is_ok result then self.old ++ row ∷ [] else self.old) }
         ensures fault { IfErr result (λ e. e ≡ PrintFault.OutOfMemory) }
     {
-        match self.table.push(row) {
-            Ok(()) => Ok(()),
-            Err(_) => Err(PrintFault::OutOfMemory),
-        }
+        self.table.push(row)?;
+        Ok(())
+    }
+
+    /// Whether both prints have the same at a path and below it. It takes no memory.
+    pub fn sub_eq(&self, other: &Print, path: &Path) -> bool
+        ensures { IsTrue result ↔ (sub (at self.now) path.now ≡ sub (at other.now) path.now) }
+    {
+        self.table.sub_eq(&other.table, path)
+    }
+
+    pub fn copy(&self, alloc: Global) -> Result<Print, PrintFault>
+        ensures { MatchResult result (λ print. print ≡ self.now) (λ e. e ≡ PrintFault.OutOfMemory) }
+    {
+        let table = self.table.copy(alloc)?;
+        Ok(Print { table })
+    }
+
+    /// What is at a path and below it, by paths relative to it.
+    pub fn sub_table(&self, alloc: Global, path: &Path) -> Result<SubTable<Stamp>, PrintFault>
+        ensures part { IfOk result (λ part. listed part ≡ sub (at self.now) path.now) }
+        ensures fault { IfErr result (λ e. e ≡ PrintFault.OutOfMemory) }
+    {
+        let part = self.table.sub_table(alloc, path)?;
+        Ok(part)
+    }
+
+    /// Puts a part in place of what is at a path and below it. A refusal changes nothing: a path would be past a
+    /// limit, or memory is wanting.
+    pub fn replace(&mut self, alloc: Global, path: &Path, part: SubTable<Stamp>) -> Result<(), PrintFault>
+        requires { IsPlace (at self.old) path.now }
+        ensures ok { OnOk result (at self.new ≡ graft (at self.old) path.now (listed part)) }
+        ensures paths { OnOk result (AllByRecursion (λ row. IsPath row.path) (placed path.now part)) }
+        ensures too_long { IsErrOf result PrintFault.TooLong → ¬ AllByRecursion (λ row. IsPath row.path) (placed path.now part) }
+        ensures err { OnErr result (self.new ≡ self.old) }
+    {
+        self.table.replace(alloc, path, part)?;
+        Ok(())
+    }
+
+    /// Leaves a directory without children at a path. A refusal changes nothing.
+    pub fn make_dir(&mut self, alloc: Global, path: &Path) -> Result<(), PrintFault>
+        requires { IsPlace (at self.old) path.now }
+        ensures ok { OnOk result (at self.new ≡ graft (at self.old) path.now bare_directory) }
+        ensures fault { IfErr result (λ e. e ≡ PrintFault.OutOfMemory) }
+        ensures err { OnErr result (self.new ≡ self.old) }
+    {
+        self.table.make_dir(alloc, path)?;
+        Ok(())
     }
 
     /// The print of a tree, given by its rows.

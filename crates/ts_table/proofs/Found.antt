@@ -96,7 +96,7 @@ before_parts {F} rows p up i j d le under h = elim (same_or_less i j le) [
 ]
 
 -- what lies between a path and something below it is below it
-between : (p q r : Path) → is_lt (path_cmp q p) ≡ false → IsBefore q r → IsAbove p r → IsAbove p q
+pub between : (p q r : Path) → is_lt (path_cmp q p) ≡ false → IsBefore q r → IsAbove p r → IsAbove p q
 between p q r late before above = elim (decide_above p q) [
   | inl h ↦ h
   | inr off ↦ elim (before_cases p q) [

@@ -8,3 +8,4 @@ pub mod Paths
 pub mod Placing
 pub mod Relative
 pub mod Rows
+pub mod Splicing

@@ -4,10 +4,12 @@
 mod copies;
 mod edits;
 mod fault;
+mod splice;
 mod subtable;
 mod table;
 
 pub use copies::CopyFile;
 pub use fault::TableFault;
+pub use splice::Edit;
 pub use subtable::SubTable;
 pub use table::Table;

@@ -1,0 +1,5 @@
+pub mod Words
+pub mod Steps
+pub mod Same
+pub mod Grammar
+pub mod Turns

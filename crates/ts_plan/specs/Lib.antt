@@ -1,0 +1,6 @@
+pub mod Faults
+pub mod PathFields
+pub mod PlanLines
+pub mod Progress
+pub mod Reading
+pub mod Readers

@@ -1,0 +1,9 @@
+pub mod Words
+pub mod Lines
+pub mod TreeTexts
+pub mod Fields
+pub mod Refusals
+pub mod Readers
+pub mod Taken
+pub mod NoTree
+pub mod Writing

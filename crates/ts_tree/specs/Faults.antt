@@ -1,0 +1,18 @@
+-- The faults of trees.
+use Rattle.std.specs.Prelude.{ℕ}
+use Rattle.ts_tree.specs.declared.fault.TreeFault.{TreeFault}
+use Rattle.ts_tree.specs.declared.fault.TreeFault.TheVariants as fault
+
+-- the number by which the program tells the fault
+abbrev pub fault_number : TreeFault → ℕ
+fault_number fault.OutOfMemory = 1
+fault_number fault.TooLong = 4
+fault_number fault.Failed = 5
+fault_number fault.NotCanonical = 6
+
+-- a line or a text is refused for this reason, unless memory ran out
+abbrev pub Refuses : Type 0 → TreeFault → Type 0
+Refuses reason fault.OutOfMemory = Unit {0}
+Refuses reason fault.TooLong = ⊥
+Refuses reason fault.Failed = ⊥
+Refuses reason fault.NotCanonical = reason

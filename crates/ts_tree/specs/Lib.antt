@@ -1,0 +1,5 @@
+pub mod Faults
+pub mod Fields
+pub mod Trees
+pub mod Readers
+pub mod Decoding

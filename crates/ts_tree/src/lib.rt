@@ -1,0 +1,16 @@
+//! Trees of directories and files with their bytes, and their text.
+#![tactic(auto)]
+
+mod data;
+pub mod decoding;
+pub mod encoding;
+pub mod fault;
+pub mod field;
+pub mod reader;
+pub mod tree;
+
+pub use decoding::decode;
+pub use encoding::encode;
+pub use fault::TreeFault;
+pub use reader::TreeReader;
+pub use tree::{Node, Tree};
