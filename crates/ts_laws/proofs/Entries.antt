@@ -11,7 +11,7 @@ use Rattle.ts_model.specs.declared.plan.Entry.{Entry}
 use Rattle.ts_model.specs.declared.plan.Plan.{Plan}
 use Rattle.ts_laws.specs.Laws.{IsEntryOf, EntriesAreReasons}
 use Rattle.ts_laws.proofs.Basics.{stable}
-use Rattle.ts_laws.proofs.Paths.{last_name, above_parent, not_below_itself}
+use Rattle.ts_laws.proofs.Paths.{last_name, above_parent, not_below_itself, root_not_below}
 use Rattle.ts_laws.proofs.Reasons.{IsWhole-from_snapshot, dirs_above, one_reason, Below-from, Dir-nothing_below}
 use Rattle.ts_laws.proofs.Steps.{reason_holds}
 use Rattle.ts_laws.proofs.Plans.{entry_exists, entry_from_complete, one_place}
@@ -75,11 +75,7 @@ module _ (s : Snapshot) (plan : Plan) (lawful : IsSnapshot s) (reasons : (place 
   new_dir_entry p name rest above at dirs new = go (last_name p)
     where
       go : (p ≡ []) ⊎ ((parent : Path) × (last : Name) × (p ≡ parent ++ last ∷ [])) → (k : ℕ) × (entry : Entry) × EntryIs plan k entry × (entry.path ≡ p) × (entry.reason ≡ reason.Dir)
-      go (inl root) = absurd (not_root above (sym root ∙ at))
-        where
-          not_root : (q : Path) → [] ≢ q ++ name ∷ rest
-          not_root [] e = cc
-          not_root (n ∷ q) e = cc
+      go (inl root) = absurd (root_not_below above name rest (sym root ∙ at))
       go (inr (parent, last, is)) =
           let has : HasReason s p reason.Dir = ((parent, last, is, dirs_above s (IsWhole-from_snapshot s lawful) parent p last [] is dirs), (dirs, new)) in
           let found = entry_from_complete s plan complete p reason.Dir has in (

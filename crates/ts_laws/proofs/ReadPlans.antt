@@ -1,7 +1,6 @@
 -- Whether lines are those of a plan.
 use Rattle.std.proofs.Common.{◌≡◌, ◌≢◌, ℕ, suc, ◌<◌, ◌^◌, List, [], ◌∷◌, ◌++◌, length, map, codes, decimal, refl, sym, ap, ap₂, ◌∙◌, subst, append_assoc, arith}
 use Rattle.std.specs.List.{AllByRecursion}
-use Rattle.std.proofs.lemmas.Fmt.{decimal_injective}
 use Rattle.std.proofs.Math.Decide.{map_dec}
 use Rattle.ts_name.specs.Paths.{Path, path_text}
 use Rattle.ts_model.specs.Texts.{reason_text, PathFits, KindFits, IsPlan}
@@ -12,11 +11,11 @@ use Rattle.ts_model.specs.declared.plan.Kind.TheVariants.{Piece, Commit, Mark}
 use Rattle.ts_model.specs.declared.plan.Action.{Action}
 use Rattle.ts_model.specs.declared.plan.Plan.{Plan}
 use Rattle.ts_laws.proofs.Basics.{Dec-both, Dec-not, same_list, same_names}
-use Rattle.ts_laws.proofs.Search.{decide_less, decide_each}
+use Rattle.ts_laws.proofs.Search.{decide_less, decide_each, decide_empty}
 use Rattle.ts_laws.proofs.Rules.{decide_some_reason, decide_limits}
 use Rattle.ts_laws.proofs.Words.{Words, all_both, cons_parts}
-use Rattle.ts_laws.proofs.PlanTexts.{ActionsFit, action_words, actions_words, end_words, entry_words, kind_words, number_32, one_entry, one_kind, plan_words, pred_words}
-use Rattle.ts_laws.proofs.ReadWords.{BeginsWith, decide_begins, decide_keyed, decide_word, decide_end, decide_decimal, decide_fit_path, decide_is_path}
+use Rattle.ts_laws.proofs.PlanTexts.{ActionsFit, action_words, actions_words, end_words, entry_words, kind_words, one_entry, one_kind, one_pred, plan_words, pred_words}
+use Rattle.ts_laws.proofs.ReadWords.{BeginsWith, decide_begins, decide_keyed, decide_word, decide_decimal, decide_fit_path, decide_is_path}
 use Rattle.ts_laws.proofs.ReadTrees.{AreItems, decide_items}
 
 -- ---- words
@@ -59,7 +58,7 @@ decide_entry_line line = map_dec
     ))
     (λ h. (codes "entry", _, h.2, refl, (reason_text h.0.reason, _, refl, (h.0.reason, refl), (path_text h.0.path, [], refl, (h.0.path, h.1, refl), refl))))
     (decide_begins (λ w. w ≡ codes "entry") (BeginsWith IsReasonWord (BeginsWith IsPathWord IsEnd)) (λ w. decide_word w (codes "entry"))
-    (decide_begins IsReasonWord (BeginsWith IsPathWord IsEnd) decide_reason_word (decide_begins IsPathWord IsEnd decide_fit_path decide_end)) line)
+    (decide_begins IsReasonWord (BeginsWith IsPathWord IsEnd) decide_reason_word (decide_begins IsPathWord IsEnd decide_fit_path decide_empty)) line)
 
 -- whether a line is that of a word and a short number
 decide_numbered : (key : List ℕ) (line : Words) → Dec ((n : ℕ) × (n < 2 ^ 32) × (line ≡ key ∷ decimal n ∷ []))
@@ -100,7 +99,7 @@ decide_piece_line line = map_dec
     (decide_begins (IsNumberWord (2 ^ 32)) (BeginsWith (IsNumberWord (2 ^ 64)) (BeginsWith (IsNumberWord (2 ^ 64)) (BeginsWith IsPathWord IsEnd))) (decide_decimal (2 ^ 32))
     (decide_begins (IsNumberWord (2 ^ 64)) (BeginsWith (IsNumberWord (2 ^ 64)) (BeginsWith IsPathWord IsEnd)) (decide_decimal (2 ^ 64))
     (decide_begins (IsNumberWord (2 ^ 64)) (BeginsWith IsPathWord IsEnd) (decide_decimal (2 ^ 64))
-    (decide_begins IsPathWord IsEnd decide_fit_path decide_end)))) line)
+    (decide_begins IsPathWord IsEnd decide_fit_path decide_empty)))) line)
 
 -- the line is an action's first
 abbrev IsKindLine : Words → Type 0
@@ -136,12 +135,6 @@ IsPredLine line = (j : ℕ) × (j < 2 ^ 32) × (line ≡ pred_words j)
 decide_pred_line : (line : Words) → Dec (IsPredLine line)
 unfolding pred_words
 decide_pred_line line = decide_numbered (codes "p") line
-
--- a line is of one predecessor
-one_pred_line : (i j : ℕ) → i < 2 ^ 32 → j < 2 ^ 32 → pred_words i ≡ pred_words j → i ≡ j
-unfolding pred_words
-one_pred_line i j small_i small_j e =
-    let words : decimal i ≡ decimal j = cc in decimal_injective i j (number_32 i small_i) (number_32 j small_j) words
 
 -- ---- actions
 
@@ -213,17 +206,13 @@ decide_actions (line ∷ more) E d = by_kind (decide_kind_line line) (λ kind. d
     AfterPred j = AreActions (λ preds actions last. E (j ∷ preds) actions last) more
 
     by_last : (more : List Words) → Dec (E [] [] line) → Dec ((more ≡ []) × E [] [] line)
-    by_last more last = Dec-both (decide_nothing more) last
-      where
-        decide_nothing : (more : List Words) → Dec (more ≡ [])
-        decide_nothing [] = yes refl
-        decide_nothing (next ∷ rest) = no (λ e. cc)
+    by_last more last = Dec-both (decide_empty more) last
 
     by_pred : Dec (IsPredLine line) → ((j : ℕ) → Dec (AfterPred j)) → Dec ((j : ℕ) × (j < 2 ^ 32) × (line ≡ pred_words j) × AfterPred j)
     by_pred (no n) rest = no (λ h. n (h.0, h.1, h.2))
     by_pred (yes (j, small, e)) rest = elim (rest j) [
       | yes h ↦ yes (j, small, e, h)
-      | no n ↦ no (λ h. n (subst AfterPred (one_pred_line h.0 j h.1 small (sym h.2 ∙ e)) h.3))
+      | no n ↦ no (λ h. n (subst AfterPred (one_pred h.0 j h.1 small (sym h.2 ∙ e)) h.3))
     ]
 
     by_kind : Dec (IsKindLine line) → ((kind : Kind) → Dec (AfterKind kind)) → Dec ((j : ℕ) × (j < 2 ^ 32) × (line ≡ pred_words j) × AfterPred j) → Dec ((more ≡ []) × E [] [] line) → Dec (AreActions E (line ∷ more))
@@ -267,11 +256,7 @@ IsLast entries preds actions last = (preds ≡ []) × ((last ≡ end_words (leng
 
 -- whether the last line is that
 decide_last : (entries : List Entry) (preds : List ℕ) (actions : List Action) (last : Words) → Dec (IsLast entries preds actions last)
-decide_last entries preds actions last = Dec-both (decide_none preds) (Dec-both (same_list decide_word last (end_words (length entries) (length actions))) (decide_plan (record { entries = entries; actions = actions })))
-  where
-    decide_none : (preds : List ℕ) → Dec (preds ≡ [])
-    decide_none [] = yes refl
-    decide_none (j ∷ preds) = no (λ e. cc)
+decide_last entries preds actions last = Dec-both (decide_empty preds) (Dec-both (same_list decide_word last (end_words (length entries) (length actions))) (decide_plan (record { entries = entries; actions = actions })))
 
 -- whether lines are entries, and then actions
 decide_entry_lines : (lines : List Words) → Dec (AreItems (λ (e : Entry). PathFits e.path) (map entry_words) (λ entries rest. AreActions (IsLast entries) rest) lines)

@@ -1,7 +1,7 @@
 -- Whether lines are those of hold rules.
 use Rattle.std.proofs.Common.{◌≡◌, ◌≢◌, ◌⊎◌, ℕ, suc, true, false, List, [], ◌∷◌, ◌++◌, length, drop, map, flat_map, codes, refl, sym, ap, ap₂, ◌∙◌, subst, inl, inr, arith}
 use Rattle.std.specs.List.{AllByRecursion}
-use Rattle.std.proofs.lemmas.Bool.{true≢false, cases_Bool, false_from_ne_true}
+use Rattle.std.proofs.lemmas.Bool.{true≢false, false_from_ne_true}
 use Rattle.std.proofs.Math.Decide.{map_dec}
 use Rattle.ts_name.specs.Paths.{Path, IsPath, is_escaped, path_text}
 use Rattle.ts_model.specs.Texts.{symbol_text, SymbolFits, StarsApart, RuleFits, IsRules}
@@ -10,7 +10,7 @@ use Rattle.ts_model.specs.declared.hold.Symbol.TheVariants.{Star, Byte}
 use Rattle.ts_model.specs.declared.hold.Rule.{Rule}
 use Rattle.ts_model.specs.declared.hold.Rule.TheVariants.{OnePath, LastName}
 use Rattle.ts_laws.proofs.Basics.{Dec-both, Dec-either, Dec-not, same_names, same_number}
-use Rattle.ts_laws.proofs.Search.{decide_less, decide_at_most, decide_each}
+use Rattle.ts_laws.proofs.Search.{decide_less, decide_at_most, decide_each, decide_true}
 use Rattle.ts_laws.proofs.Words.{Words, cons_parts, escape, first_byte, one_path}
 use Rattle.ts_laws.proofs.RuleTexts.{SymbolSpelled, a_star, byte_in_digits, byte_as_it_is, spelled_symbol, one_pattern, one_rule, rule_words}
 use Rattle.ts_laws.proofs.ReadWords.{decide_keyed, decide_path, decide_is_path, by_three, EscapeOf, decide_escape}
@@ -79,15 +79,11 @@ plain_symbol b differ plain = go (symbol_text (Byte b)) (spelled_symbol (Byte b)
 decide_byte_fits : (b : ℕ) → Dec (SymbolFits (Byte b))
 decide_byte_fits b = map_dec (λ h. (h.0, h.1.0, h.1.1)) (λ h. (h.0, (h.1, h.2))) (Dec-both (decide_less b 256) (Dec-both (Dec-not (same_number b 0)) (Dec-not (same_number b 47))))
 
--- whether a byte is escaped
-decide_escaped : (b : ℕ) → Dec (is_escaped b ≡ true)
-decide_escaped b = elim (cases_Bool (is_escaped b)) [ inl e ↦ yes e | inr e ↦ no (λ f. true≢false (sym f ∙ e)) ]
-
 -- whether a text is symbols, from whether the text after its first byte or escape is
 one_more_symbol : (c : ℕ) (text : List ℕ) → Dec (HasSymbols text) → Dec (HasSymbols (drop 2 text)) → Dec (HasSymbols (c ∷ text))
 unfolding HasSymbols
-one_more_symbol c text more far = go (same_number c 42) (same_number c 37) (decide_escaped c) (decide_byte_fits c)
-    (decide_escape IsEscapedSymbol (λ b. Dec-both (Dec-either (same_number b 42) (decide_escaped b)) (decide_byte_fits b)) (λ b h. h.1.0) (c ∷ text)) more far
+one_more_symbol c text more far = go (same_number c 42) (same_number c 37) (decide_true (is_escaped c)) (decide_byte_fits c)
+    (decide_escape IsEscapedSymbol (λ b. Dec-both (Dec-either (same_number b 42) (decide_true (is_escaped b))) (decide_byte_fits b)) (λ b h. h.1.0) (c ∷ text)) more far
   where
     Symbols : List ℕ → Type 0
     Symbols t = (xs : List Symbol) × AllByRecursion SymbolFits xs × (t ≡ flat_map symbol_text xs)

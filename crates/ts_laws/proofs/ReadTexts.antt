@@ -22,7 +22,7 @@ use Rattle.ts_laws.proofs.ReadTrees.{decide_rows, decide_marks, decide_tree_body
 use Rattle.ts_laws.proofs.ReadRules.{decide_rule_lines, decide_rules}
 use Rattle.ts_laws.proofs.ReadPlans.{decide_plan_lines}
 use Rattle.ts_laws.proofs.Texts.{front_words, front_spelled, front_are_lines, one_front}
-use Rattle.ts_laws.proofs.Search.{decide_number}
+use Rattle.ts_laws.proofs.Search.{decide_number, decide_empty}
 use Rattle.ts_laws.proofs.Trials.{some_trial_of}
 
 -- ---- parts of a bundle
@@ -140,18 +140,13 @@ decide_text {V} Is lines_of words_of readable bytes = elim (decide_lines bytes) 
     spells : (v : V) → text (lines_of v) ≡ spell (words_of v)
     spells v = ap text (readable.spelled v) ∙ text_spells (words_of v)
 
--- whether there are no lines more
-decide_no_lines : (lines : List Words) → Dec (lines ≡ [])
-decide_no_lines [] = yes refl
-decide_no_lines (line ∷ lines) = no (λ e. cc)
-
 -- a body alone
 decide_alone : {A : Type 0} (Is : A → Type 0) (lines_of : A → List Words) → ((P : List Words → Type 0) → ((lines : List Words) → Dec (P lines)) → (lines : List Words) → Dec (IsBody Is lines_of P lines))
     → (lines : List Words) → Dec ((x : A) × Is x × (lines ≡ lines_of x))
 decide_alone Is lines_of d lines = map_dec
     (λ h. (h.0, h.2, h.3 ∙ ap (λ z. lines_of h.0 ++ z) h.4 ∙ append-nil (lines_of h.0)))
     (λ h. (h.0, [], h.1, h.2 ∙ sym (append-nil (lines_of h.0)), refl))
-    (d (λ rest. rest ≡ []) decide_no_lines lines)
+    (d (λ rest. rest ≡ []) decide_empty lines)
 
 -- whether bytes are a tree's text
 decide_tree_text : (bytes : List ℕ) → Dec ((rows : Listing (List ℕ)) × IsTreeText bytes rows)

@@ -12,13 +12,13 @@ use Rattle.ts_model.specs.declared.row.Content.TheVariants.{Absent, Dir, File}
 use Rattle.ts_model.specs.declared.row.Row.{Row}
 use Rattle.ts_model.specs.declared.row.Stamp.{Stamp}
 use Rattle.ts_laws.proofs.Basics.{Dec-both, Dec-not, same_number, same_names}
-use Rattle.ts_laws.proofs.Search.{decide_less, decide_each}
+use Rattle.ts_laws.proofs.Search.{decide_less, decide_each, decide_empty}
 use Rattle.ts_laws.proofs.Paths.{decide_before, last_name, same_parent, snoc_not_empty}
 use Rattle.ts_laws.proofs.Lists.{Among, all_among, all_from_among}
 use Rattle.ts_laws.proofs.Listings.{paths_of, decide_absent, listed_among, listed_here, listed_there, weaker}
 use Rattle.ts_laws.proofs.Words.{Words, all_append, cons_parts}
 use Rattle.ts_laws.proofs.TreeTexts.{bytes_parts, data_words, tree_row_words, tree_words, RowFits, one_tree_row, print_row_words, print_words, MarkFits, one_print_row}
-use Rattle.ts_laws.proofs.ReadWords.{BeginsWith, decide_begins, decide_keyed, decide_word, decide_end, decide_decimal, decide_bytes, decide_path, decide_is_path}
+use Rattle.ts_laws.proofs.ReadWords.{BeginsWith, decide_begins, decide_keyed, decide_word, decide_decimal, decide_bytes, decide_path, decide_is_path}
 
 -- ---- items one after another
 
@@ -101,7 +101,7 @@ decide_mark_line line = map_dec
     (λ w. decide_word w (codes "f"))
     (decide_begins IsPathWord (BeginsWith IsSizeWord (BeginsWith IsDigestWord (λ more. more ≡ []))) decide_path
     (decide_begins IsSizeWord (BeginsWith IsDigestWord (λ more. more ≡ [])) (decide_decimal (2 ^ 64))
-    (decide_begins IsDigestWord (λ more. more ≡ []) decide_digest decide_end))) line)
+    (decide_begins IsDigestWord (λ more. more ≡ []) decide_digest decide_empty))) line)
   where
     IsPathWord : List ℕ → Type 0
     IsPathWord w = (p : Path) × IsPath p × (w ≡ path_text p)
@@ -217,7 +217,7 @@ decide_file_line line = map_dec
     (decide_begins (λ w. w ≡ codes "f") (BeginsWith IsPathWord (BeginsWith IsSizeWord (λ more. more ≡ [])))
     (λ w. decide_word w (codes "f"))
     (decide_begins IsPathWord (BeginsWith IsSizeWord (λ more. more ≡ [])) decide_path
-    (decide_begins IsSizeWord (λ more. more ≡ []) (decide_decimal (2 ^ 64)) decide_end)) line)
+    (decide_begins IsSizeWord (λ more. more ≡ []) (decide_decimal (2 ^ 64)) decide_empty)) line)
   where
     IsPathWord : List ℕ → Type 0
     IsPathWord w = (p : Path) × IsPath p × (w ≡ path_text p)

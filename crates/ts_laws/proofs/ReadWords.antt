@@ -1,5 +1,5 @@
 -- Whether a text is lines of words, and whether a word spells a number, bytes, or a path.
-use Rattle.std.proofs.Common.{◌≡◌, ◌≢◌, ◌⊎◌, ℕ, ◌/◌, ◌%◌, ◌<◌, ◌≤◌, Bool, true, false, ◌&&◌, ◌==◌, nat_le, List, [], ◌∷◌, ◌++◌, length, drop, sum_by, codes, decimal, slice_index, refl, sym, ap, ap₂, ◌∙◌, subst, inl, inr, append_assoc, arith, eqb-true}
+use Rattle.std.proofs.Common.{◌≡◌, ◌≢◌, ◌⊎◌, ℕ, ◌/◌, ◌%◌, ◌<◌, ◌≤◌, true, false, ◌&&◌, ◌==◌, nat_le, List, [], ◌∷◌, ◌++◌, length, drop, sum_by, codes, decimal, slice_index, refl, sym, ap, ap₂, ◌∙◌, subst, inl, inr, append_assoc, arith, eqb-true}
 use Rattle.std.specs.Str.{IsUtf8, is_utf8}
 use Rattle.std.proofs.lemmas.Bool.{true≢false, cases_Bool, or_cases, and_parts, leb-true}
 use Rattle.std.proofs.lemmas.Str.{IsUtf8-from_is_utf8, is_utf8-from_IsUtf8}
@@ -8,7 +8,7 @@ use Rattle.hex.specs.Hex.{encode_with, encode_lower, lower_digits}
 use Rattle.ts_name.specs.Paths.{Name, Path, IsName, IsPath, is_escaped, byte_text, name_text, path_text}
 use Rattle.ts_model.specs.Texts.{words, IsBytes, PathFits}
 use Rattle.ts_laws.proofs.Basics.{Dec-both, Dec-not, same_list, same_names, same_number}
-use Rattle.ts_laws.proofs.Search.{decide_less, decide_at_most, decide_number, decide_each}
+use Rattle.ts_laws.proofs.Search.{decide_less, decide_at_most, decide_number, decide_each, decide_empty, decide_true}
 use Rattle.ts_laws.proofs.Words.{Words, AreLines, spell, nothing_first, Plain, ArePlain, Spelled, in_digits, as_it_is, escape, spelled_byte, one_hex, one_name, one_path, one_path_text, plain_names}
 
 -- ---- lines
@@ -96,18 +96,13 @@ decide_begins P R p r (w ∷ more) = map_dec
 pub decide_word : (w v : List ℕ) → Dec (w ≡ v)
 decide_word = same_list same_number
 
--- whether a line has no word more
-pub decide_end : (line : Words) → Dec (line ≡ [])
-decide_end [] = yes refl
-decide_end (w ∷ more) = no (λ e. cc)
-
 -- whether a line is a key and a word that spells something
 pub decide_keyed : {A : Type 0} (Is : A → Type 0) (spelled : A → List ℕ) → ((w : List ℕ) → Dec ((x : A) × Is x × (w ≡ spelled x))) → (key : List ℕ) (line : Words)
     → Dec ((x : A) × Is x × (line ≡ key ∷ spelled x ∷ []))
 decide_keyed {A} Is spelled d key line = map_dec
     (λ h. let second = h.4 in (second.3.0, second.3.1, (let a = h.2 in let b = h.3 in let c = second.2 in let d = second.3.2 in let e = second.4 in cc)))
     (λ h. (key, spelled h.0 ∷ [], h.2, refl, (spelled h.0, [], refl, (h.0, h.1, refl), refl)))
-    (decide_begins (λ w. w ≡ key) (BeginsWith IsSpelled (λ more. more ≡ [])) (λ w. decide_word w key) (decide_begins IsSpelled (λ more. more ≡ []) d decide_end) line)
+    (decide_begins (λ w. w ≡ key) (BeginsWith IsSpelled (λ more. more ≡ [])) (λ w. decide_word w key) (decide_begins IsSpelled (λ more. more ≡ []) d decide_empty) line)
   where
     IsSpelled : List ℕ → Type 0
     IsSpelled w = (x : A) × Is x × (w ≡ spelled x)
@@ -196,10 +191,6 @@ escaped_small b e = elim (or_cases (nat_le 1 b && nat_le b 32) _ e) [
 -- whether a byte is one
 decide_escaped_byte : (b : ℕ) → Dec (IsEscapedByte b)
 decide_escaped_byte b = Dec-both (decide_true (is_escaped b)) (Dec-both (Dec-not (same_number b 47)) (Dec-not (same_number b 0)))
-  where
-    decide_true : (x : Bool) → Dec (x ≡ true)
-    decide_true true = yes refl
-    decide_true false = no (λ e. true≢false (sym e))
 
 -- the text is the rest of a name and more names
 abbrev AreNamesOf : List ℕ → Name → Path → Type 0

@@ -1,5 +1,5 @@
 -- Deciding by search: elements at a place, numbers below a bound, and the least of them.
-use Rattle.std.proofs.Common.{◌≡◌, ◌⊎◌, ℕ, zero, suc, ◌+◌, ◌<◌, ◌≤◌, List, [], ◌∷◌, length, Option, Some, None, slice_get, sym, refl, ◌∙◌, subst, inl, inr, arith}
+use Rattle.std.proofs.Common.{◌≡◌, ◌⊎◌, Bool, true, false, ℕ, zero, suc, ◌+◌, ◌<◌, ◌≤◌, List, [], ◌∷◌, length, Option, Some, None, slice_get, sym, refl, ◌∙◌, subst, inl, inr, arith}
 use Rattle.std.specs.List.{AllByRecursion}
 use Rattle.std.proofs.lemmas.Bool.{cases_eq, cases_lt}
 use Rattle.std.proofs.lemmas.Option.{none-some, same_Some, slice_get_within}
@@ -12,6 +12,16 @@ decide_less m n = elim (cases_lt m n) [ inl h ↦ yes h | inr h ↦ no (λ g. om
 -- whether it is at most another
 pub decide_at_most : (m n : ℕ) → Dec (m ≤ n)
 decide_at_most m n = elim (cases_lt n m) [ inl h ↦ no (λ g. omega arith) | inr h ↦ yes (omega (arith, h)) ]
+
+-- whether a test is passed
+pub decide_true : (x : Bool) → Dec (x ≡ true)
+decide_true true = yes refl
+decide_true false = no (λ e. cc)
+
+-- whether a list is empty
+pub decide_empty : {A : Type 0} (xs : List A) → Dec (xs ≡ [])
+decide_empty [] = yes refl
+decide_empty (x ∷ xs) = no (λ e. cc)
 
 -- whether the element at a place exists and has a decided fact
 pub decide_at : {A : Type 0} (xs : List A) (k : ℕ) (P : A → Type 0) → ((x : A) → Dec (P x)) → Dec ((x : A) × (slice_get xs k ≡ Some x) × P x)

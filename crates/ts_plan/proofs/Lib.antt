@@ -3,3 +3,5 @@ pub mod Steps
 pub mod Same
 pub mod Grammar
 pub mod Turns
+pub mod Texts
+pub mod Sources

@@ -4,3 +4,4 @@ pub mod PlanLines
 pub mod Progress
 pub mod Reading
 pub mod Readers
+pub mod Decoding

@@ -3,6 +3,7 @@ ghost use Rattle.ts_plan.specs.Faults.{fault_number};
 
 use std::alloc::{AllocError, AllocFailed};
 use thiserror::Error;
+use ts_text::TextFault;
 
 /// Why a plan can't be read, written or built.
 #[derive(Clone, Copy, Debug, PartialEq, Eq, Error)]
@@ -54,5 +55,20 @@ impl<T: Drop> From<AllocFailed<T>> for PlanFault {
 
     fn from(_e: AllocFailed<T>) -> PlanFault {
         PlanFault::OutOfMemory
+    }
+}
+
+impl From<TextFault> for PlanFault {
+    ghost use Rattle.std.specs.Prelude.{◌≡◌};
+    ghost use Rattle.ts_plan.specs.Decoding.{fault_of_text};
+
+    ghost from_gives = { λ t e. e ≡ fault_of_text t };
+
+    fn from(fault: TextFault) -> PlanFault {
+        match fault {
+            TextFault::OutOfMemory => PlanFault::OutOfMemory,
+            TextFault::Failed => PlanFault::Failed,
+            TextFault::NotCanonical => PlanFault::NotCanonical,
+        }
     }
 }

@@ -1,12 +1,14 @@
 //! Plans: their text, both ways.
 #![tactic(auto)]
 
+pub mod decoding;
 pub mod fault;
 mod field;
 pub mod line;
 pub mod progress;
 pub mod text;
 
+pub use decoding::decode;
 pub use fault::PlanFault;
 pub use line::PlanLine;
 pub use text::PlanReader;

@@ -1,8 +1,8 @@
 //! A plan's text, read line by line.
-ghost use Rattle.std.specs.Prelude.{◌≡◌, ◌≢◌, ℕ, List, [], ◌∷◌, ◌++◌, length, map, Some, None};
+ghost use Rattle.std.specs.Prelude.{◌≡◌, ◌≢◌, ◌≤◌, ℕ, List, [], ◌∷◌, ◌++◌, length, map, Some, None};
 ghost use Rattle.ts_model.specs.Texts.{PathFits, KindFits};
 ghost use Rattle.ts_plan.specs.PlanLines.{LineFits};
-ghost use Rattle.ts_plan.specs.Progress.{start, all_actions};
+ghost use Rattle.ts_plan.specs.Progress.{start, all_actions, fed};
 ghost use Rattle.ts_plan.specs.Reading.{Takes, ReadsNext, Finishes};
 ghost use Rattle.ts_plan.specs.declared.progress.Part.TheVariants as part;
 ghost use Rattle.ts_plan.specs.declared.line.PlanLine.TheVariants as line;
@@ -72,10 +72,16 @@ impl PlanReader {
 
     /// Takes the next line of the text, without its line feed. At an error nothing changes.
     pub fn line(&mut self, line: &[u8]) -> Result<(), PlanFault>
-        ensures { ReadsNext self.old line.now result self.new }
+        ensures reads { ReadsNext self.old line.now result self.new }
+        ensures short { length (fed self.new) ≤ 6291458 }
     {
         match PlanLine::read(self.alloc, line) {
-            Ok(line) => self.take(line),
+            Ok(line) => {
+                let taken = self.take(line);
+                // Opens the reader, whose invariant bounds what was read.
+                let _ = &self.part;
+                taken
+            }
             Err(fault) => Err(fault),
         }
     }

@@ -1,0 +1,4 @@
+pub mod Order
+pub mod Rows
+pub mod Dirt
+pub mod Upto

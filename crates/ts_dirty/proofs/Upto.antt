@@ -1,0 +1,344 @@
+-- Paths that are gathered in path order, and what a walk over an archive and two replicas has found so far.
+use Rattle.std.proofs.Common.{◌≡◌, ◌≢◌, ◌⊎◌, ◌↔◌, ℕ, ◌+◌, ◌-◌, ◌<◌, ◌≤◌, Bool, true, false, cond, List, [], ◌∷◌, ◌++◌, length, length-append, get_or, Contains, refl, sym, ap, ◌∙◌, subst, inl, inr, arith, IsTrue}
+use Rattle.std.proofs.lemmas.Bool.{cases_lt, cases_order}
+use Rattle.std.proofs.lemmas.List.{get_or_append_left, get_or_push, get_or_default}
+use Rattle.std.proofs.lemmas.List.Elements.{All-from_recursion, Contains-get_or, Contains-push_cases, Contains-push, Contains-append_left}
+use Rattle.ts_name.specs.Paths.{Path, IsAbove, IsBefore}
+use Rattle.ts_dirty.specs.Found.{AreAscending, AreTopmost, HasAbove, LastIsAbove}
+use Rattle.std.specs.List.{AllByRecursion}
+use Rattle.std.specs.Prelude.{Any}
+use Rattle.ts_name.specs.Paths.{Name}
+use Rattle.ts_model.specs.Trees.{Listing, listed, at, IsListing}
+use Rattle.ts_model.specs.Holds.{Names, RuleNames, IsHeld}
+use Rattle.ts_model.specs.Texts.{IsRules, RuleFits}
+use Rattle.ts_model.specs.Sync.{Snapshot, listed_snapshot, IsHeldIn}
+use Rattle.ts_model.specs.declared.hold.Rule.{Rule}
+use Rattle.ts_model.specs.declared.hold.Rule.TheVariants.{OnePath, LastName}
+use Rattle.ts_model.specs.declared.row.Content.{Content}
+use Rattle.ts_model.specs.declared.row.Content.TheVariants.{Absent, Dir, File}
+use Rattle.ts_model.specs.declared.row.Stamp.{Stamp}
+use Rattle.ts_dirty.specs.Walks.{Left, IsStep, IsWalkStep}
+use Rattle.ts_dirty.specs.Found.{Found, IsFoundOf}
+use Rattle.ts_dirty.proofs.Rows.{IsRest, rest_all, rest_step, rest_between, rest_here, rest_forward}
+use Rattle.ts_dirty.proofs.Order.{before_itself, before_trans, before_cases, decide_before, before_upto, upto_before, not_after, above_upto, above_between, above_itself, above_trans}
+
+-- the paths up to b of which P holds
+pub record IsUpto (P : Path → Type 0) (b : Path) (ps : List Path) : Type 0 where
+  pub ascending : AreAscending ps
+  pub each : (q : Path) → Contains ps q → P q × (¬ IsBefore b q)
+  pub all : (q : Path) → P q → ¬ IsBefore b q → Contains ps q
+
+-- the topmost ones of them
+pub record IsTopUpto (P : Path → Type 0) (b : Path) (ps : List Path) : Type 0 where
+  pub ascending : AreAscending ps
+  pub topmost : AreTopmost ps
+  pub each : (q : Path) → Contains ps q → P q × (¬ IsBefore b q)
+  pub all : (q : Path) → P q → ¬ IsBefore b q → HasAbove ps q
+
+-- what is in a list with one more at its end
+push_get : (ps : List Path) (p d : Path) (i : ℕ) → i < length (ps ++ p ∷ []) → ((i < length ps) × (get_or (ps ++ p ∷ []) i d ≡ get_or ps i d)) ⊎ ((i ≡ length ps) × (get_or (ps ++ p ∷ []) i d ≡ p))
+push_get ps p d i l = elim (cases_lt i (length ps)) [
+  | inl less ↦ inl (less, get_or_append_left ps (p ∷ []) d i less)
+  | inr more ↦ let same : i ≡ length ps = omega (arith, length-append ps (p ∷ [])) in
+      inr (same, get_or_push ps p d i (sym same))
+]
+
+-- a relation of each with those after it, with one more at the end
+push_pairs : (R : Path → Path → Type 0) (ps : List Path) (p : Path) → ((i j : ℕ) (d : Path) → i < j → j < length ps → R (get_or ps i d) (get_or ps j d))
+    → ((i : ℕ) (d : Path) → i < length ps → R (get_or ps i d) p) → (i j : ℕ) (d : Path) → i < j → j < length (ps ++ p ∷ []) → R (get_or (ps ++ p ∷ []) i d) (get_or (ps ++ p ∷ []) j d)
+push_pairs R ps p old more i j d less l = go (push_get ps p d j l)
+  where
+    go : ((j < length ps) × (get_or (ps ++ p ∷ []) j d ≡ get_or ps j d)) ⊎ ((j ≡ length ps) × (get_or (ps ++ p ∷ []) j d ≡ p)) → R (get_or (ps ++ p ∷ []) i d) (get_or (ps ++ p ∷ []) j d)
+    go (inl h) =
+        let in' : i < length ps = omega (arith, h.0) in
+        subst (λ (x : Path). R x (get_or (ps ++ p ∷ []) j d)) (sym (get_or_append_left ps (p ∷ []) d i in')) (subst (λ (y : Path). R (get_or ps i d) y) (sym h.1) (old i j d less h.0))
+    go (inr h) =
+        let in' : i < length ps = omega (arith, h.0) in
+        subst (λ (x : Path). R x (get_or (ps ++ p ∷ []) j d)) (sym (get_or_append_left ps (p ∷ []) d i in')) (subst (λ (y : Path). R (get_or ps i d) y) (sym h.1) (more i d in'))
+
+-- up to b and not b: no later than any b after it
+upto_later : (b p q : Path) → IsBefore b p → ¬ IsBefore b q → ¬ IsBefore p q
+upto_later b p q less n more = n (before_trans b p q less more)
+
+-- where q stands, of b and p after it
+data Stands (b p q : Path) : Type 0 where
+  upto : ¬ IsBefore b q → Stands b p q
+  inside : IsBefore b q → IsBefore q p → Stands b p q
+  same : q ≡ p → Stands b p q
+
+stands : (b p q : Path) → ¬ IsBefore p q → Stands b p q
+stands b p q n = elim (decide_before b q) [
+  | no m ↦ upto m
+  | yes less ↦ elim (before_cases q p) [
+    | inl before ↦ inside less before
+    | inr more ↦ elim more [ inl e ↦ same e | inr after ↦ absurd (n after) ]
+  ]
+]
+
+-- nothing of P stands between b and p
+abbrev pub NoneBetween : (Path → Type 0) → Path → Path → Type 0
+NoneBetween P b p = (q : Path) → IsBefore b q → IsBefore q p → ¬ P q
+
+-- one more
+upto_more : (P : Path → Type 0) (b p : Path) (ps : List Path) → IsUpto P b ps → IsBefore b p → NoneBetween P b p → P p → IsUpto P p (ps ++ p ∷ [])
+upto_more P b p ps h less none here = record {
+  ascending = push_pairs IsBefore ps p h.ascending (λ i d l. upto_before (get_or ps i d) b p ((h.each (get_or ps i d) (Contains-get_or ps i d l)).1) less);
+  each = λ q c. elim (Contains-push_cases ps p q c) [
+    | inl old ↦ ((h.each q old).0, upto_later b p q less (h.each q old).1)
+    | inr e ↦ (subst P e here, λ more. before_itself p (subst (λ (z : Path). IsBefore p z) (sym e) more))
+  ];
+  all = λ q is n. elim (stands b p q n) [
+    | upto m ↦ Contains-append_left ps (p ∷ []) q (h.all q is m)
+    | inside after before ↦ absurd (none q after before is)
+    | same e ↦ subst (λ (z : Path). Contains (ps ++ p ∷ []) z) (sym e) (Contains-push ps p)
+  ];
+}
+
+-- none more
+upto_same : (P : Path → Type 0) (b p : Path) (ps : List Path) → IsUpto P b ps → IsBefore b p → NoneBetween P b p → ¬ P p → IsUpto P p ps
+upto_same P b p ps h less none no_more = record {
+  ascending = h.ascending;
+  each = λ q c. ((h.each q c).0, upto_later b p q less (h.each q c).1);
+  all = λ q is n. elim (stands b p q n) [
+    | upto m ↦ h.all q is m
+    | inside after before ↦ absurd (none q after before is)
+    | same e ↦ absurd (no_more (subst P e is))
+  ];
+}
+
+-- the path by a test
+pub upto_step : (P : Path → Type 0) (b p : Path) (old new : List Path) (test : Bool) → IsUpto P b old → IsBefore b p → NoneBetween P b p → (IsTrue test ↔ P p) → new ≡ cond test (old ++ p ∷ []) old → IsUpto P p new
+upto_step P b p old new true h less none is e = subst (λ (ps : List Path). IsUpto P p ps) (sym e) (upto_more P b p old h less none (is.0 refl))
+upto_step P b p old new false h less none is e = subst (λ (ps : List Path). IsUpto P p ps) (sym e) (upto_same P b p old h less none (λ here. let f : false ≡ true = is.1 here in cc))
+
+-- no path yet
+pub upto_none : (P : Path → Type 0) → ¬ P [] → IsUpto P [] []
+upto_none P n = record {
+  ascending = λ i j d less l. absurd (omega arith);
+  each = λ q c. absurd (omega (arith, c.1));
+  all = λ q is m. absurd (root q is m);
+}
+  where
+    root : (q : Path) → P q → ¬ IsBefore [] q → ⊥
+    root [] is m = n is
+    root (x ∷ q) is m = m refl
+
+-- at the end all
+pub upto_end : (P : Path → Type 0) (b : Path) (ps : List Path) → IsUpto P b ps → ((q : Path) → IsBefore b q → ¬ P q) → (q : Path) → Contains ps q ↔ P q
+upto_end P b ps h none q = (
+    λ c. (h.each q c).0,
+    λ is. elim (decide_before b q) [ yes later ↦ absurd (none q later is) | no n ↦ h.all q is n ],
+  )
+
+-- ---- the topmost
+
+-- the last of the paths is above whatever of them is above p
+last_above : (ps : List Path) (p : Path) → AreAscending ps → AreTopmost ps → ((q : Path) → Contains ps q → IsBefore q p) → (i : ℕ) (d : Path) → i < length ps → IsAbove (get_or ps i d) p → LastIsAbove ps p
+last_above ps p ascending topmost before i d l above = elim (cases_lt i (length ps - 1)) [
+  | inr more ↦
+      let same : i ≡ length ps - 1 = omega arith in
+      let in' : length ps - 1 < length ps = omega arith in
+      let some : 0 < length ps = omega arith in
+      (get_or ps i d, some, ap (λ (k : ℕ). get_or ps k d) same ∙ get_or_default ps (length ps - 1) d (get_or ps i d) in', above)
+  | inl less ↦
+      let in' : length ps - 1 < length ps = omega arith in
+      absurd (topmost i (length ps - 1) d less in'
+      (above_between (get_or ps i d) (get_or ps (length ps - 1) d) p above
+      (not_after (get_or ps i d) (get_or ps (length ps - 1) d) (ascending i (length ps - 1) d less in'))
+      (not_after (get_or ps (length ps - 1) d) p (before (get_or ps (length ps - 1) d) (Contains-get_or ps (length ps - 1) d in')))))
+]
+
+-- one more, below none of them
+top_more : (P : Path → Type 0) (b p : Path) (ps : List Path) → IsTopUpto P b ps → IsBefore b p → NoneBetween P b p → P p → ¬ LastIsAbove ps p → IsTopUpto P p (ps ++ p ∷ [])
+top_more P b p ps h less none here alone = record {
+  ascending = push_pairs IsBefore ps p h.ascending (λ i d l. earlier (get_or ps i d) (Contains-get_or ps i d l));
+  topmost = push_pairs (λ x y. ¬ IsAbove x y) ps p h.topmost (λ i d l above. alone (last_above ps p h.ascending h.topmost earlier i d l above));
+  each = λ q c. elim (Contains-push_cases ps p q c) [
+    | inl old ↦ ((h.each q old).0, upto_later b p q less (h.each q old).1)
+    | inr e ↦ (subst P e here, λ more. before_itself p (subst (λ (z : Path). IsBefore p z) (sym e) more))
+  ];
+  all = λ q is n. elim (stands b p q n) [
+    | upto m ↦ let top = h.all q is m in (top.0, Contains-append_left ps (p ∷ []) top.0 top.1, top.2)
+    | inside after before ↦ absurd (none q after before is)
+    | same e ↦ (p, Contains-push ps p, subst (λ (z : Path). IsAbove p z) (sym e) (above_itself p))
+  ];
+}
+  where
+    earlier : (q : Path) → Contains ps q → IsBefore q p
+    earlier q c = upto_before q b p (h.each q c).1 less
+
+-- none more: it isn't one, or it is below the last
+top_same : (P : Path → Type 0) (b p : Path) (ps : List Path) → IsTopUpto P b ps → IsBefore b p → NoneBetween P b p → (P p → HasAbove ps p) → IsTopUpto P p ps
+top_same P b p ps h less none covered = record {
+  ascending = h.ascending;
+  topmost = h.topmost;
+  each = λ q c. ((h.each q c).0, upto_later b p q less (h.each q c).1);
+  all = λ q is n. elim (stands b p q n) [
+    | upto m ↦ h.all q is m
+    | inside after before ↦ absurd (none q after before is)
+    | same e ↦ subst (λ (z : Path). HasAbove ps z) (sym e) (covered (subst P e is))
+  ];
+}
+
+-- the path by tests
+top_step : (P : Path → Type 0) (b p : Path) (old new : List Path) (named under test : Bool) → IsTopUpto P b old → IsBefore b p → NoneBetween P b p → (IsTrue named ↔ P p) → (IsTrue under ↔ LastIsAbove old p)
+    → test ≡ cond named (cond under false true) false → new ≡ cond test (old ++ p ∷ []) old → IsTopUpto P p new
+top_step P b p old new true false test h less none is is_under t e = subst (λ (ps : List Path). IsTopUpto P p ps) (sym (e ∙ ap (λ (u : Bool). cond u (old ++ p ∷ []) old) t))
+    (top_more P b p old h less none (is.0 refl) (λ last. let f : false ≡ true = is_under.1 last in cc))
+top_step P b p old new true true test h less none is is_under t e = subst (λ (ps : List Path). IsTopUpto P p ps) (sym (e ∙ ap (λ (u : Bool). cond u (old ++ p ∷ []) old) t))
+    (top_same P b p old h less none (λ _. let last = is_under.0 refl in (last.0, (length old - 1, omega (arith, last.1), sym last.2), last.3)))
+top_step P b p old new false under test h less none is is_under t e = subst (λ (ps : List Path). IsTopUpto P p ps) (sym (e ∙ ap (λ (u : Bool). cond u (old ++ p ∷ []) old) t))
+    (top_same P b p old h less none (λ here. let f : false ≡ true = is.1 here in cc))
+
+-- no path yet
+top_none : (P : Path → Type 0) → ¬ P [] → IsTopUpto P [] []
+top_none P n = record {
+  ascending = λ i j d less l. absurd (omega arith);
+  topmost = λ i j d less l. absurd (omega arith);
+  each = λ q c. absurd (omega (arith, c.1));
+  all = λ q is m. absurd (root q is m);
+}
+  where
+    root : (q : Path) → P q → ¬ IsBefore [] q → ⊥
+    root [] is m = n is
+    root (x ∷ q) is m = m refl
+
+-- ---- a walk over an archive and two replicas
+
+module _ (A F S : Listing Stamp) (rules : List Rule) where
+  abbrev s : Snapshot
+  s = listed_snapshot A F S rules
+
+  -- what was found up to the path b, with this left
+  pub record IsWalked (left : Left) (first second apart held : List Path) : Type 0 where
+    pub b : Path
+    pub archive_left : IsRest b A left.archive
+    pub first_left : IsRest b F left.first
+    pub second_left : IsRest b S left.second
+    pub in_first : IsUpto (λ q. at F q ≢ at A q) b first
+    pub in_second : IsUpto (λ q. at S q ≢ at A q) b second
+    pub in_apart : IsUpto (λ q. at F q ≢ at S q) b apart
+    pub in_held : IsTopUpto (IsHeldIn s) b held
+
+  differ_iff : (x y c d : Content Stamp) (test : Bool) → x ≡ c → y ≡ d → (IsTrue test ↔ (c ≢ d)) → IsTrue test ↔ (x ≢ y)
+  differ_iff x y c d test e f is = (λ h g. is.0 h (sym e ∙ g ∙ f), λ n. is.1 (λ g. n (e ∙ g ∙ sym f)))
+
+  pub walked_step : (old new : Left) (p : Path) (c_archive c_first c_second : Content Stamp) (first second apart held first' second' apart' held' : List Path) (t_first t_second t_apart named under t_held : Bool)
+      → IsWalked old first second apart held → IsWalkStep p c_archive c_first c_second old new
+      → (IsTrue t_first ↔ (c_first ≢ c_archive)) → first' ≡ cond t_first (first ++ p ∷ []) first
+      → (IsTrue t_second ↔ (c_second ≢ c_archive)) → second' ≡ cond t_second (second ++ p ∷ []) second
+      → (IsTrue t_apart ↔ (c_first ≢ c_second)) → apart' ≡ cond t_apart (apart ++ p ∷ []) apart
+      → (IsTrue named ↔ Names rules p) → (IsTrue under ↔ LastIsAbove held p) → t_held ≡ cond named (cond under false true) false → held' ≡ cond t_held (held ++ p ∷ []) held
+      → IsWalked new first' second' apart' held'
+  walked_step old new p ca cf cs first second apart held first' second' apart' held' tf ts ta named under th w step is_f e_f is_s e_s is_a e_a is_n is_u t e_h = record {
+    b = p;
+    archive_left = rest_step w.b p ca A old.archive new.archive w.archive_left step.in_archive less;
+    first_left = rest_step w.b p cf F old.first new.first w.first_left step.in_first less;
+    second_left = rest_step w.b p cs S old.second new.second w.second_left step.in_second less;
+    in_first = upto_step (λ q. at F q ≢ at A q) w.b p first first' tf w.in_first less (λ q after before n. n (absent_f q after before ∙ sym (absent_a q after before))) (differ_iff (at F p) (at A p) cf ca tf here_f here_a is_f) e_f;
+    in_second = upto_step (λ q. at S q ≢ at A q) w.b p second second' ts w.in_second less (λ q after before n. n (absent_s q after before ∙ sym (absent_a q after before))) (differ_iff (at S p) (at A p) cs ca ts here_s here_a is_s) e_s;
+    in_apart = upto_step (λ q. at F q ≢ at S q) w.b p apart apart' ta w.in_apart less (λ q after before n. n (absent_f q after before ∙ sym (absent_s q after before))) (differ_iff (at F p) (at S p) cf cs ta here_f here_s is_a) e_a;
+    in_held = top_step (IsHeldIn s) w.b p held held' named under th w.in_held less (λ q after before h. not_there q after before h.present)
+        (λ yes. record { present = present; named = is_n.0 yes }, λ h. is_n.1 h.named) is_u t e_h;
+  }
+    where
+      less : IsBefore w.b p
+      less = elim step.some [
+        | inl there ↦ rest_forward w.b p ca A old.archive new.archive w.archive_left step.in_archive there
+        | inr more ↦ elim more [
+          | inl there ↦ rest_forward w.b p cf F old.first new.first w.first_left step.in_first there
+          | inr there ↦ rest_forward w.b p cs S old.second new.second w.second_left step.in_second there
+        ]
+      ]
+
+      absent_a : (q : Path) → IsBefore w.b q → IsBefore q p → at A q ≡ Absent
+      absent_a q after before = rest_between w.b p q ca A old.archive new.archive w.archive_left step.in_archive after before
+
+      absent_f : (q : Path) → IsBefore w.b q → IsBefore q p → at F q ≡ Absent
+      absent_f q after before = rest_between w.b p q cf F old.first new.first w.first_left step.in_first after before
+
+      absent_s : (q : Path) → IsBefore w.b q → IsBefore q p → at S q ≡ Absent
+      absent_s q after before = rest_between w.b p q cs S old.second new.second w.second_left step.in_second after before
+
+      here_a : at A p ≡ ca
+      here_a = rest_here w.b p ca A old.archive new.archive w.archive_left step.in_archive less
+
+      here_f : at F p ≡ cf
+      here_f = rest_here w.b p cf F old.first new.first w.first_left step.in_first less
+
+      here_s : at S p ≡ cs
+      here_s = rest_here w.b p cs S old.second new.second w.second_left step.in_second less
+
+      not_there : (q : Path) → IsBefore w.b q → IsBefore q p → (at F q ≢ Absent) ⊎ ((at S q ≢ Absent) ⊎ (at A q ≢ Absent)) → ⊥
+      not_there q after before (inl n) = n (absent_f q after before)
+      not_there q after before (inr (inl n)) = n (absent_s q after before)
+      not_there q after before (inr (inr n)) = n (absent_a q after before)
+
+      present : (at F p ≢ Absent) ⊎ ((at S p ≢ Absent) ⊎ (at A p ≢ Absent))
+      present = elim step.some [
+        | inl there ↦ inr (inr (λ e. there (sym here_a ∙ e)))
+        | inr more ↦ elim more [
+          | inl there ↦ inl (λ e. there (sym here_f ∙ e))
+          | inr there ↦ inr (inl (λ e. there (sym here_s ∙ e)))
+        ]
+      ]
+
+  -- no rule names the root
+  no_root : (rules : List Rule) → AllByRecursion RuleFits rules → ¬ Any (RuleNames []) rules
+  no_root rules fit named =
+      unnamed named.1 (subst RuleFits named.3 (All-from_recursion RuleFits rules fit named.0 named.1 named.2)) named.4
+    where
+      snoc : (q : Path) (name : Name) → q ++ name ∷ [] ≢ []
+      snoc [] name e = cc
+      snoc (x ∷ q) name e = cc
+
+      unnamed : (rule : Rule) → RuleFits rule → ¬ RuleNames [] rule
+      unnamed (OnePath path) fits e = fits.1 (sym e)
+      unnamed (LastName pattern) fits found = snoc found.0 found.1 (sym found.2)
+
+  pub walked_none : IsListing A → IsListing F → IsListing S → IsRules rules → IsWalked (record { archive = A; first = F; second = S }) [] [] [] []
+  walked_none lists_a lists_f lists_s fit = record {
+    b = [];
+    archive_left = rest_all A lists_a;
+    first_left = rest_all F lists_f;
+    second_left = rest_all S lists_s;
+    in_first = upto_none (λ q. at F q ≢ at A q) (λ n. n refl);
+    in_second = upto_none (λ q. at S q ≢ at A q) (λ n. n refl);
+    in_apart = upto_none (λ q. at F q ≢ at S q) (λ n. n refl);
+    in_held = top_none (IsHeldIn s) (λ h. no_root rules fit.each h.named);
+  }
+
+  -- after the last path nothing is left
+  pub walked_end : (left : Left) (first second apart held : List Path) → IsWalked left first second apart held → (left.archive ≡ []) × (left.first ≡ []) × (left.second ≡ [])
+      → IsFoundOf s (record { first = first; second = second; apart = apart; held = held })
+  walked_end left first second apart held w ended = record {
+    first = upto_end (λ q. at F q ≢ at A q) w.b first w.in_first (λ q later n. n (none_f q later ∙ sym (none_a q later)));
+    second = upto_end (λ q. at S q ≢ at A q) w.b second w.in_second (λ q later n. n (none_s q later ∙ sym (none_a q later)));
+    apart = upto_end (λ q. at F q ≢ at S q) w.b apart w.in_apart (λ q later n. n (none_f q later ∙ sym (none_s q later)));
+    held = λ q c. (w.in_held.each q c).0;
+    covered = λ q h. elim (decide_before w.b q) [ yes later ↦ absurd (not_there q later h.present) | no n ↦ w.in_held.all q h n ];
+  }
+    where
+      none_a : (q : Path) → IsBefore w.b q → at A q ≡ Absent
+      none_a q later = sym (w.archive_left.later q later) ∙ ap (λ (rows : Listing Stamp). listed rows q) ended.0
+
+      none_f : (q : Path) → IsBefore w.b q → at F q ≡ Absent
+      none_f q later = sym (w.first_left.later q later) ∙ ap (λ (rows : Listing Stamp). listed rows q) ended.1
+
+      none_s : (q : Path) → IsBefore w.b q → at S q ≡ Absent
+      none_s q later = sym (w.second_left.later q later) ∙ ap (λ (rows : Listing Stamp). listed rows q) ended.2
+
+      not_there : (q : Path) → IsBefore w.b q → (at F q ≢ Absent) ⊎ ((at S q ≢ Absent) ⊎ (at A q ≢ Absent)) → ⊥
+      not_there q later (inl n) = n (none_f q later)
+      not_there q later (inr (inl n)) = n (none_s q later)
+      not_there q later (inr (inr n)) = n (none_a q later)
+
+  -- the beginning, as code has it
+  pub walked_start : (archive first second : Listing Stamp) (walk : Left) (x y z w : List Path) → archive ≡ A → first ≡ F → second ≡ S → IsListing A → IsListing F → IsListing S → IsRules rules
+      → walk ≡ record { archive = archive; first = first; second = second } → x ≡ [] → y ≡ [] → z ≡ [] → w ≡ [] → IsWalked walk x y z w
+  walked_start archive first second walk x y z w e_a e_f e_s lists_a lists_f lists_s fit e_w e_x e_y e_z e_h =
+      subst (λ (l : Left). IsWalked l x y z w) (sym (e_w ∙ (λ i. record { archive = e_a i; first = e_f i; second = e_s i })))
+      (subst (λ (l : List Path). IsWalked (record { archive = A; first = F; second = S }) l y z w) (sym e_x)
+      (subst (λ (l : List Path). IsWalked (record { archive = A; first = F; second = S }) [] l z w) (sym e_y)
+      (subst (λ (l : List Path). IsWalked (record { archive = A; first = F; second = S }) [] [] l w) (sym e_z)
+      (subst (λ (l : List Path). IsWalked (record { archive = A; first = F; second = S }) [] [] [] l) (sym e_h) (walked_none lists_a lists_f lists_s fit)))))

@@ -1,0 +1,122 @@
+ghost use Rattle.std.specs.Prelude.{◌≡◌, ◌≢◌, ◌↔◌, ◌∷◌, ◌++◌, [], IfOk, IsTrue, cond, false, true};
+ghost use Rattle.ts_dirty.specs.Found.{IsFoundOf, LastIsAbove};
+ghost use Rattle.ts_model.specs.Sync.{listed_snapshot};
+ghost use Rattle.ts_model.specs.Trees.{IsListing};
+
+use crate::fault::DirtyFault;
+use crate::marks::Marks;
+use crate::walk::Walk;
+use std::alloc::{AllocError, Global};
+use ts_hold::Holds;
+use ts_model::row::{Content, Row, Stamp};
+use ts_name::Path;
+use ts_print::Print;
+
+/// Compares both replicas with the archive, path by path.
+///
+/// # Errors
+///
+/// Want of memory.
+pub fn detect(alloc: Global, archive: &Print, first: &Print, second: &Print, holds: &Holds) -> Result<Marks, DirtyFault>
+    ensures { IfOk result (λ marks. IsFoundOf (listed_snapshot archive.now first.now second.now holds.now) marks) }
+{
+    compare(alloc, archive.rows(), first.rows(), second.rows(), holds)
+}
+
+/// The same of the prints' rows.
+fn compare(alloc: Global, archive: &[Row<Stamp>], first: &[Row<Stamp>], second: &[Row<Stamp>], holds: &Holds) -> Result<Marks, DirtyFault>
+    requires archive { IsListing archive.now }
+    requires first { IsListing first.now }
+    requires second { IsListing second.now }
+    ensures { IfOk result (λ marks. IsFoundOf (listed_snapshot archive.now first.now second.now holds.now) marks) }
+{
+    let _rules = holds.rules();
+    let mut changed_first = Vec::new(alloc);
+    let mut changed_second = Vec::new(alloc);
+    let mut apart = Vec::new(alloc);
+    let mut held = Vec::new(alloc);
+    let mut walk = Walk::new(archive, first, second);
+    while let Some(seen) = walk.next() {
+        note(alloc, &mut changed_first, seen.path, differ(&seen.first, &seen.archive))?;
+        note(alloc, &mut changed_second, seen.path, differ(&seen.second, &seen.archive))?;
+        note(alloc, &mut apart, seen.path, differ(&seen.first, &seen.second))?;
+        let is_held = holds.holds(seen.path);
+        let is_covered = last_is_above(held.as_slice(), seen.path);
+        note(alloc, &mut held, seen.path, and_not(is_held, is_covered))?;
+    }
+    Ok(Marks::new(changed_first, changed_second, apart, held))
+}
+
+/// Whether two contents aren't the same.
+fn differ(one: &Content<Stamp>, other: &Content<Stamp>) -> bool
+    ensures { IsTrue result ↔ (one.now ≢ other.now) }
+{
+    one != other
+}
+
+/// Whether the last one of the paths is above this one.
+fn last_is_above(paths: &[Path], path: &Path) -> bool
+    ensures { IsTrue result ↔ LastIsAbove paths.now path.now }
+{
+    match paths {
+        [.., last] => last.is_prefix(path),
+        [] => false,
+    }
+}
+
+/// Puts the path at the end of the paths, where it is wanted.
+fn note(alloc: Global, paths: &mut Vec<Path>, path: &Path, is_wanted: bool) -> Result<(), AllocError>
+    ensures { IfOk result (λ _. paths.new.items ≡ cond is_wanted (paths.old.items ++ path.now ∷ []) paths.old.items) }
+{
+    if is_wanted {
+        let Ok(copy) = path.copy(alloc) else {
+            return Err(AllocError);
+        };
+        paths.push(copy)?;
+    }
+    Ok(())
+}
+
+/// The first and not the second.
+fn and_not(first: bool, second: bool) -> bool
+    ensures { result ≡ cond first (cond second false true) false }
+{
+    first && !second
+}
+
+#[cfg(test)]
+mod tests {
+    use super::*;
+    use std::test::Fail;
+    use ts_model::plan::Side;
+
+    #[test]
+    fn nothing_differs(rt: HostRuntime) -> Result<(), Fail> {
+        let alloc = rt.alloc();
+        let (archive, first, second) = (Print::empty(alloc), Print::empty(alloc), Print::empty(alloc));
+        let marks = detect(alloc, &archive, &first, &second, &Holds::none(alloc))?;
+        let path = Path::parse_text(alloc, b"/a")?;
+        for side in [Side::First, Side::Second] {
+            assert!(rt; !marks.dirty(side, &Path::root(alloc)));
+            assert!(rt; !marks.changed(side, &path));
+        }
+        assert!(rt; marks.agree(&path));
+        assert!(rt; !marks.touches_held(&path));
+        Ok(())
+    }
+
+    #[test]
+    fn differing_contents_are_noted(rt: HostRuntime) -> Result<(), Fail> {
+        let alloc = rt.alloc();
+        let stamp = Stamp { size: 1, digest: [7; 32] };
+        assert!(rt; differ(&Content::Dir, &Content::Absent));
+        assert!(rt; differ(&Content::File(stamp), &Content::File(Stamp { size: 2, digest: [7; 32] })));
+        assert!(rt; differ(&Content::File(stamp), &Content::File(Stamp { size: 1, digest: [8; 32] })));
+        assert!(rt; !differ(&Content::File(stamp), &Content::File(stamp)));
+        let mut paths = Vec::new(alloc);
+        note(alloc, &mut paths, &Path::parse_text(alloc, b"/a")?, true)?;
+        note(alloc, &mut paths, &Path::parse_text(alloc, b"/b")?, false)?;
+        assert_eq!(rt; paths.len(), 1);
+        Ok(())
+    }
+}

@@ -1,0 +1,11 @@
+use Rattle.std.proofs.Common.{◌-◌, length}
+use Rattle.ts_plan.specs.Progress.{fed}
+use Rattle.ts_plan.proofs.Sources.{Given}
+use Rattle.ts_plan.proofs.decoding.decode.Given as goal
+
+-- the lines given are those that the reader has read
+abbrev pub invariant-loop-reader : goal.invariant-loop-reader
+invariant-loop-reader g l = Given l.initial.lines l.lines (fed l.reader)
+
+abbrev pub decreases-loop-reader : goal.decreases-loop-reader
+decreases-loop-reader g l = 6291459 - length (fed l.reader)

@@ -1,0 +1,8 @@
+-- The numbers of the faults.
+use Rattle.std.specs.Prelude.{ℕ}
+use Rattle.ts_plan_build.specs.declared.fault.PlanFault.{PlanFault}
+use Rattle.ts_plan_build.specs.declared.fault.PlanFault.TheVariants.{OutOfMemory, PastLimit}
+
+abbrev pub number_of : PlanFault → ℕ
+number_of OutOfMemory = 1
+number_of PastLimit = 12

@@ -1,0 +1,117 @@
+ghost use Rattle.std.specs.Prelude.{◌≡◌, ◌+◌, ◌-◌, ◌≤◌, ◌<◌, ◌++◌, ◌∷◌, [], IfOk, cond, length, min};
+ghost use Rattle.ts_model.specs.Plans.{action_limit};
+ghost use Rattle.ts_plan_build.specs.Blocks.{block, commit_of, copy_block, each_below, mark_of, piece_count, piece_of, pieces_of, some_of};
+
+use crate::fault::PlanFault;
+use std::alloc::{AllocError, Global};
+use ts_model::items::Items;
+use ts_model::plan::{Action, Entry, Kind, Reason};
+use ts_model::row::{Content, Row, Stamp};
+use ts_name::Path;
+use ts_print::Print;
+
+/// The most actions that a plan may have.
+const ACTION_LIMIT: usize = 1_048_576;
+
+/// The most bytes of a piece.
+const PIECE_SIZE: u64 = 1_048_576;
+
+/// Adds the actions of an entry: its pieces, its commit and its mark, as far as it has them. `above` is the mark of the
+/// nearest new directory above its path.
+pub(crate) fn add_entry(alloc: Global, actions: &mut Vec<Action>, number: u32, entry: &Entry, above: Option<u32>, first: &Print, second: &Print) -> Result<(), PlanFault>
+    requires { length actions.old.items ≤ action_limit }
+    ensures { IfOk result (λ _. (actions.new.items ≡ actions.old.items ++ block first.now second.now number entry.now.path entry.now.reason above (length actions.old.items)) × (length actions.new.items ≤ action_limit)) }
+{
+    match entry.reason {
+        Reason::Same | Reason::Dir => add_mark(alloc, actions, number, above, None),
+        Reason::First => add_copy(alloc, actions, number, first.sub(&entry.path), above),
+        Reason::Second => add_copy(alloc, actions, number, second.sub(&entry.path), above),
+        Reason::Conflict | Reason::Held => Ok(()),
+    }
+}
+
+/// Adds the actions of an entry that is copied, of the rows at its path and below it.
+fn add_copy(alloc: Global, actions: &mut Vec<Action>, entry: u32, rows: &[Row<Stamp>], above: Option<u32>) -> Result<(), PlanFault>
+    requires { length actions.old.items ≤ action_limit }
+    ensures { IfOk result (λ _. (actions.new.items ≡ actions.old.items ++ copy_block entry rows.now above (length actions.old.items)) × (length actions.new.items ≤ action_limit)) }
+{
+    let from = actions.len() as u32;
+    for row in rows {
+        if let Content::File(stamp) = row.content {
+            add_file(alloc, actions, entry, &row.path, stamp.size)?;
+        }
+    }
+    let to = actions.len() as u32;
+    let pieces = numbers(alloc, from, to)?;
+    push(actions, Kind::Commit { entry }, pieces)?;
+    add_mark(alloc, actions, entry, above, Some(to))
+}
+
+/// Adds the pieces of a file.
+fn add_file(alloc: Global, actions: &mut Vec<Action>, entry: u32, path: &Path, size: u64) -> Result<(), PlanFault>
+    requires { length actions.old.items ≤ action_limit }
+    ensures { IfOk result (λ _. (actions.new.items ≡ actions.old.items ++ each_below (piece_of entry path.now size) (piece_count size)) × (length actions.new.items ≤ action_limit)) }
+{
+    let count = count_pieces(size);
+    for piece in 0..count {
+        let offset = piece * PIECE_SIZE;
+        let Ok(path) = path.copy(alloc) else {
+            return Err(PlanFault::OutOfMemory);
+        };
+        let kind = Kind::Piece {
+            entry,
+            offset,
+            length: PIECE_SIZE.min(size - offset),
+            path,
+        };
+        push(actions, kind, Vec::new(alloc))?;
+    }
+    Ok(())
+}
+
+/// How many pieces a file of this size has.
+fn count_pieces(size: u64) -> u64
+    ensures { result ≡ piece_count size }
+{
+    if size == 0 { 0 } else { (size - 1) / PIECE_SIZE + 1 }
+}
+
+/// Adds the mark of an entry, which waits for these two.
+fn add_mark(alloc: Global, actions: &mut Vec<Action>, entry: u32, above: Option<u32>, commit: Option<u32>) -> Result<(), PlanFault>
+    requires { length actions.old.items ≤ action_limit }
+    ensures { IfOk result (λ _. (actions.new.items ≡ actions.old.items ++ mark_of entry above commit ∷ []) × (length actions.new.items ≤ action_limit)) }
+{
+    let mut preds = Vec::new(alloc);
+    if let Some(mark) = above {
+        preds.push(mark)?;
+    }
+    if let Some(commit) = commit {
+        preds.push(commit)?;
+    }
+    push(actions, Kind::Mark { entry }, preds)
+}
+
+/// Adds an action, where there is room for one more.
+fn push(actions: &mut Vec<Action>, kind: Kind, preds: Vec<u32>) -> Result<(), PlanFault>
+    requires { length actions.old.items ≤ action_limit }
+    ensures { IfOk result (λ _. (actions.new.items ≡ actions.old.items ++ record { kind = kind; preds = preds.items } ∷ []) × (length actions.new.items ≤ action_limit)) }
+{
+    if actions.len() >= ACTION_LIMIT {
+        return Err(PlanFault::PastLimit);
+    }
+    let preds = Items::new(preds);
+    actions.push(Action { kind, preds })?;
+    Ok(())
+}
+
+/// The numbers of a range.
+fn numbers(alloc: Global, from: u32, to: u32) -> Result<Vec<u32>, AllocError>
+    requires { from ≤ to }
+    ensures { IfOk result (λ found. found.items ≡ each_below (λ i. from + i) (to - from)) }
+{
+    let mut found = Vec::new(alloc);
+    for number in from..to {
+        found.push(number)?;
+    }
+    Ok(found)
+}

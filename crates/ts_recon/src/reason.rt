@@ -1,0 +1,67 @@
+ghost use Rattle.std.specs.Prelude.{◌≡◌, ◌↔◌, ◌-◌, ◌≤◌, IsTrue, cond, length, min};
+ghost use Rattle.ts_dirty.specs.Found.{IsFoundOf};
+ghost use Rattle.ts_model.specs.Sync.{Because, IsBelowDirs, Snapshot};
+ghost use Rattle.ts_model.specs.declared.row.Content.TheVariants.{Dir};
+ghost use Rattle.ts_recon.specs.Reasons.{IsBecause, IsReasonOf, IsSeen, differing_reason};
+
+use ts_dirty::{Marks, Seen};
+use ts_model::plan::{Reason, Side};
+use ts_model::row::{Content, Stamp};
+
+/// The reason of the path, None where it has none. Its parent is a directory of both replicas where it has at
+/// most `shared` names.
+pub(crate) fn reason_at(marks: &Marks, seen: &Seen, shared: usize) -> Option<Reason>
+    ensures { (s : Snapshot) → IsFoundOf s marks.now → IsSeen s seen.now.path.now seen.now.archive seen.now.first seen.now.second
+        → (IsBelowDirs s.first s.second seen.now.path.now ↔ (length seen.now.path.now - 1 ≤ shared)) → IsReasonOf s seen.now.path.now result }
+{
+    if seen.path.depth().saturating_sub(1) <= shared {
+        reason_below_dirs(marks, seen)
+    } else {
+        None
+    }
+}
+
+/// The reason of a path below directories of both replicas, None where it has none.
+fn reason_below_dirs(marks: &Marks, seen: &Seen) -> Option<Reason>
+    ensures { (s : Snapshot) → IsFoundOf s marks.now → IsSeen s seen.now.path.now seen.now.archive seen.now.first seen.now.second → IsBecause s seen.now.path.now result }
+{
+    if is_shared(seen) {
+        return if is_dir(&seen.archive) { None } else { Some(Reason::Dir) };
+    }
+    let first = marks.changed(Side::First, seen.path);
+    if marks.agree(seen.path) {
+        return if first { Some(Reason::Same) } else { None };
+    }
+    let second = marks.changed(Side::Second, seen.path);
+    let is_held = marks.touches_held(seen.path);
+    Some(differing(first, second, is_held))
+}
+
+/// The reason where the replicas differ.
+fn differing(first: bool, second: bool, is_held: bool) -> Reason
+    ensures { result ≡ differing_reason first second is_held }
+{
+    if first && second {
+        Reason::Conflict
+    } else if is_held {
+        Reason::Held
+    } else if first {
+        Reason::First
+    } else {
+        Reason::Second
+    }
+}
+
+/// Whether both replicas have a directory there.
+pub(crate) fn is_shared(seen: &Seen) -> bool
+    ensures { IsTrue result ↔ ((seen.now.first ≡ Dir) × (seen.now.second ≡ Dir)) }
+{
+    is_dir(&seen.first) && is_dir(&seen.second)
+}
+
+/// Whether a directory stands there.
+fn is_dir(content: &Content<Stamp>) -> bool
+    ensures { IsTrue result ↔ (content.now ≡ Dir) }
+{
+    matches!(content, Content::Dir)
+}

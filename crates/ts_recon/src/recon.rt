@@ -1,0 +1,97 @@
+ghost use Rattle.std.specs.Prelude.{◌≡◌, ◌-◌, IfOk, List, cond, min};
+ghost use Rattle.ts_dirty.specs.Found.{IsFoundOf};
+ghost use Rattle.ts_model.specs.Sync.{listed_snapshot};
+ghost use Rattle.ts_model.specs.Trees.{IsListing};
+ghost use Rattle.ts_model.specs.declared.hold.Rule.{Rule};
+ghost use Rattle.ts_recon.specs.Reasons.{AreReasons, with_reason};
+
+use crate::fault::ReconFault;
+use crate::reason::{is_shared, reason_at};
+use std::alloc::{AllocError, Global};
+use ts_dirty::{Marks, Walk};
+use ts_model::plan::{Entry, Reason};
+use ts_model::row::{Row, Stamp};
+use ts_name::Path;
+use ts_print::Print;
+
+/// The paths that have a reason, each with it, in path order. The marks are those of the same prints.
+///
+/// # Errors
+///
+/// Want of memory.
+pub fn reasons(alloc: Global, archive: &Print, first: &Print, second: &Print, marks: &Marks) -> Result<Vec<Entry>, ReconFault>
+    ensures { (rules : List Rule) → IsFoundOf (listed_snapshot archive.now first.now second.now rules) marks.now
+        → IfOk result (λ entries. AreReasons (listed_snapshot archive.now first.now second.now rules) entries.items) }
+{
+    gather(alloc, archive.rows(), first.rows(), second.rows(), marks)
+}
+
+/// The same of the prints' rows.
+fn gather(alloc: Global, archive: &[Row<Stamp>], first: &[Row<Stamp>], second: &[Row<Stamp>], marks: &Marks) -> Result<Vec<Entry>, ReconFault>
+    requires archive { IsListing archive.now }
+    requires first { IsListing first.now }
+    requires second { IsListing second.now }
+    ensures { (rules : List Rule) → IsFoundOf (listed_snapshot archive.now first.now second.now rules) marks.now
+        → IfOk result (λ entries. AreReasons (listed_snapshot archive.now first.now second.now rules) entries.items) }
+{
+    let mut entries = Vec::new(alloc);
+    let mut walk = Walk::new(archive, first, second);
+    // how many names of the path that the walk is at lead down directories of both replicas
+    let mut shared = 0;
+    while let Some(seen) = walk.next() {
+        add(alloc, &mut entries, seen.path, reason_at(marks, &seen, shared))?;
+        shared = shared_after(shared, seen.path.depth(), is_shared(&seen));
+    }
+    Ok(entries)
+}
+
+/// Puts the path with its reason at the end of the entries, where it has one.
+fn add(alloc: Global, entries: &mut Vec<Entry>, path: &Path, reason: Option<Reason>) -> Result<(), AllocError>
+    ensures { IfOk result (λ _. entries.new.items ≡ with_reason entries.old.items path.now reason) }
+{
+    if let Some(reason) = reason {
+        let Ok(path) = path.copy(alloc) else {
+            return Err(AllocError);
+        };
+        entries.push(Entry { path, reason })?;
+    }
+    Ok(())
+}
+
+/// How many names of a path lead down directories of both replicas, where `shared` names of the path before it did.
+fn shared_after(shared: usize, depth: usize, is_shared: bool) -> usize
+    ensures { result ≡ cond is_shared depth (min shared (depth - 1)) }
+{
+    if is_shared { depth } else { shared.min(depth.saturating_sub(1)) }
+}
+
+#[cfg(test)]
+mod tests {
+    use super::*;
+    use std::test::Fail;
+    use ts_dirty::detect;
+    use ts_hold::Holds;
+
+    #[test]
+    fn nothing_needs_attention(rt: HostRuntime) -> Result<(), Fail> {
+        let alloc = rt.alloc();
+        let (archive, first, second) = (Print::empty(alloc), Print::empty(alloc), Print::empty(alloc));
+        let marks = detect(alloc, &archive, &first, &second, &Holds::none(alloc))?;
+        let entries = reasons(alloc, &archive, &first, &second, &marks)?;
+        assert_eq!(rt; entries.len(), 0);
+        Ok(())
+    }
+
+    #[test]
+    fn a_reason_makes_an_entry(rt: HostRuntime) -> Result<(), Fail> {
+        let alloc = rt.alloc();
+        let path = Path::parse_text(alloc, b"/a")?;
+        let mut entries = Vec::new(alloc);
+        add(alloc, &mut entries, &path, None)?;
+        add(alloc, &mut entries, &path, Some(Reason::Held))?;
+        assert_eq!(rt; entries.len(), 1);
+        assert_eq!(rt; entries[0].reason, Reason::Held);
+        assert!(rt; entries[0].path == path);
+        Ok(())
+    }
+}
