@@ -1,1 +1,4 @@
+pub mod NextRows
+pub mod NoPrint
+pub mod PrintTexts
 pub mod Stamping

@@ -47,5 +47,9 @@ IsListing-stamped rows is = record {
   ascending = ascend-stamped rows is.ascending;
   rows_are = each-stamped rows is.rows_are;
   parents = λ p name there.
-    at-stamped rows p ∙ ap stamped (is.parents p name (there_stamped _ (subst (λ x. x ≢ Absent) (at-stamped rows (p ++ name ∷ [])) there)));
+      at-stamped rows p ∙ ap stamped (is.parents p name (there_stamped _ (subst (λ x. x ≢ Absent) (at-stamped rows (p ++ name ∷ [])) there)));
 }
+
+-- the print of a listed tree
+pub print-stamped : (rows : Listing (List ℕ)) → at (stamped_rows rows) ≡ print_of (at rows)
+print-stamped rows = λ i. λ p. at-stamped rows p i

@@ -15,3 +15,10 @@ fault_number NotCanonical = 6
 abbrev pub fault_of_table : TableFault → PrintFault
 fault_of_table table.OutOfMemory = OutOfMemory
 fault_of_table table.TooLong = TooLong
+
+-- a line or a text is refused for this reason, unless memory ran out
+abbrev pub Refuses : Type 0 → PrintFault → Type 0
+Refuses reason OutOfMemory = Unit {0}
+Refuses reason TooLong = ⊥
+Refuses reason Failed = ⊥
+Refuses reason NotCanonical = reason

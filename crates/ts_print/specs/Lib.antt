@@ -1,2 +1,5 @@
-pub mod Prints
+pub mod Decoding
 pub mod Faults
+pub mod Fields
+pub mod Prints
+pub mod Readers

@@ -4,6 +4,8 @@ ghost use Rattle.ts_print.specs.Faults.{fault_number};
 use std::alloc::{AllocError, AllocFailed};
 use thiserror::Error;
 use ts_table::TableFault;
+use ts_text::TextFault;
+use ts_tree::TreeFault;
 
 /// Why a call on prints was refused.
 #[derive(Clone, Copy, Debug, PartialEq, Eq, Error)]
@@ -65,6 +67,37 @@ impl From<TableFault> for PrintFault {
         match fault {
             TableFault::OutOfMemory => PrintFault::OutOfMemory,
             TableFault::TooLong => PrintFault::TooLong,
+        }
+    }
+}
+
+impl From<TextFault> for PrintFault {
+    ghost use Rattle.std.specs.Prelude.{◌≡◌};
+    ghost use Rattle.ts_print.specs.Decoding.{fault_of_text};
+
+    ghost from_gives = { λ t e. e ≡ fault_of_text t };
+
+    fn from(fault: TextFault) -> PrintFault {
+        match fault {
+            TextFault::OutOfMemory => PrintFault::OutOfMemory,
+            TextFault::Failed => PrintFault::Failed,
+            TextFault::NotCanonical => PrintFault::NotCanonical,
+        }
+    }
+}
+
+impl From<TreeFault> for PrintFault {
+    ghost use Rattle.std.specs.Prelude.{◌≡◌};
+    ghost use Rattle.ts_print.specs.Decoding.{fault_of_tree};
+
+    ghost from_gives = { λ t e. e ≡ fault_of_tree t };
+
+    fn from(fault: TreeFault) -> PrintFault {
+        match fault {
+            TreeFault::OutOfMemory => PrintFault::OutOfMemory,
+            TreeFault::TooLong => PrintFault::TooLong,
+            TreeFault::Failed => PrintFault::Failed,
+            TreeFault::NotCanonical => PrintFault::NotCanonical,
         }
     }
 }

@@ -1,12 +1,19 @@
-//! Prints: trees with a stamp in place of each file's bytes.
+//! Prints: trees with a stamp in place of each file's bytes, and their text.
 #![tactic(auto)]
 
+pub mod decoding;
+pub mod encoding;
 pub mod fault;
+pub mod field;
 pub mod print;
+pub mod reader;
 pub mod stamps;
 
+pub use decoding::decode;
+pub use encoding::{encode, write_row};
 pub use fault::PrintFault;
-pub use print::Print;
+pub use print::{Print, Seen};
+pub use reader::PrintReader;
 pub use stamps::stamp_of;
-pub use ts_model::plan::{Action, Entry, Kind, Plan, Reason, Side};
+pub use ts_model::plan::{Action, Entry, Kind, Plan, PlanRule, Reason, Side};
 pub use ts_model::row::Stamp;

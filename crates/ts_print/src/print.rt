@@ -1,7 +1,10 @@
 ghost use Rattle.std.specs.List.{AllByRecursion};
-ghost use Rattle.std.specs.Prelude.{◌≡◌, ◌++◌, ◌∷◌, ◌↔◌, [], IfErr, IfOk, IsErrOf, IsTrue, MatchResult, OnErr, OnOk, is_ok, if◌then◌else◌};
+ghost use Rattle.std.specs.Prelude.{◌≡◌, ◌≢◌, true, false, ◌++◌, ◌∷◌, ◌↔◌, [], IfErr, IfOk, IsErrOf, IsTrue, MatchResult, OnErr, OnOk, is_ok, if◌then◌else◌};
 ghost use Rattle.ts_model.specs.Runs.{bare_directory, graft};
-ghost use Rattle.ts_model.specs.Trees.{IsListing, at, listed, sub};
+ghost use Rattle.ts_model.specs.Trees.{IsListing, at, listed, print_of, sub};
+ghost use Rattle.ts_model.specs.declared.row.Content.{Content};
+ghost use Rattle.ts_model.specs.declared.row.Content.TheVariants.{Absent};
+ghost use Rattle.ts_model.specs.declared.row.Stamp.{Stamp};
 ghost use Rattle.ts_name.specs.Paths.{IsPath};
 ghost use Rattle.ts_print.specs.Prints.{stamped_rows};
 ghost use Rattle.ts_table.specs.Tables.{IsPlace, placed, rows_below};
@@ -14,6 +17,10 @@ use ts_model::items::Items;
 use ts_model::row::{Content, Row, Stamp};
 use ts_name::Path;
 use ts_table::{SubTable, Table};
+use ts_tree::Tree;
+
+/// What is at a path of a print: nothing, a directory, or a file with its stamp.
+pub type Seen = Content<Stamp>;
 
 /// What is at each path, with a stamp in place of a file's bytes. The root is a directory.
 #[derive(Drop)]
@@ -50,7 +57,7 @@ impl Print {
     }
 
     /// What is at a path. It takes no memory.
-    pub fn get(&self, path: &Path) -> Content<Stamp>
+    pub fn get(&self, path: &Path) -> Seen
         ensures { result ≡ at self.now path.now }
     {
         match self.table.get(path) {
@@ -75,6 +82,18 @@ impl Print {
     {
         self.table.push(row)?;
         Ok(())
+    }
+
+    /// Whether a row at this path, with a directory or a file, may come next.
+    pub fn can_push(&self, alloc: Global, path: &Path) -> Result<bool, PrintFault>
+        ensures yes { result ≡ Ok true → (x : Content Stamp) → x ≢ Absent → IsListing (self.now ++ record { path = path.now; content = x } ∷ []) }
+        ensures no { result ≡ Ok false → (x : Content Stamp) → ¬ IsListing (self.now ++ record { path = path.now; content = x } ∷ []) }
+        ensures fault { IfErr result (λ e. e ≡ PrintFault.OutOfMemory) }
+    {
+        match self.table.can_push(alloc, path) {
+            Ok(answer) => Ok(answer),
+            Err(_) => Err(PrintFault::OutOfMemory),
+        }
     }
 
     /// Whether both prints have the same at a path and below it. It takes no memory.
@@ -102,7 +121,12 @@ impl Print {
 
     /// Puts a part in place of what is at a path and below it. A refusal changes nothing: a path would be past a
     /// limit, or memory is wanting.
-    pub fn replace(&mut self, alloc: Global, path: &Path, part: SubTable<Stamp>) -> Result<(), PrintFault>
+    pub fn replace(
+        &mut self,
+        alloc: Global,
+        path: &Path,
+        part: SubTable<Stamp>,
+    ) -> Result<(), PrintFault>
         requires { IsPlace (at self.old) path.now }
         ensures ok { OnOk result (at self.new ≡ graft (at self.old) path.now (listed part)) }
         ensures paths { OnOk result (AllByRecursion (λ row. IsPath row.path) (placed path.now part)) }
@@ -141,5 +165,13 @@ impl Print {
         Ok(Print {
             table: Table::from_rows(made),
         })
+    }
+
+    /// The print of a tree: its directories, and a stamp for each file.
+    pub fn of_tree(alloc: Global, tree: &Tree) -> Result<Print, PrintFault>
+        ensures print { IfOk result (λ print. at print ≡ print_of (at tree.now)) }
+        ensures fault { IfErr result (λ e. e ≡ PrintFault.OutOfMemory) }
+    {
+        Print::of_rows(alloc, tree.rows())
     }
 }

@@ -1,16 +1,16 @@
 -- What stands when rows take the place of those below a path: a listing, whose tree is a graft.
-use Rattle.std.proofs.Common.{◌≡◌, ◌≢◌, ◌⊎◌, ℕ, zero, suc, ◌<◌, ◌≤◌, ◌+◌, ◌-◌, Bool, true, false, cond, List, [], ◌∷◌, ◌++◌, length, get_or, take, drop, Option, Some, None, refl, sym, ap, ap₂, ◌∙◌, subst, inl, inr, arith, map, append_assoc, append-nil}
+use Rattle.std.proofs.Common.{◌≡◌, ◌≢◌, ℕ, ◌≤◌, ◌-◌, Bool, true, false, cond, [], ◌∷◌, ◌++◌, take, drop, Option, Some, None, refl, sym, ap, ◌∙◌, subst, inl, inr, arith, append_assoc, append-nil}
 use Rattle.std.specs.List.{AllByRecursion}
-use Rattle.ts_name.specs.Paths.{Name, Path, IsPath, IsAbove, IsBefore, same_path, path_cmp, below}
-use Rattle.ts_model.specs.Trees.{Listing, listed, at, Ascend, IsListing, IsSubListing, sub}
+use Rattle.ts_name.specs.Paths.{Name, Path, IsPath, IsAbove, IsBefore, same_path, below}
+use Rattle.ts_model.specs.Trees.{Listing, listed, at, Ascend, IsListing, IsSubListing}
 use Rattle.ts_model.specs.Runs.{graft}
 use Rattle.ts_model.specs.declared.row.Content.{Content}
-use Rattle.ts_model.specs.declared.row.Content.TheVariants.{Absent, Dir, File}
+use Rattle.ts_model.specs.declared.row.Content.TheVariants.{Absent, Dir}
 use Rattle.ts_model.specs.declared.row.Row.{Row}
-use Rattle.ts_table.specs.Tables.{is_above, rows_below, placed, IsPlace, IsCut}
-use Rattle.ts_table.proofs.Paths.{same_path_equal, same_path_itself, same_path_differ, before_cases, before_trans, before_itself, below_append, below_gives, not_above, above_trans, append_same, last_name, same_parent, snoc_not_empty, below_order, before_below, before_all_below, before_not_below, below_before}
+use Rattle.ts_table.specs.Tables.{placed, IsPlace, IsCut}
+use Rattle.ts_table.proofs.Paths.{before_trans, before_itself, below_gives, not_above, append_same, last_name, same_parent, snoc_not_empty, before_below, before_all_below, below_before}
 use Rattle.ts_table.proofs.Found.{whole}
-use Rattle.ts_table.proofs.Rows.{by_each, at_each, weaker, all_append, all_left, all_right, all_map, all_both, ascend_rest, ascend_first, ascend_cons, ascend_left, ascend_right, AllBefore, ascend_join, ascend_across, ascend_pair, listed_holds, listed_none, listed_after, listed_before, listed_append, listed_here, listed_placed, placed_below, placed_ascend, graft_at_rows}
+use Rattle.ts_table.proofs.Rows.{weaker, all_append, all_left, all_right, ascend_left, ascend_right, AllBefore, ascend_join, ascend_across, listed_holds, listed_none, listed_after, listed_before, listed_here, placed_below, placed_ascend, graft_at_rows}
 
 -- ---- parents
 

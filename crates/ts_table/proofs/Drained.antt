@@ -1,5 +1,5 @@
 -- What a call that takes all items of a `Vec` has taken.
-use Rattle.std.proofs.Common.{◌≡◌, List, length, refl, sym, ◌∙◌, Vec, vec_len, map, Global}
+use Rattle.std.proofs.Common.{◌≡◌, List, sym, ◌∙◌, Vec, vec_len, Global}
 use Rattle.std.specs.Iterator.{Drains}
 use Rattle.std.specs.Vec.Iter.{into_iter_steps, into_iter_items, into_iter_len}
 use Rattle.std.specs.declared.vec.IntoIter.{IntoIter}

@@ -5,7 +5,7 @@ use Rattle.std.proofs.lemmas.Result.{err_from_is_err_and}
 use Rattle.ts_name.specs.declared.faults.PathFault.{PathFault}
 use Rattle.ts_name.specs.declared.faults.PathFault.TheVariants as path
 use Rattle.ts_table.specs.declared.fault.TableFault.{TableFault}
-use Rattle.ts_table.specs.declared.fault.TableFault.TheVariants.{OutOfMemory, TooLong}
+use Rattle.ts_table.specs.declared.fault.TableFault.TheVariants.{TooLong}
 use Rattle.ts_table.specs.Faults.{fault_of_path}
 
 -- only a path that is too long gives that fault

@@ -1,17 +1,16 @@
 -- What a search by halving finds in a listing.
-use Rattle.std.proofs.Common.{◌≡◌, ◌≢◌, ◌⊎◌, ◌↔◌, ℕ, zero, suc, ◌<◌, ◌≤◌, ◌+◌, ◌-◌, Bool, true, false, IsTrue, cond, List, [], ◌∷◌, ◌++◌, length, get_or, take, drop, Option, Some, None, Ordering, Less, Equal, Greater, refl, sym, ap, ap₂, ◌∙◌, subst, inl, inr, arith, append_assoc, append-nil}
-use Rattle.std.proofs.lemmas.Bool.{false≢true, false_from_ne_true, cases_lt}
+use Rattle.std.proofs.Common.{◌≡◌, ◌≢◌, ◌⊎◌, ◌↔◌, ℕ, zero, suc, ◌<◌, ◌≤◌, ◌+◌, ◌-◌, Bool, true, false, IsTrue, [], ◌∷◌, ◌++◌, length, get_or, take, drop, Ordering, Less, Equal, Greater, refl, sym, ap, ◌∙◌, subst, inl, inr, arith, append-nil}
+use Rattle.std.proofs.lemmas.Bool.{false≢true, cases_lt}
 use Rattle.std.specs.List.{AllByRecursion, AllWithin}
 use Rattle.std.specs.List.Sorted.{IsNonDecreasingBy, IsPartitionedBy, IsPartitionPoint}
 use Rattle.std.specs.Ordering.{ordering_index, is_lt}
 use Rattle.std.proofs.lemmas.Cmp.{tied_itself}
-use Rattle.std.proofs.lemmas.List.{take-append-drop, get_or-drop, length-drop, take_all, drop-drop}
-use Rattle.ts_name.specs.Paths.{Name, Path, IsPath, IsAbove, IsBefore, same_path, path_cmp, below}
-use Rattle.ts_model.specs.Trees.{Listing, listed, at, Ascend, IsListing, IsSubListing, sub}
-use Rattle.ts_model.specs.declared.row.Content.{Content}
-use Rattle.ts_model.specs.declared.row.Content.TheVariants.{Absent, Dir, File}
+use Rattle.std.proofs.lemmas.List.{take-append-drop, get_or-drop, length-drop, drop-drop}
+use Rattle.ts_name.specs.Paths.{Path, IsAbove, IsBefore, path_cmp}
+use Rattle.ts_model.specs.Trees.{Listing, listed, at, Ascend}
+use Rattle.ts_model.specs.declared.row.Content.TheVariants.{Absent}
 use Rattle.ts_model.specs.declared.row.Row.{Row}
-use Rattle.ts_table.specs.Tables.{is_above, rows_below, placed, IsPlace, IsCut}
+use Rattle.ts_table.specs.Tables.{is_above, rows_below, IsCut}
 use Rattle.ts_table.proofs.Paths.{path_total, tied_paths, before_cases, before_trans, before_itself, below_before, before_not_below}
 use Rattle.ts_table.proofs.Rows.{weaker, all_both, all_before, all_from, ascend_pair, listed_none}
 use Rattle.ts_table.proofs.Listings.{listed_at, is_above_yes, is_above_gives, is_above_no, not_above_gives, decide_above, rows_below_mid}
@@ -78,8 +77,8 @@ not_found {F} rows p i some under parted = sym (at_listed rows p some ∙ ap (λ
 
     differ : AllByRecursion (λ row. row.path ≢ p) (take i rows ++ drop i rows)
     differ = both (take i rows) (drop i rows)
-      (weaker (λ (row : Row F). path_cmp row.path p ≡ Less) (λ row. row.path ≢ p) (λ row h e. let f = tied row e in cc) (take i rows) (all_before _ rows i under parted.0))
-      (weaker (λ (row : Row F). path_cmp row.path p ≡ Greater) (λ row. row.path ≢ p) (λ row h e. let f = tied row e in cc) (drop i rows) (all_from _ rows i under parted.1))
+        (weaker (λ (row : Row F). path_cmp row.path p ≡ Less) (λ row. row.path ≢ p) (λ row h e. let f = tied row e in cc) (take i rows) (all_before _ rows i under parted.0))
+        (weaker (λ (row : Row F). path_cmp row.path p ≡ Greater) (λ row. row.path ≢ p) (λ row h e. let f = tied row e in cc) (drop i rows) (all_from _ rows i under parted.1))
 
 -- ---- the rows at or below a path
 

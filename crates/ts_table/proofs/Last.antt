@@ -1,11 +1,10 @@
 -- A path after all rows.
-use Rattle.std.proofs.Common.{◌≡◌, ◌≢◌, ℕ, zero, suc, ◌-◌, ◌+◌, List, [], ◌∷◌, length, Option, Some, None, refl, sym, ap, subst, arith, slice_get}
+use Rattle.std.proofs.Common.{◌≡◌, ℕ, zero, suc, ◌-◌, ◌+◌, List, [], ◌∷◌, length, Some, None, refl, subst, arith, slice_get}
 use Rattle.std.specs.List.{AllByRecursion}
 use Rattle.ts_name.specs.Paths.{Path, IsBefore}
 use Rattle.ts_model.specs.Trees.{Listing, Ascend}
 use Rattle.ts_model.specs.declared.row.Row.{Row}
 use Rattle.ts_table.proofs.Paths.{before_trans}
-use Rattle.ts_table.proofs.Rows.{ascend_rest}
 
 -- what holds of each element holds of one that is found
 pub all_get : {A : Type 0} (P : A → Type 0) (xs : List A) (n : ℕ) (x : A) → Some x ≡ slice_get xs n → AllByRecursion P xs → P x

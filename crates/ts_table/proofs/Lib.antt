@@ -9,3 +9,4 @@ pub mod Placing
 pub mod Relative
 pub mod Rows
 pub mod Splicing
+pub mod Uses

@@ -1,15 +1,14 @@
 -- Listings: what a listing has one of, the rows below a path, and when rows may come next.
-use Rattle.std.proofs.Common.{◌≡◌, ◌≢◌, ◌⊎◌, ℕ, zero, suc, ◌<◌, ◌≤◌, ◌+◌, Bool, true, false, cond, List, [], ◌∷◌, ◌++◌, length, get_or, take, drop, Option, Some, None, refl, sym, ap, ap₂, ◌∙◌, subst, inl, inr, arith, map, append_assoc, append-nil}
+use Rattle.std.proofs.Common.{◌≡◌, ◌≢◌, ◌⊎◌, ℕ, zero, suc, ◌<◌, Bool, true, false, cond, List, [], ◌∷◌, ◌++◌, length, get_or, Option, Some, None, refl, sym, ap, ap₂, ◌∙◌, subst, inl, inr, arith, append-nil}
 use Rattle.std.proofs.lemmas.Bool.{cond-true, cond-false}
 use Rattle.std.specs.List.{AllByRecursion, filter}
-use Rattle.ts_name.specs.Paths.{Name, Path, IsPath, IsAbove, IsBefore, same_path, below}
-use Rattle.ts_model.specs.Trees.{Listing, listed, at, Ascend, IsListing, IsSubListing, sub}
-use Rattle.ts_model.specs.declared.row.Content.{Content}
-use Rattle.ts_model.specs.declared.row.Content.TheVariants.{Absent, Dir, File}
+use Rattle.ts_name.specs.Paths.{Path, IsPath, IsAbove, IsBefore, same_path, below}
+use Rattle.ts_model.specs.Trees.{Listing, listed, at, Ascend, IsListing, sub}
+use Rattle.ts_model.specs.declared.row.Content.TheVariants.{Absent}
 use Rattle.ts_model.specs.declared.row.Row.{Row}
-use Rattle.ts_table.specs.Tables.{is_above, rows_below, placed, IsPlace}
-use Rattle.ts_table.proofs.Paths.{same_path_equal, same_path_itself, same_path_differ, before_cases, before_trans, before_itself, below_append, below_gives, not_above, above_trans, append_same, last_name, same_parent, snoc_not_empty, below_order, before_below, before_all_below, before_not_below, below_before}
-use Rattle.ts_table.proofs.Rows.{by_each, at_each, weaker, all_append, all_left, all_right, ascend_rest, ascend_first, ascend_cons, ascend_left, ascend_right, AllBefore, ascend_join, ascend_across, ascend_pair, listed_holds, listed_none, listed_after, listed_before, listed_append, listed_here, listed_placed, placed_below}
+use Rattle.ts_table.specs.Tables.{is_above, rows_below}
+use Rattle.ts_table.proofs.Paths.{same_path_equal, same_path_differ, before_cases, before_trans, before_itself, below_append, below_gives}
+use Rattle.ts_table.proofs.Rows.{by_each, at_each, weaker, ascend_rest, ascend_first, ascend_cons, ascend_pair, listed_none, listed_here}
 
 -- ---- one listing
 
@@ -157,7 +156,7 @@ decide_above p q = go (is_above p q) refl
     go false e = inr (not_above_gives p q e)
 
 -- the root is not listed
-root_not_listed : {F : Type 0} (rows : Listing F) → IsListing rows → listed rows [] ≡ Absent
+pub root_not_listed : {F : Type 0} (rows : Listing F) → IsListing rows → listed rows [] ≡ Absent
 root_not_listed {F} rows lists =
     listed_none rows [] (weaker (λ (row : Row F). IsPath row.path × (row.path ≢ []) × (row.content ≢ Absent)) (λ row. row.path ≢ []) (λ row h. h.1) rows lists.rows_are)
 

@@ -1,5 +1,5 @@
 -- Paths above one another, and where they stand in path order.
-use Rattle.std.proofs.Common.{◌≡◌, ◌≢◌, ◌⊎◌, List, Ordering, Less, Equal, Greater, nat_cmp, Bool, true, false, ◌==◌, cond, [], ◌∷◌, ◌++◌, Option, Some, None, sym, refl, ap, ap₂, ◌∙◌, subst, append_assoc, append-nil, inl, inr, eqb-true, eq-eqb}
+use Rattle.std.proofs.Common.{◌≡◌, ◌≢◌, ◌⊎◌, List, Ordering, Less, Equal, Greater, nat_cmp, Bool, true, false, ◌==◌, cond, [], ◌∷◌, ◌++◌, Some, None, sym, refl, ap, ap₂, ◌∙◌, subst, append_assoc, append-nil, inl, inr, eqb-true, eq-eqb}
 use Rattle.std.proofs.lemmas.Bool.{and_parts, and_from, cond-true, false_from_ne_true}
 use Rattle.std.specs.Cmp.{IsTotalOrder}
 use Rattle.std.specs.Cmp.Lexicographic.{slice_cmp}

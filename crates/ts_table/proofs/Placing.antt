@@ -1,11 +1,11 @@
 -- Rows that are placed one after another.
-use Rattle.std.proofs.Common.{◌≡◌, List, [], ◌∷◌, ◌++◌, refl, sym, ap, ◌∙◌, subst, append_assoc, append-nil}
+use Rattle.std.proofs.Common.{◌≡◌, [], ◌∷◌, ◌++◌, refl, sym, ap, ◌∙◌, subst}
 use Rattle.std.specs.List.{AllByRecursion}
 use Rattle.ts_name.specs.Paths.{Path, IsPath}
 use Rattle.ts_model.specs.Trees.{Listing}
 use Rattle.ts_model.specs.declared.row.Row.{Row}
 use Rattle.ts_table.specs.Tables.{placed}
-use Rattle.ts_table.proofs.Rows.{all_append, all_left, all_right}
+use Rattle.ts_table.proofs.Rows.{all_append, all_right}
 
 pub placed_append : {F : Type 0} (p : Path) (xs ys : Listing F) → placed p (xs ++ ys) ≡ placed p xs ++ placed p ys
 placed_append p [] ys = refl

@@ -1,18 +1,18 @@
 -- The rows below a path, seen from it.
-use Rattle.std.proofs.Common.{◌≡◌, ◌≢◌, ◌⊎◌, ℕ, ◌+◌, ◌<◌, get_or, take, Bool, true, false, cond, List, [], ◌∷◌, ◌++◌, length, sum_by, Option, Some, None, refl, sym, ap, ap₂, ◌∙◌, subst, inl, inr, arith, append_assoc, append-nil, length-append}
+use Rattle.std.proofs.Common.{◌≡◌, ◌≢◌, ℕ, ◌+◌, ◌<◌, get_or, take, Bool, true, false, cond, [], ◌∷◌, ◌++◌, length, Option, Some, None, refl, sym, ap, ap₂, ◌∙◌, subst, arith, append_assoc, append-nil, length-append}
 use Rattle.std.proofs.lemmas.Bool.{cond-true, cond-false}
 use Rattle.std.proofs.lemmas.List.Sums.{sum_by-append}
 use Rattle.std.proofs.lemmas.List.{take_more}
-use Rattle.std.specs.List.{AllByRecursion, filter}
-use Rattle.ts_name.specs.Paths.{Name, Path, IsName, IsPath, IsAbove, IsBefore, same_path, path_cmp, below}
+use Rattle.std.specs.List.{AllByRecursion}
+use Rattle.ts_name.specs.Paths.{Path, IsName, IsPath, IsBefore, same_path, path_cmp, below}
 use Rattle.ts_model.specs.Trees.{Listing, listed, at, Ascend, IsListing, IsSubListing, sub}
-use Rattle.ts_model.specs.Runs.{graft, bare_directory}
+use Rattle.ts_model.specs.Runs.{bare_directory}
 use Rattle.ts_model.specs.declared.row.Content.{Content}
-use Rattle.ts_model.specs.declared.row.Content.TheVariants.{Absent, Dir, File}
+use Rattle.ts_model.specs.declared.row.Content.TheVariants.{Absent, Dir}
 use Rattle.ts_model.specs.declared.row.Row.{Row}
-use Rattle.ts_table.specs.Tables.{is_above, rows_below, placed, relative, root_row, IsPlace}
-use Rattle.ts_table.proofs.Paths.{same_path_equal, same_path_itself, same_path_differ, below_append, below_gives, not_above, append_same, below_order, before_below}
-use Rattle.ts_table.proofs.Rows.{by_each, at_each, weaker, all_append, all_right, ascend_rest, ascend_first, ascend_cons, listed_none, listed_after}
+use Rattle.ts_table.specs.Tables.{is_above, rows_below, relative, root_row}
+use Rattle.ts_table.proofs.Paths.{same_path_equal, same_path_itself, same_path_differ, below_gives, not_above, append_same, below_order}
+use Rattle.ts_table.proofs.Rows.{by_each, weaker, all_append, all_right, ascend_rest, ascend_first, ascend_cons}
 use Rattle.ts_table.proofs.Listings.{filter_ascend, filter_all, listed_below}
 use Rattle.ts_table.proofs.Cuts.{HasParents, IsPath-root}
 
@@ -115,8 +115,8 @@ part_of {F} rows p lists = record { listing = record { ascending = ascending p r
 
     rest_is : AllByRecursion (λ row. IsPath row.path × (row.content ≢ Absent)) (relative p (rows_below p rows))
     rest_is = both (relative p (rows_below p rows))
-      (relative_all IsPath p (rows_below p rows) (weaker (λ (row : Row F). IsPath row.path × (row.path ≢ []) × (row.content ≢ Absent)) (λ row. (rest : Path) → row.path ≡ p ++ rest → IsPath rest) (λ row h rest e. IsPath-rest p rest (subst (λ z. IsPath z) e h.0)) (rows_below p rows) below_rows))
-      (relative_some p (rows_below p rows) (weaker (λ (row : Row F). IsPath row.path × (row.path ≢ []) × (row.content ≢ Absent)) (λ row. row.content ≢ Absent) (λ row h. h.2) (rows_below p rows) below_rows))
+        (relative_all IsPath p (rows_below p rows) (weaker (λ (row : Row F). IsPath row.path × (row.path ≢ []) × (row.content ≢ Absent)) (λ row. (rest : Path) → row.path ≡ p ++ rest → IsPath rest) (λ row h rest e. IsPath-rest p rest (subst (λ z. IsPath z) e h.0)) (rows_below p rows) below_rows))
+        (relative_some p (rows_below p rows) (weaker (λ (row : Row F). IsPath row.path × (row.path ≢ []) × (row.content ≢ Absent)) (λ row. row.content ≢ Absent) (λ row h. h.2) (rows_below p rows) below_rows))
 
     root_is : (q : Path) → AllByRecursion (λ row. IsPath row.path × (row.content ≢ Absent)) (root_row {F = F} q)
     root_is [] = ((IsPath-root, (λ e. cc)), tt)

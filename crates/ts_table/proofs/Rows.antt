@@ -1,16 +1,15 @@
 -- Rows in path order, and what is listed.
-use Rattle.std.proofs.Common.{◌≡◌, ◌≢◌, ◌⊎◌, ℕ, zero, suc, ◌<◌, ◌≤◌, ◌+◌, Bool, true, false, cond, List, [], ◌∷◌, ◌++◌, length, get_or, take, drop, Option, Some, None, refl, sym, ap, ap₂, ◌∙◌, subst, inl, inr, arith, map, append_assoc}
-use Rattle.std.specs.List.{AllByRecursion, All, AllWithin, filter}
+use Rattle.std.proofs.Common.{◌≡◌, ◌≢◌, ℕ, zero, suc, ◌<◌, ◌≤◌, ◌+◌, Bool, true, false, cond, List, [], ◌∷◌, ◌++◌, length, get_or, take, drop, Option, Some, None, refl, sym, ap, ◌∙◌, subst, arith, map}
+use Rattle.std.specs.List.{AllByRecursion, AllWithin}
 use Rattle.std.proofs.lemmas.List.Elements.{recursion_from_All}
 use Rattle.std.proofs.lemmas.List.{get_or-take, get_or-drop, length-take-le, length-drop}
-use Rattle.ts_name.specs.Paths.{Name, Path, IsPath, IsAbove, IsBefore, same_path, below}
-use Rattle.ts_model.specs.Trees.{Listing, listed, at, Ascend, IsListing, IsSubListing, sub}
+use Rattle.ts_name.specs.Paths.{Path, IsAbove, IsBefore, same_path, below}
+use Rattle.ts_model.specs.Trees.{Listing, listed, at, Ascend}
 use Rattle.ts_model.specs.Runs.{graft}
-use Rattle.ts_model.specs.declared.row.Content.{Content}
-use Rattle.ts_model.specs.declared.row.Content.TheVariants.{Absent, Dir, File}
+use Rattle.ts_model.specs.declared.row.Content.TheVariants.{Absent}
 use Rattle.ts_model.specs.declared.row.Row.{Row}
-use Rattle.ts_table.specs.Tables.{is_above, rows_below, placed, IsPlace, IsCut}
-use Rattle.ts_table.proofs.Paths.{same_path_equal, same_path_itself, same_path_differ, before_cases, before_trans, before_itself, below_append, below_gives, not_above, above_trans, append_same, last_name, same_parent, snoc_not_empty, below_order, before_below, before_all_below, before_not_below, below_before}
+use Rattle.ts_table.specs.Tables.{placed, IsCut}
+use Rattle.ts_table.proofs.Paths.{same_path_equal, same_path_itself, same_path_differ, before_trans, below_gives, not_above, append_same, below_order, before_not_below}
 
 -- ---- what holds of each row
 

@@ -1,19 +1,18 @@
 -- Many edits in one pass: what the pass keeps, and that the edits are made.
-use Rattle.std.proofs.Common.{◌≡◌, ◌≢◌, ◌⊎◌, ℕ, ◌+◌, ◌<◌, ◌≤◌, Bool, true, false, cond, List, [], ◌∷◌, ◌++◌, length, Option, Some, None, refl, sym, ap, ap₂, ◌∙◌, subst, inl, inr, arith, append_assoc, append-nil, map, length-append}
-use Rattle.std.proofs.lemmas.Bool.{cond-true, cond-false, false≢true}
+use Rattle.std.proofs.Common.{◌≡◌, Bool, true, false, cond, List, [], ◌∷◌, ◌++◌, refl, sym, ap, ◌∙◌, subst, inl, inr, append_assoc, append-nil, map}
+use Rattle.std.proofs.lemmas.Bool.{false≢true}
 use Rattle.std.specs.List.{AllByRecursion}
 use Rattle.std.specs.Ordering.{is_lt}
-use Rattle.ts_name.specs.Paths.{Name, Path, IsPath, IsAbove, IsBefore, path_cmp}
+use Rattle.ts_name.specs.Paths.{Path, IsPath, IsAbove, IsBefore, path_cmp}
 use Rattle.ts_model.specs.Trees.{Listing, listed, at, Ascend, IsListing, IsSubListing}
 use Rattle.ts_model.specs.Runs.{graft}
 use Rattle.ts_model.specs.declared.row.Content.{Content}
 use Rattle.ts_model.specs.declared.row.Row.{Row}
 use Rattle.ts_table.specs.declared.splice.Edit.{Edit}
-use Rattle.ts_table.specs.declared.splice.Put.{Put}
-use Rattle.ts_table.specs.Tables.{is_above, placed, IsPlace, IsCut}
+use Rattle.ts_table.specs.Tables.{placed, IsPlace, IsCut}
 use Rattle.ts_table.specs.Splices.{grafted, ArePlaces, AreInOrder, ArePaths, lead, trail, comes_before, stands_below, spliced, put_of}
-use Rattle.ts_table.proofs.Paths.{before_cases, before_trans, before_itself}
-use Rattle.ts_table.proofs.Rows.{weaker, all_append, all_left, all_right, all_both, ascend_rest, ascend_first, ascend_right, graft_at_rows}
+use Rattle.ts_table.proofs.Paths.{before_cases, before_trans}
+use Rattle.ts_table.proofs.Rows.{weaker, all_append, all_right, all_both, ascend_rest, ascend_first, ascend_right, graft_at_rows}
 use Rattle.ts_table.proofs.Listings.{is_above_gives, not_above_gives, is_above_yes}
 use Rattle.ts_table.proofs.Found.{is_lt_Less, between}
 use Rattle.ts_table.proofs.Cuts.{IsListing-placed}
@@ -132,10 +131,11 @@ step {F} front rest edit lists first place part paths =
 
     parted : (early mid back : Listing F) → front ++ rest ≡ early ++ (mid ++ back) → IsCut edit.path early mid back → (IsListing ((early ++ placed edit.path edit.part) ++ back)) × (at ((early ++ placed edit.path edit.part) ++ back) ≡ graft (at (front ++ rest)) edit.path (listed edit.part)) × (AllByRecursion (λ row. IsBefore row.path edit.path) early)
     parted early mid back is cut =
-        let group = append_assoc early (placed edit.path edit.part) back in
-        (subst (λ z. IsListing z) (sym group) (IsListing-placed edit.path early mid back edit.part (subst (λ z. IsListing z) is lists) cut (subst (λ z. IsPlace (at z) edit.path) is place) part paths),
-        ap (λ z. at z) group ∙ graft_at_rows edit.path early mid back edit.part place.not_root cut ∙ ap (λ z. graft (at z) edit.path (listed edit.part)) (sym is),
-        cut.before)
+        let group = append_assoc early (placed edit.path edit.part) back in (
+          subst (λ z. IsListing z) (sym group) (IsListing-placed edit.path early mid back edit.part (subst (λ z. IsListing z) is lists) cut (subst (λ z. IsPlace (at z) edit.path) is place) part paths),
+          ap (λ z. at z) group ∙ graft_at_rows edit.path early mid back edit.part place.not_root cut ∙ ap (λ z. graft (at z) edit.path (listed edit.part)) (sym is),
+          cut.before,
+        )
 
 pub all_spliced : {F : Type 0} (front rest : Listing F) (edits : List (Edit F)) → IsListing (front ++ rest) → ComesFirst front edits → ArePlaces (at (front ++ rest)) edits → AreInOrder edits → AreParts edits → ArePaths edits → IsSpliced (at (front ++ rest)) edits (front ++ spliced rest (map put_of edits))
 all_spliced front rest [] lists first places order parts paths = record { listing = lists; tree = refl }

@@ -3,7 +3,7 @@
 --     ArePlaces t edits    each path is a place when its turn comes
 --     AreInOrder edits     each path comes after all that the edit before it put down
 --     ArePaths edits       no path of a row that is put down is past a limit
-use Rattle.std.specs.Prelude.{◌≡◌, ℕ, Bool, true, false, cond, List, [], ◌∷◌, ◌++◌, length, map}
+use Rattle.std.specs.Prelude.{Bool, cond, List, [], ◌∷◌, ◌++◌}
 use Rattle.std.specs.List.{AllByRecursion}
 use Rattle.std.specs.Ordering.{is_lt}
 use Rattle.ts_name.specs.Paths.{Path, IsPath, IsBefore, path_cmp}

@@ -6,14 +6,13 @@
 --     grafted t edits      t with each edit's rows at its path, one edit after another
 --     IsCut p front mid back    rows before p, at p or below it, and after all that
 --     seen                 a content behind a reference
-use Rattle.std.specs.Prelude.{◌≡◌, ◌≢◌, Bool, true, false, List, [], ◌∷◌, ◌++◌, Option, Some, None, map, filter}
+use Rattle.std.specs.Prelude.{◌≡◌, ◌≢◌, Bool, true, false, [], ◌∷◌, ◌++◌, Some, None, map, filter}
 use denote.Ref.{Bor}
 use Rattle.std.specs.List.{AllByRecursion}
 use Rattle.ts_name.specs.Paths.{Name, Path, IsAbove, IsBefore, below}
 use Rattle.ts_model.specs.Trees.{Listing}
 use Rattle.ts_model.specs.declared.row.Content.{Content}
 use Rattle.ts_model.specs.declared.row.Content.TheVariants.{Absent, Dir, File}
-use Rattle.ts_model.specs.declared.row.Row.{Row}
 
 -- whether q is p or below it
 abbrev pub is_above : Path → Path → Bool

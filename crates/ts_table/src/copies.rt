@@ -36,7 +36,10 @@ impl CopyFile for u8 {
 }
 
 /// The same content once more.
-pub(crate) fn copy_content<F: CopyFile>(alloc: Global, content: &Content<F>) -> Result<Content<F>, AllocError>
+pub(crate) fn copy_content<F: CopyFile>(
+    alloc: Global,
+    content: &Content<F>,
+) -> Result<Content<F>, AllocError>
     ensures { IfOk result (λ copy. copy ≡ content.now) }
 {
     Ok(match content {

@@ -16,7 +16,12 @@ impl<F: Drop> Table<F> {
     /// Puts rows in the place of what stands at a path and below it.
     ///
     /// `TooLong` where a path would be past the limits. After an error nothing has changed, and the rows are dropped.
-    pub fn replace(&mut self, alloc: Global, path: &Path, part: SubTable<F>) -> Result<(), TableFault>
+    pub fn replace(
+        &mut self,
+        alloc: Global,
+        path: &Path,
+        part: SubTable<F>,
+    ) -> Result<(), TableFault>
         requires { IsPlace (at self.old) path.now }
         ensures ok { OnOk result (at self.new ≡ graft (at self.old) path.now (listed part)) }
         ensures paths { OnOk result (AllByRecursion (λ row. IsPath row.path) (placed path.now part)) }

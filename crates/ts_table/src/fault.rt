@@ -52,7 +52,8 @@ impl From<PathFault> for TableFault {
     fn from(e: PathFault) -> TableFault {
         match e {
             PathFault::TooLong => TableFault::TooLong,
-            PathFault::OutOfMemory | PathFault::BadName | PathFault::BadText => TableFault::OutOfMemory,
+            PathFault::OutOfMemory | PathFault::BadName | PathFault::BadText =>
+                TableFault::OutOfMemory,
         }
     }
 }

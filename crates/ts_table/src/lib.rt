@@ -13,3 +13,6 @@ pub use fault::TableFault;
 pub use splice::Edit;
 pub use subtable::SubTable;
 pub use table::Table;
+
+#[cfg(test)]
+mod tests;

@@ -120,6 +120,5 @@ fn joined(alloc: Global, top: &Path, rest: &Path) -> Result<Path, TableFault>
     ensures too_long { IsErrOf result TableFault.TooLong → ¬ IsPath (top.now ++ rest.now) }
 {
     let path = top.join(alloc, rest)?;
-    prove!(path.depth() <= 64);
     Ok(path)
 }

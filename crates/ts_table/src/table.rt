@@ -4,7 +4,7 @@ ghost use Rattle.std.specs.List.{AllByRecursion};
 ghost use Rattle.ts_name.specs.Paths.{IsBefore};
 ghost use Rattle.ts_model.specs.declared.row.Content.{Content};
 ghost use Rattle.ts_model.specs.Trees.{Ascend, IsListing, at, sub};
-ghost use Rattle.ts_table.specs.Tables.{rows_below, seen, IsCut};
+ghost use Rattle.ts_table.specs.Tables.{rows_below, seen, IsCut, IsPlace};
 
 use crate::fault::TableFault;
 use std::alloc::Global;
@@ -111,23 +111,32 @@ impl<F> Table<F> {
         same_rows(self.sub(path), other.sub(path))
     }
 
-    /// Whether a row of this path, with a directory or a file, may come next: the path is not the root, comes after all
-    /// others, and has a directory as its parent.
+    /// Whether something may stand at a path: it is not the root, and its parent is a directory.
+    pub fn is_place(&self, alloc: Global, path: &Path) -> Result<bool, TableFault>
+        ensures ok { IfOk result (λ may. IsTrue may ↔ IsPlace (at self.now) path.now) }
+        ensures fault { IfErr result (λ e. e ≡ TableFault.OutOfMemory) }
+    {
+        let Some(parent) = path.parent(alloc)? else {
+            return Ok(false);
+        };
+        match self.get(&parent) {
+            Content::Dir => Ok(true),
+            Content::Absent | Content::File(_) => Ok(false),
+        }
+    }
+
+    /// Whether a row of this path, with a directory or a file, may come next: the path comes after all others, and
+    /// something may stand there.
     pub fn can_push(&self, alloc: Global, path: &Path) -> Result<bool, TableFault>
         ensures yes { IfOk result (λ may. IsTrue may → (content : Content F) → content ≢ Content.Absent → IsListing (self.now ++ record { path = path.now; content = content } ∷ [])) }
         ensures no { IfOk result (λ may. may ≡ false → (content : Content F) → ¬ IsListing (self.now ++ record { path = path.now; content = content } ∷ [])) }
         ensures fault { IfErr result (λ e. e ≡ TableFault.OutOfMemory) }
     {
-        if !is_after(path, self.rows()) {
-            return Ok(false);
-        }
-        let Some(parent) = path.parent(alloc)? else {
-            return Ok(false);
-        };
         prove!(path.depth() <= 64);
-        match self.get(&parent) {
-            Content::Dir => Ok(true),
-            Content::Absent | Content::File(_) => Ok(false),
+        if is_after(path, self.rows()) {
+            self.is_place(alloc, path)
+        } else {
+            Ok(false)
         }
     }
 

@@ -22,7 +22,6 @@ without_space x clean = clean_without 32 (omega arith) x clean
 without_feed : (x : List ℕ) → IsClean x → Without 10 x
 without_feed x clean = clean_without 10 (omega arith) x clean
 
-
 -- ---- data
 
 bytes_append : (x y : List ℕ) → IsBytes x → IsBytes y → IsBytes (x ++ y)
@@ -84,7 +83,6 @@ one_data (suc n) x y u v is_x is_y short_x short_y e =
     let parts_y = bytes_parts 64 y is_y in
     let more = one_data n (drop 64 x) (drop 64 y) u v parts_x.1 parts_y.1 (omega (arith, length-drop 64 x)) (omega (arith, length-drop 64 y)) rest in
     (sym (take-append-drop 64 x) ∙ ap₂ ◌++◌ (one_data_line (take 64 x) (take 64 y) parts_x.0 parts_y.0 first) more.0 ∙ take-append-drop 64 y, more.1)
-
 
 -- whole lines, and then one more
 pub data_push : (m : ℕ) (b d : List ℕ) → length b ≡ 64 * m → length d ≤ 64 → data_lines (suc m) (b ++ d) ≡ data_lines m b ++ data_line d ∷ []

@@ -245,4 +245,3 @@ clean_hex [] bytes = tt
 clean_hex (b ∷ x) bytes =
     let small : b < 256 = bytes.0 in
     ((digit_back (b / 16) (omega arith)).1, ((digit_back (b % 16) (omega arith)).1, clean_hex x bytes.1))
-

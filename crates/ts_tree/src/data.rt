@@ -5,10 +5,9 @@ ghost use Rattle.ts_model.specs.Texts.{IsBytes};
 ghost use Rattle.ts_tree.specs.Faults.{Refuses};
 ghost use Rattle.ts_tree.specs.Fields.{AddsData, IsNoData, IsNoHex};
 
-use std::alloc::AllocError;
-
 use crate::fault::TreeFault;
 use crate::field::after;
+use std::alloc::AllocError;
 
 /// The most bytes that a line of data has.
 pub(crate) const LINE_BYTES: usize = 64;
@@ -23,8 +22,8 @@ fn write_hex(bytes: &[u8], digits: &mut [u8])
     }
 }
 
-/// Reads as many bytes as `data` has room for from lower-case hex digits.
-fn read_hex(digits: &[u8], data: &mut [u8]) -> bool
+/// Reads as many bytes as `data` has room for, at most 64, from lower-case hex digits.
+pub fn read_hex(digits: &[u8], data: &mut [u8]) -> bool
     requires { length data.old ≤ 64 }
     ensures found { IsTrue result → digits.now ≡ encode_lower data.new }
     ensures lawful { IsBytes data.new }

@@ -2,12 +2,11 @@
 ghost use Rattle.std.specs.Prelude.{IfOk, IfErr};
 ghost use Rattle.ts_tree.specs.Decoding.{DecodesTree, FindsNoTree};
 
-use std::alloc::Global;
-use ts_text::{Lines, Source};
-
 use crate::fault::TreeFault;
 use crate::reader::TreeReader;
 use crate::tree::Tree;
+use std::alloc::Global;
+use ts_text::{Lines, Source};
 
 /// The tree that the lines spell, all of them.
 ///
@@ -21,7 +20,7 @@ pub fn decode<S: Source>(alloc: Global, lines: &mut Lines<S>) -> Result<Tree, Tr
         if !lines.advance()? {
             return reader.finish();
         }
-        reader = reader.line(alloc, lines.line())?;
+        reader.line(alloc, lines.line())?;
     }
     Err(TreeFault::OutOfMemory)
 }

@@ -5,20 +5,19 @@ ghost use Rattle.ts_model.specs.declared.row.Content.TheVariants.{File};
 ghost use Rattle.ts_text.specs.Sources.{Writes};
 ghost use Rattle.ts_tree.specs.Fields.{data_line, dir_line, file_line};
 
+use crate::data::{LINE_BYTES, push_hex};
+use crate::fault::TreeFault;
+use crate::tree::Tree;
 use std::alloc::Global;
 use ts_model::items::Items;
 use ts_model::row::{Content, Row};
 use ts_name::Path;
-use ts_text::field::push_decimal;
 use ts_text::Sink;
+use ts_text::field::push_decimal;
 use ts_text::write::write_line;
 
-use crate::data::{LINE_BYTES, push_hex};
-use crate::fault::TreeFault;
-use crate::tree::Tree;
-
 /// Writes the text of the tree. After a fault a beginning of it was written.
-pub fn encode<W: Sink>(tree: &Tree, alloc: Global, sink: &mut W) -> Result<(), TreeFault>
+pub fn encode<W: Sink>(alloc: Global, tree: &Tree, sink: &mut W) -> Result<(), TreeFault>
     ensures written { Writes (W.holds sink.old) (W.holds sink.new) (text (tree_lines tree.now)) result }
 {
     let mut line = Vec::new(alloc);
@@ -29,7 +28,7 @@ pub fn encode<W: Sink>(tree: &Tree, alloc: Global, sink: &mut W) -> Result<(), T
 }
 
 /// Writes the lines of a row. `line` is room for one line.
-fn write_row<W: Sink>(
+pub fn write_row<W: Sink>(
     row: &Row<Items<u8>>,
     line: &mut Vec<u8>,
     sink: &mut W,

@@ -4,11 +4,10 @@ ghost use Rattle.ts_name.specs.Paths.{path_text};
 ghost use Rattle.ts_tree.specs.Faults.{Refuses};
 ghost use Rattle.ts_tree.specs.Fields.{HeadFits, IsNamed, IsNoHead, SpellsNoPath, Without, head_line};
 
+use crate::fault::TreeFault;
 use std::alloc::Global;
 use ts_name::{Path, PathFault};
 use ts_text::field::{field_dec, split_word};
-
-use crate::fault::TreeFault;
 
 /// What the first line of a row says of its path.
 #[derive(Clone, Copy, Debug, PartialEq, Eq)]

@@ -1,7 +1,7 @@
 //! Trees of directories and files with their bytes, and their text.
 #![tactic(auto)]
 
-mod data;
+pub mod data;
 pub mod decoding;
 pub mod encoding;
 pub mod fault;
@@ -10,7 +10,7 @@ pub mod reader;
 pub mod tree;
 
 pub use decoding::decode;
-pub use encoding::encode;
+pub use encoding::{encode, write_row};
 pub use fault::TreeFault;
 pub use reader::TreeReader;
 pub use tree::{Node, Tree};

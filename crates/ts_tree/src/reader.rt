@@ -1,5 +1,5 @@
 //! Reading a tree line by line.
-ghost use Rattle.std.specs.Prelude.{◌≡◌, ◌++◌, ◌∷◌, [], ◌<◌, ◌≤◌, IfOk, IfErr, length};
+ghost use Rattle.std.specs.Prelude.{◌≡◌, ◌++◌, ◌∷◌, [], ◌<◌, ◌≤◌, IfOk, IfErr, OnErr, OnOk, length};
 ghost use Rattle.ts_model.specs.Texts.{IsBytes, IsTreeBody, tree_lines, tree_row_lines};
 ghost use Rattle.ts_model.specs.declared.row.Content.TheVariants.{File};
 ghost use Rattle.ts_tree.specs.Faults.{Refuses};
@@ -7,16 +7,16 @@ ghost use Rattle.ts_tree.specs.Fields.{dir_line};
 ghost use Rattle.ts_tree.specs.Readers.{BeginsNoTree, MayCome, OpenFits, SpellsNoTree, open_lines};
 ghost use Rattle.ts_tree.specs.declared.fault.TreeFault.TheVariants as fault;
 
-use std::alloc::Global;
-use std::marker::Model;
-use ts_model::items::Items;
-use ts_model::row::{Content, Row};
-use ts_name::Path;
-
 use crate::data::{LINE_BYTES, read_data};
 use crate::fault::TreeFault;
 use crate::field::{Head, head_of};
 use crate::tree::Tree;
+use std::alloc::Global;
+use std::marker::Model;
+use std::mem;
+use ts_model::items::Items;
+use ts_model::row::{Content, Row};
+use ts_name::Path;
 
 /// A file of which some lines are still to come.
 #[derive(Drop)]
@@ -58,8 +58,18 @@ impl TreeReader {
         }
     }
 
-    /// Takes the next line, given without its line feed.
-    pub fn line(self, alloc: Global, line: &[u8]) -> Result<Self, TreeFault>
+    /// Takes the next line, given without its line feed. After a fault no line is taken, as in a new reader.
+    pub fn line(&mut self, alloc: Global, line: &[u8]) -> Result<(), TreeFault>
+        ensures taken { OnOk result (self.new ≡ self.old ++ line.now ∷ []) }
+        ensures refused { IfErr result (Refuses (BeginsNoTree (self.old ++ line.now ∷ []))) }
+        ensures err { OnErr result (self.new ≡ []) }
+    {
+        let reader = mem::replace(self, TreeReader::new(alloc));
+        *self = reader.with_line(alloc, line)?;
+        Ok(())
+    }
+
+    fn with_line(self, alloc: Global, line: &[u8]) -> Result<Self, TreeFault>
         ensures taken { IfOk result (λ reader. reader ≡ self ++ line.now ∷ []) }
         ensures refused { IfErr result (Refuses (BeginsNoTree (self ++ line.now ∷ []))) }
     {

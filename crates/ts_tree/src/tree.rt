@@ -4,16 +4,16 @@ ghost use Rattle.ts_model.specs.Texts.{FileFits, IsTreeBody};
 ghost use Rattle.ts_model.specs.Trees.{IsListing, at};
 ghost use Rattle.ts_model.specs.declared.row.Content.{Content};
 ghost use Rattle.ts_model.specs.declared.row.Content.TheVariants.{Absent};
+ghost use Rattle.ts_table.specs.Tables.{rows_below};
 ghost use Rattle.ts_tree.specs.Trees.{node_of};
 
+use crate::fault::TreeFault;
 use std::alloc::Global;
 use std::marker::Model;
 use ts_model::items::Items;
 use ts_model::row::{Content, Row};
 use ts_name::Path;
 use ts_table::Table;
-
-use crate::fault::TreeFault;
 
 /// What is at a path of a tree: nothing, a directory, or a file with its bytes.
 pub type Node<'a> = Content<&'a [u8]>;
@@ -52,6 +52,13 @@ impl Tree {
         ensures lawful { IsTreeBody self.now }
     {
         self.table.rows()
+    }
+
+    /// The rows at a path and below it, in path order; all rows for the root. It takes no memory.
+    pub fn sub(&self, path: &Path) -> &[Row<Items<u8>>]
+        ensures { result.now ≡ rows_below path.now self.now }
+    {
+        self.table.sub(path)
     }
 
     /// What is at a path. It takes no memory.

@@ -21,15 +21,15 @@ returns-then-not-branch-clause-refused g c =
     (λ e none. no_tree_ended c.args.lines.now c.loop.lines c.advance.new.self c.loop.reader e c.loop.invariant ends none) c.finish.ensures.refused
 
 -- No tree has the line there.
-pub returns-in_err-reader-clause-refused : goal.returns-in_err-reader-clause-refused
-returns-in_err-reader-clause-refused g c =
-    let p = err_from_is_err_and c.from_residual-in_err-reader.result c.from_residual-in_err-reader.ensures.1 in
+pub returns-in_err-line-clause-refused : goal.returns-in_err-line-clause-refused
+returns-in_err-line-clause-refused g c =
+    let p = err_from_is_err_and c.from_residual-in_err-line.result c.from_residual-in_err-line.ensures.1 in
     let gives = rw c.if-not-branch.false at c.in_ok-advance.ensures.answers in
     let taken = taken_more c.args.lines.now c.loop.lines c.advance.new.self c.loop.reader c.loop.invariant gives in
-    let refused = rw c.line.ensures at c.in_err-reader.ensures.refused in
-    rw (p.1, p.2) (no_tree_line c.args.lines.now c.advance.new.self _ c.in_err-reader.field-0.0 taken refused)
+    let refused = rw c.line.ensures at c.in_err-line.ensures.refused in
+    rw (p.1, p.2) (no_tree_line c.args.lines.now c.advance.new.self _ c.in_err-line.field-0.0 taken refused)
 
 pub loop-preserved : goal.loop-preserved
 loop-preserved g c =
     let gives = rw c.if-not-branch.false at c.in_ok-advance.ensures.answers in
-    rw (c.in_ok-reader.ensures.taken, c.line.ensures) (taken_more c.args.lines.now c.loop.lines c.advance.new.self c.loop.reader c.loop.invariant gives)
+    rw (c.in_ok-line.ensures.taken, c.line.ensures) (taken_more c.args.lines.now c.loop.lines c.advance.new.self c.loop.reader c.loop.invariant gives)

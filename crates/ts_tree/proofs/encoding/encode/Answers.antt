@@ -13,8 +13,10 @@ returns-in_err-write_row g c =
     let row = c.row-item.result in
     let rows = c.rows-row-items.ensures.rows in
     let step = rows_step t i row (omega (arith, ap length rows)) (c.row-item.is ∙ ap (λ z. get_or z i row) rows) in
-    rw p.1 (record { written = wrote_front (g.W.Sink.holds c.args.sink.now) (g.W.Sink.holds c.loop-row.sink) (g.W.Sink.holds c.write_row.new.sink) (tree_lines t) (tree_row_lines row.path row.content) (tree_lines (drop (i + 1) t))
-        (subst (λ z. Wrote (g.W.Sink.holds c.args.sink.now) (g.W.Sink.holds c.loop-row.sink) (tree_lines t) z) step c.loop-row.invariant) c.in_err-write_row.ensures.written })
+    rw p.1 (record {
+      written = wrote_front (g.W.Sink.holds c.args.sink.now) (g.W.Sink.holds c.loop-row.sink) (g.W.Sink.holds c.write_row.new.sink) (tree_lines t) (tree_row_lines row.path row.content) (tree_lines (drop (i + 1) t))
+          (subst (λ z. Wrote (g.W.Sink.holds c.args.sink.now) (g.W.Sink.holds c.loop-row.sink) (tree_lines t) z) step c.loop-row.invariant) c.in_err-write_row.ensures.written;
+    })
 
 pub loop-row-preserved : goal.loop-row-preserved
 loop-row-preserved g c =

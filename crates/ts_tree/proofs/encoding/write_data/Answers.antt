@@ -15,10 +15,12 @@ returns-in_err-write_chunk g c =
     let more = c.split_at.result.1.now in
     let some : 0 < length b = grind (arith, common_steps) in
     let step = data_step b chunk more c.min.result some (omega arith) c.split_at.ensures.front c.split_at.ensures.back in
-    rw p.1 (record { written = wrote_front (g.W.Sink.holds c.args.sink.now) (g.W.Sink.holds c.loop-rest.sink) (g.W.Sink.holds c.write_chunk.new.sink)
-        (data_lines ((length c.args.bytes.now + 63) / 64) c.args.bytes.now) (data_line chunk ∷ []) (data_lines ((length more + 63) / 64) more)
-        (subst (λ z. Wrote (g.W.Sink.holds c.args.sink.now) (g.W.Sink.holds c.loop-rest.sink) (data_lines ((length c.args.bytes.now + 63) / 64) c.args.bytes.now) z) step c.loop-rest.invariant)
-        c.in_err-write_chunk.ensures.written })
+    rw p.1 (record {
+      written = wrote_front (g.W.Sink.holds c.args.sink.now) (g.W.Sink.holds c.loop-rest.sink) (g.W.Sink.holds c.write_chunk.new.sink)
+          (data_lines ((length c.args.bytes.now + 63) / 64) c.args.bytes.now) (data_line chunk ∷ []) (data_lines ((length more + 63) / 64) more)
+          (subst (λ z. Wrote (g.W.Sink.holds c.args.sink.now) (g.W.Sink.holds c.loop-rest.sink) (data_lines ((length c.args.bytes.now + 63) / 64) c.args.bytes.now) z) step c.loop-rest.invariant)
+          c.in_err-write_chunk.ensures.written;
+    })
 
 pub loop-rest-preserved : goal.loop-rest-preserved
 loop-rest-preserved g c =

@@ -14,5 +14,7 @@ returns-in_err-write_head g c =
 pub returns : goal.returns
 returns g c =
     let b = c.args.bytes.now in
-    record { written = writes_after (g.W.Sink.holds c.args.sink.now) (g.W.Sink.holds c.write_head.new.sink) (g.W.Sink.holds c.write_data.new.sink)
-        (file_line c.args.path.now (length b) ∷ []) (data_lines ((length b + 63) / 64) b) c.write_data.result c.in_ok-write_head.ensures.written c.write_data.ensures.written }
+    record {
+      written = writes_after (g.W.Sink.holds c.args.sink.now) (g.W.Sink.holds c.write_head.new.sink) (g.W.Sink.holds c.write_data.new.sink)
+          (file_line c.args.path.now (length b) ∷ []) (data_lines ((length b + 63) / 64) b) c.write_data.result c.in_ok-write_head.ensures.written c.write_data.ensures.written;
+    }

@@ -1,4 +1,4 @@
-use Rattle.std.proofs.Common.{◌++◌, ◌∷◌, ap, ◌∙◌, Err}
+use Rattle.std.proofs.Common.{◌++◌, ap, ◌∙◌}
 use Rattle.ts_table.proofs.Exits.{exit_itself}
 use Rattle.ts_table.proofs.Placing.{past_limit}
 use Rattle.ts_table.proofs.subtable.SubTable.placed.Goals as goal

@@ -1,4 +1,4 @@
-use Rattle.std.proofs.Common.{rules, ◌≡◌, ◌≢◌, [], sym, ◌∙◌, subst}
+use Rattle.std.proofs.Common.{rules, ◌≢◌, [], sym, ◌∙◌}
 use Rattle.std.proofs.lemmas.Bool.{false≢true}
 use Rattle.std.proofs.lemmas.Fn.{always_returns_same}
 use Rattle.ts_name.specs.Paths.{path_cmp}

@@ -1,6 +1,5 @@
-use Rattle.std.proofs.Common.{◌≡◌, ◌++◌, take, drop, ap, ◌∙◌}
+use Rattle.std.proofs.Common.{ap, ◌∙◌}
 use Rattle.std.specs.List.{splice}
-use Rattle.ts_table.specs.Tables.{placed}
 use Rattle.ts_table.proofs.Cuts.{IsReplaced, replaced}
 use Rattle.ts_table.proofs.Drained.{drained}
 use Rattle.ts_table.proofs.table.Table.replace.Goals as goal

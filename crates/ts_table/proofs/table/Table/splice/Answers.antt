@@ -1,7 +1,7 @@
-use Rattle.std.proofs.Common.{◌≡◌, List, [], ◌∷◌, ◌++◌, length, sym, ap, ap₂, ◌∙◌, subst, append-nil, map, arith}
+use Rattle.std.proofs.Common.{◌≡◌, List, [], ◌∷◌, ◌++◌, sym, ap, ap₂, ◌∙◌, subst, append-nil, map}
 use Rattle.std.proofs.lemmas.List.{nil_from_length}
 use Rattle.ts_model.specs.Trees.{at}
-use Rattle.ts_table.specs.Splices.{ArePaths, ArePlaces, AreInOrder, spliced, put_of}
+use Rattle.ts_table.specs.Splices.{ArePaths, spliced, put_of}
 use Rattle.ts_table.proofs.Splicing.{IsSpliced, AreParts, ComesFirst, all_spliced}
 use Rattle.ts_table.specs.declared.splice.Edit.{Edit}
 use Rattle.ts_table.proofs.table.Table.splice.Given.{Over}

@@ -1,4 +1,3 @@
-use Rattle.std.proofs.Common.{take, drop}
 use Rattle.ts_table.proofs.Found.{between_bounds}
 use Rattle.ts_table.proofs.table.Table.sub.Goals as goal
 

@@ -1,7 +1,7 @@
-use Rattle.std.proofs.Common.{◌≡◌, ◌++◌, ◌∷◌, [], sym, ap, ap₂, ◌∙◌, take, length}
+use Rattle.std.proofs.Common.{◌≡◌, ◌++◌, ◌∷◌, [], sym, ap, ap₂, ◌∙◌}
 use Rattle.std.proofs.lemmas.List.{take_all}
 use Rattle.ts_table.specs.Tables.{relative, root_row, rows_below}
-use Rattle.ts_table.proofs.Relative.{IsPart, part_of, relative_more, relative_pass}
+use Rattle.ts_table.proofs.Relative.{part_of, relative_more, relative_pass}
 use Rattle.ts_table.proofs.table.Table.sub_table.Given.{Over}
 use Rattle.ts_table.proofs.table.Table.sub_table.Goals as goal
 use Rattle.ts_table.proofs.table.Table.sub_table.Goals.{in-Some+in_ok-content+in_ok-push-2, in_default, After-loop-row}

@@ -1,0 +1,30 @@
+use Rattle.std.proofs.Common.{◌≡◌, ◌+◌, ◌++◌, drop, get_or, length, ap, ◌∙◌, subst, arith}
+use Rattle.std.proofs.lemmas.Result.{err_from_is_err_and}
+use Rattle.ts_model.specs.Texts.{print_lines, print_row_lines}
+use Rattle.ts_tree.proofs.Writing.{Wrote, wrote_front, wrote_more}
+use Rattle.ts_print.proofs.NextRows.{rows_step}
+use Rattle.ts_print.proofs.encoding.encode.Goals as goal
+
+-- A beginning of this row went out.
+pub returns-in_err-write_row : goal.returns-in_err-write_row
+returns-in_err-write_row g c =
+    let p = err_from_is_err_and c.from_residual.result c.from_residual.ensures.1 in
+    let t = c.args.print.now in
+    let i = c.loop-row.row-index in
+    let row = c.row-item.result in
+    let rows = c.rows-row-items.ensures.rows in
+    let step = rows_step t i row (omega (arith, ap length rows)) (c.row-item.is ∙ ap (λ z. get_or z i row) rows) in
+    rw p.1 (record {
+      written = wrote_front (g.W.Sink.holds c.args.sink.now) (g.W.Sink.holds c.loop-row.sink) (g.W.Sink.holds c.write_row.new.sink) (print_lines t) (print_row_lines row.path row.content) (print_lines (drop (i + 1) t))
+          (subst (λ z. Wrote (g.W.Sink.holds c.args.sink.now) (g.W.Sink.holds c.loop-row.sink) (print_lines t) z) step c.loop-row.invariant) c.in_err-write_row.ensures.written;
+    })
+
+pub loop-row-preserved : goal.loop-row-preserved
+loop-row-preserved g c =
+    let t = c.args.print.now in
+    let i = c.loop-row.row-index in
+    let row = c.row-item.result in
+    let rows = c.rows-row-items.ensures.rows in
+    let step = rows_step t i row (omega (arith, ap length rows)) (c.row-item.is ∙ ap (λ z. get_or z i row) rows) in
+    wrote_more (g.W.Sink.holds c.args.sink.now) (g.W.Sink.holds c.loop-row.sink) (g.W.Sink.holds c.write_row.new.sink) (print_lines t) (print_row_lines row.path row.content) (print_lines (drop (i + 1) t))
+    (subst (λ z. Wrote (g.W.Sink.holds c.args.sink.now) (g.W.Sink.holds c.loop-row.sink) (print_lines t) z) step c.loop-row.invariant) c.in_ok-write_row.ensures.written
