@@ -1,11 +1,12 @@
 //! The laws. Each function has an empty body, and its contract is the law.
 
 ghost use Rattle.std.specs.Prelude.{◌≡◌, ◌⊎◌, ℕ, List, []};
+ghost use Rattle.ts_laws.specs.Carried.{AreInPlace, IsCarriedOut};
 ghost use Rattle.ts_laws.specs.Laws.{AreDecided, ArePrinted, CanFinish, CountsOpen, DirsAreParents, DirtIsDifference, EndsAlike, EntriesAreReasons, FindsPieces, HasAnswer, IsAnswered, IsDecided, IsReasonDecided, Keeps, OneToOne, ValidExample};
 ghost use Rattle.ts_model.specs.Headline.{ArchiveAgrees, Completes, FinalArchive, HasOnePair, Meets, NotStuck, OnePair, OriginalOrFinal};
 ghost use Rattle.ts_model.specs.Plans.{Valid};
 ghost use Rattle.ts_model.specs.Resume.{ArchiveIsClosed, CanResume, CutsAreLegal};
-ghost use Rattle.ts_model.specs.Sync.{HasReason, IsSnapshot, Snapshot, listed_snapshot};
+ghost use Rattle.ts_model.specs.Sync.{AreReplicas, HasReason, IsSnapshot, Snapshot, listed_snapshot};
 ghost use Rattle.ts_model.specs.Texts.{Bundle, IsArchiveText, IsBundle, IsBundleText, IsPlanText, IsPrintText, IsRulesText, IsTreeText};
 ghost use Rattle.ts_model.specs.Trees.{AreApart, IsListing, Listing, Print, Tree, at, print_of};
 ghost use Rattle.ts_model.specs.Trial.{HasContentsApart, IsRefused, IsResult, Trial};
@@ -52,6 +53,21 @@ pub fn claimed_commits_find_their_pieces()
 /// The open predecessors of an action are those that were not released to it.
 pub fn words_count_open()
     ensures { (s : Snapshot) (plan : Plan) → Valid s plan → CountsOpen s plan }
+{}
+
+// ---- What a plan leaves, without a run.
+
+/// With each copied entry's subtree in the target, and each mark in the archive, entry by entry, the replicas are the pair that is asked for,
+/// and the archive is the final one.
+pub fn carried_out()
+    ensures { (s : Snapshot) (plan : Plan) (a b : Tree) → Valid s plan → IsSnapshot s → AreReplicas s a b → AreApart (Meets a b [])
+        → IsCarriedOut s plan a b }
+{}
+
+/// The entries of a valid plan stand below directories of both replicas, which stay directories until an entry's turn comes, and in path
+/// order, each apart from what is below the one before it.
+pub fn entries_in_place()
+    ensures { (s : Snapshot) (plan : Plan) (a b : Tree) → Valid s plan → IsSnapshot s → AreReplicas s a b → AreInPlace s plan a b }
 {}
 
 // ---- Runs that were stopped.

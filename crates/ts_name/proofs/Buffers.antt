@@ -1,9 +1,9 @@
 -- Names and the buffers that hold them.
-use Rattle.std.proofs.Common.{◌≡◌, ◌≢◌, ◌⊎◌, ◌↔◌, ◌-◌, eqb, Bor, MatchOption, IsTrue, rules, suc, ltb, get_or, drop-cons, length-take, ltb-false, ℕ, ◌+◌, ◌<◌, ◌≤◌, ◌==◌, Bool, true, false, cond, List, [], ◌∷◌, ◌++◌, Option, Some, None, length, take, drop, map, flat_map, sum_by, count_by, position, refl, sym, ap, ap₂, subst, ◌∙◌, append_assoc, append-nil, eq-eqb, eqb-true, arith, length-append, inl, inr}
+use Rattle.std.proofs.Common.{◌≡◌, ◌≢◌, ◌↔◌, ◌-◌, eqb, Bor, MatchOption, IsTrue, rules, suc, ltb, get_or, drop-cons, length-take, ltb-false, ℕ, ◌+◌, ◌<◌, ◌≤◌, ◌==◌, Bool, true, false, cond, List, [], ◌∷◌, ◌++◌, Option, Some, None, length, take, drop, map, sum_by, count_by, position, refl, sym, ap, ap₂, subst, ◌∙◌, append_assoc, append-nil, eq-eqb, eqb-true, arith, length-append}
 use Rattle.std.proofs.lemmas.Bool.{cond-true, cond-false, false_from_ne_true, false≢true}
 use Rattle.std.proofs.lemmas.List.Concat.{flat_map-append}
 use Rattle.std.proofs.lemmas.List.{take-append-drop, get_or-take, map-append, take_at}
-use Rattle.std.proofs.lemmas.Slice.Eq.{starts_is, strip_prefix_is}
+use Rattle.std.proofs.lemmas.Slice.Eq.{starts_is}
 use Rattle.std.proofs.lemmas.List.Quantifiers.{position-Some}
 use Rattle.std.proofs.lemmas.List.Sums.{sum_by-cons, sum_by-append, fails_before_first}
 use Rattle.std.specs.List.{AllByRecursion, position_or_len, starts_with}

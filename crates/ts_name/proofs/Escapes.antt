@@ -1,9 +1,7 @@
 -- The escaped form of bytes.
-use Rattle.std.proofs.Common.{◌≡◌, ◌≢◌, suc, ◌==◌, ◌+◌, ◌*◌, ◌/◌, ◌%◌, ◌<◌, ◌≤◌, ◌&&◌, ◌||◌, nat_le, nat_lt, ℕ, IsTrue, Bool, true, false, cond, eqb, ltb, List, [], ◌∷◌, ◌++◌, Option, Some, None, MatchOption, take, drop, length, flat_map, refl, sym, ap, ap₂, subst, ◌∙◌, eqb-true, eq-eqb, append_assoc, append-nil, arith, rules, length-append}
-use Rattle.std.proofs.lemmas.Bool.{cond-true, cond-false, false≢true, ltb-true, ltb-false}
-use Rattle.std.proofs.lemmas.Bool.Decides.{nat_tests}
+use Rattle.std.proofs.Common.{◌≡◌, ◌≢◌, suc, ◌==◌, ◌+◌, ◌/◌, ◌%◌, ◌<◌, ℕ, IsTrue, Bool, true, false, cond, ltb, List, [], ◌∷◌, ◌++◌, Option, Some, None, MatchOption, length, refl, sym, ap, ap₂, ◌∙◌, eqb-true, append_assoc, append-nil, arith}
+use Rattle.std.proofs.lemmas.Bool.{false≢true, ltb-true, ltb-false}
 use Rattle.std.proofs.lemmas.List.Concat.{flat_map-append}
-use Rattle.std.specs.List.{AllByRecursion}
 use Rattle.ts_name.specs.Paths.{is_escaped, upper_hex_digit, byte_text, name_text}
 use Rattle.ts_name.proofs.Utf8.{all_append}
 use Rattle.ts_name.specs.Escapes.{digits, AreBytes, HasNoDigits, HasNoByte, HasNoBytes}

@@ -1,11 +1,11 @@
 -- What each answer of `Path::parse_text` says of the text.
-use Rattle.std.proofs.Common.{◌≡◌, ◌≢◌, ◌⊎◌, suc, ◌↔◌, ◌==◌, ◌<◌, ◌≤◌, ℕ, Bool, true, false, cond, eqb, List, [], ◌∷◌, ◌++◌, Result, Ok, Err, IfOk, length, sum_by, map, refl, sym, ap, ap₂, subst, ◌∙◌, inl, inr, arith, eqb-true, eq-eqb, ◌||◌}
+use Rattle.std.proofs.Common.{◌≡◌, ◌≢◌, ◌⊎◌, suc, ◌↔◌, ◌==◌, ℕ, Bool, true, false, cond, List, [], ◌∷◌, ◌++◌, Result, Ok, Err, IfOk, length, map, refl, sym, ap, ap₂, subst, ◌∙◌, inl, inr, arith, eqb-true, eq-eqb, ◌||◌}
 use Rattle.std.proofs.lemmas.Bool.{false≢true, true≢false, false_from_ne_true, cond-false}
 use Rattle.std.proofs.lemmas.List.{map-append}
 use Rattle.std.specs.List.{AllByRecursion, list_any}
-use Rattle.ts_name.specs.Paths.{Name, Path, IsName, IsPath, name_text, path_text, Spells, IsPathText, HasNoNames, HasBadName, IsPastLimit}
-use Rattle.ts_name.specs.Buffers.{pieces, ended, HasNo, IsWhole}
-use Rattle.ts_name.specs.Escapes.{AreBytes, HasNoBytes}
+use Rattle.ts_name.specs.Paths.{Name, Path, IsName, IsPath, name_text, Spells, IsPathText, HasNoNames, HasBadName, IsPastLimit}
+use Rattle.ts_name.specs.Buffers.{pieces, ended, HasNo}
+use Rattle.ts_name.specs.Escapes.{AreBytes}
 use Rattle.ts_name.specs.declared.faults.PathFault.{PathFault}
 use Rattle.ts_name.specs.declared.faults.PathFault.TheVariants.{OutOfMemory, BadName, BadText, TooLong}
 use Rattle.ts_name.proofs.Buffers.{AreFree, free_from_names, pieces_all, pieces_free, IsWhole-push}

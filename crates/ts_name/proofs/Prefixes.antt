@@ -1,9 +1,7 @@
 -- Paths above one another, and what is left below one.
-use Rattle.std.proofs.Common.{◌≡◌, ◌≢◌, ◌⊎◌, ◌↔◌, IsTrue, inl, inr, ⊎_elim, ap₂, subst, append_assoc, append-nil, ◌==◌, ℕ, Bool, true, false, cond, eqb, List, [], ◌∷◌, ◌++◌, Option, Some, None, take, drop, length, refl, sym, ap, ◌∙◌, eqb-true, eq-eqb}
+use Rattle.std.proofs.Common.{◌≡◌, ◌≢◌, ◌⊎◌, ◌↔◌, IsTrue, inl, inr, ⊎_elim, ap₂, subst, append_assoc, append-nil, ℕ, Bool, true, false, cond, eqb, List, [], ◌∷◌, ◌++◌, Option, Some, None, refl, sym, ap, ◌∙◌}
 use Rattle.std.proofs.lemmas.Bool.{cond-true, false≢true}
-use Rattle.std.proofs.lemmas.Slice.Eq.{strip_prefix_is}
-use Rattle.std.specs.Cmp.Lexicographic.{pointwise}
-use Rattle.ts_name.specs.Paths.{Name, Path, IsAbove, same_name, same_path, below}
+use Rattle.ts_name.specs.Paths.{Name, Path, IsAbove, same_name, below}
 use Rattle.std.specs.List.{starts_with}
 use Rattle.ts_name.specs.Buffers.{pieces, ended, HoldsParent}
 use Rattle.ts_name.specs.Laws.{same_name_equal, same_name_itself}

@@ -1,11 +1,11 @@
 -- The texts of paths.
-use Rattle.std.proofs.Common.{◌≡◌, ◌≢◌, ◌⊎◌, ⊎_elim, ◌==◌, ◌<◌, ◌≤◌, ◌+◌, ◌*◌, ◌/◌, ◌%◌, ◌&&◌, ◌||◌, ltb, sum_by, ap₂, length-append, arith, ℕ, Bool, true, false, cond, eqb, List, [], ◌∷◌, ◌++◌, Option, Some, None, take, drop, length, flat_map, refl, sym, ap, subst, ◌∙◌, eqb-true, eq-eqb, append_assoc, append-nil}
+use Rattle.std.proofs.Common.{◌≡◌, ◌≢◌, ⊎_elim, ◌==◌, ◌<◌, ◌≤◌, ◌+◌, ◌*◌, ◌/◌, ◌%◌, ◌&&◌, ◌||◌, ltb, sum_by, ap₂, length-append, arith, ℕ, Bool, true, false, cond, List, [], ◌∷◌, ◌++◌, take, length, flat_map, refl, sym, ap, subst, ◌∙◌, append_assoc, append-nil}
 use Rattle.std.proofs.lemmas.Bool.{false≢true, le-leb, cases_lt}
 use Rattle.std.proofs.lemmas.List.{take_at}
 use Rattle.std.proofs.lemmas.List.Sums.{sum_by-cons}
 use Rattle.std.proofs.lemmas.List.Concat.{flat_map-append}
 use Rattle.std.specs.List.{AllByRecursion}
-use Rattle.ts_name.specs.Paths.{Name, Path, IsName, IsPath, is_escaped, upper_hex_digit, byte_text, name_text, path_text, Spells, IsPathText, HasNoNames, HasBadName, IsPastLimit}
+use Rattle.ts_name.specs.Paths.{Name, Path, IsName, IsPath, is_escaped, upper_hex_digit, byte_text, name_text, path_text, Spells, IsPathText, HasNoNames}
 use Rattle.ts_name.specs.Escapes.{AreBytes, HasNoBytes}
 use Rattle.ts_name.proofs.Escapes.{name_text-append, same_text}
 use Rattle.ts_name.proofs.Utf8.{all_append, fit_from_names, AreBytes-from_utf8}

@@ -1,6 +1,6 @@
 -- UTF-8 is made of bytes, and so are good names.
-use Rattle.std.proofs.Common.{◌≡◌, ◌⊎◌, ◌+◌, ◌/◌, ◌%◌, ◌<◌, ◌≤◌, ◌&&◌, ℕ, Bool, true, false, cond, ltb, leb, List, [], ◌∷◌, ◌++◌, refl, sym, ap, subst, ⊎_elim, arith}
-use Rattle.std.proofs.lemmas.Bool.{and_parts, ltb-true, ltb-false}
+use Rattle.std.proofs.Common.{◌≡◌, ◌+◌, ◌/◌, ◌<◌, ℕ, Bool, true, false, cond, ltb, List, [], ◌∷◌, ◌++◌, refl, subst, ⊎_elim, arith}
+use Rattle.std.proofs.lemmas.Bool.{and_parts, ltb-true}
 use Rattle.std.specs.List.{AllByRecursion}
 use Rattle.std.specs.Prelude.{IsUtf8}
 use lib.Utf8.{scalar, scalars, encode, encodes, next, scalar_cases}

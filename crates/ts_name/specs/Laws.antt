@@ -1,5 +1,5 @@
 -- What `==` and `cmp` of names and of paths obey: they are an equality and a total order.
-use Rattle.std.proofs.Common.{◌≡◌, ◌≢◌, ◌==◌, Bool, true, false, List, [], ◌∷◌, Ordering, Less, Equal, Greater, nat_cmp, Option, Some, refl, sym, ap, ap₂, subst, eqb-true, eq-eqb}
+use Rattle.std.proofs.Common.{◌≡◌, ◌≢◌, ◌==◌, true, false, [], ◌∷◌, Ordering, Less, Equal, Greater, nat_cmp, Some, refl, sym, ap, ap₂, subst, eqb-true, eq-eqb}
 use Rattle.std.proofs.lemmas.Bool.{and_parts, and_from, false_from_ne_true}
 use Rattle.std.proofs.lemmas.Bool.Decides.{same_from_decides}
 use Rattle.std.proofs.lemmas.Cmp.{lists_total, nat_list_cmp_total, tied_itself, eq_by_cmp_equiv}

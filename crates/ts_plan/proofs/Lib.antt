@@ -5,3 +5,4 @@ pub mod Grammar
 pub mod Turns
 pub mod Texts
 pub mod Sources
+pub mod Sinks

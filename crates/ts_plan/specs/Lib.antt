@@ -5,3 +5,4 @@ pub mod Progress
 pub mod Reading
 pub mod Readers
 pub mod Decoding
+pub mod Sends

@@ -2,6 +2,7 @@
 #![tactic(auto)]
 
 pub mod decoding;
+pub mod encoding;
 pub mod fault;
 mod field;
 pub mod line;
@@ -9,6 +10,10 @@ pub mod progress;
 pub mod text;
 
 pub use decoding::decode;
+pub use encoding::encode;
 pub use fault::PlanFault;
 pub use line::PlanLine;
 pub use text::PlanReader;
+
+#[cfg(test)]
+mod tests;

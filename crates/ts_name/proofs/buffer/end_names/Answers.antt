@@ -1,4 +1,4 @@
-use Rattle.std.proofs.Common.{◌≡◌, arith, ◌==◌, cond, get_or, set, sym, ap, refl, length, ◌<◌, ◌∙◌}
+use Rattle.std.proofs.Common.{arith, ◌==◌, cond, get_or, set, ap, length, ◌<◌, ◌∙◌}
 use Rattle.std.proofs.lemmas.List.{get_or_default}
 use Rattle.std.proofs.lemmas.List.Edits.{map_over_more}
 use Rattle.ts_name.proofs.buffer.end_names.Goals as goal

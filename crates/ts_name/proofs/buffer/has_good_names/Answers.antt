@@ -1,5 +1,5 @@
 use Rattle.std.proofs.lemmas.Bool.{false≢true}
-use Rattle.std.proofs.Common.{refl, arith, length-append, ◌<◌, length, ap}
+use Rattle.std.proofs.Common.{refl}
 use Rattle.ts_name.proofs.Buffers.{GoodSoFar-none, GoodSoFar-more, GoodSoFar-bad, GoodSoFar-all, yes, no_answer, shorter}
 use Rattle.ts_name.proofs.buffer.has_good_names.Goals as goal
 

@@ -1,7 +1,4 @@
-use Rattle.std.proofs.Common.{length, ◌↔◌}
-use Rattle.std.specs.List.{AllByRecursion}
-use Rattle.ts_name.specs.Paths.{IsName}
-use Rattle.ts_name.specs.Buffers.{pieces, IsWhole}
+use Rattle.std.proofs.Common.{length}
 use Rattle.ts_name.proofs.Buffers.{GoodSoFar}
 use Rattle.ts_name.proofs.buffer.has_good_names.Given as goal
 

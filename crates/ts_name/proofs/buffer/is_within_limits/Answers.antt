@@ -1,4 +1,4 @@
-use Rattle.std.proofs.Common.{arith, rules}
+use Rattle.std.proofs.Common.{arith}
 use Rattle.std.proofs.lemmas.Bool.Decides.{nat_tests}
 use Rattle.ts_name.proofs.Buffers.{length_whole}
 use Rattle.ts_name.proofs.buffer.is_within_limits.Goals as goal

@@ -1,4 +1,4 @@
-use Rattle.std.proofs.Common.{◌≡◌, ◌==◌, ◌+◌, Some, None, position, sym, ◌∙◌, ap, take, drop, length, ◌++◌, ◌∷◌}
+use Rattle.std.proofs.Common.{◌+◌, sym, ◌∙◌, ap, take, ◌++◌, ◌∷◌}
 use Rattle.std.proofs.lemmas.List.{take_rest}
 use Rattle.ts_name.proofs.Buffers.{no_end, first_end}
 use Rattle.ts_name.proofs.buffer.split_name.Goals as goal

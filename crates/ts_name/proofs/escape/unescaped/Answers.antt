@@ -1,4 +1,4 @@
-use Rattle.std.proofs.Common.{◌≡◌, ◌≢◌, List, [], ◌∷◌, length, refl, sym, ap, subst, ◌∙◌}
+use Rattle.std.proofs.Common.{sym, subst}
 use Rattle.ts_name.proofs.Escapes.{ReadSoFar, ReadSoFar-none, ReadSoFar-more, ReadSoFar-stuck, ReadSoFar-all, shorter_byte, nothing, something}
 use Rattle.ts_name.proofs.escape.unescaped.Goals as goal
 

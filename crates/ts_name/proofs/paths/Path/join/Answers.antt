@@ -1,4 +1,4 @@
-use Rattle.std.proofs.Common.{◌≡◌, ◌++◌, arith, ap, ap₂, ◌∙◌}
+use Rattle.std.proofs.Common.{◌≡◌, ◌++◌, arith, ap₂, ◌∙◌}
 use Rattle.ts_name.proofs.Buffers.{Holds, Holds-same, measured, Holds-append, IsPath-append, lawful_held}
 use Rattle.ts_name.proofs.paths.Path.join.Goals as goal
 

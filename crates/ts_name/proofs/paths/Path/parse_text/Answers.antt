@@ -1,10 +1,10 @@
-use Rattle.std.proofs.Common.{◌≡◌, ◌==◌, ◌++◌, ◌∷◌, [], ◌≤◌, Ok, Err, List, ℕ, true, false, length, sum_by, refl, ap, subst, sym, map, ◌∙◌}
+use Rattle.std.proofs.Common.{◌≡◌, ◌==◌, ◌∷◌, [], ◌≤◌, Ok, length, sum_by, refl, ap, subst, sym, map, ◌∙◌}
 use Rattle.std.proofs.lemmas.Bool.{false≢true}
 use Rattle.std.specs.List.{AllByRecursion, list_any}
 use Rattle.ts_name.specs.Paths.{IsName, IsPath}
 use Rattle.ts_name.specs.Buffers.{pieces}
 use Rattle.ts_name.proofs.Buffers.{whole_replaced}
-use Rattle.ts_name.proofs.Parsing.{Parsed, Parsed-no_names, Parsed-bad, Parsed-past, Parsed-path, Parsed-zero, Buffered, Buffered-from, zero_for_slash, no_bytes}
+use Rattle.ts_name.proofs.Parsing.{Parsed, Parsed-no_names, Parsed-bad, Parsed-past, Parsed-path, Parsed-zero, Buffered-from, zero_for_slash, no_bytes}
 use Rattle.ts_name.proofs.Texts.{no_names_first, no_names_rest, root_text}
 use Rattle.ts_name.proofs.paths.Path.parse_text.Goals as goal
 

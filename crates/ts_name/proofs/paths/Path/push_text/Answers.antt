@@ -1,4 +1,4 @@
-use Rattle.std.proofs.Common.{◌++◌, ◌∷◌, [], ap, ◌∙◌}
+use Rattle.std.proofs.Common.{◌++◌, ap, ◌∙◌}
 use Rattle.ts_name.specs.Paths.{name_text}
 use Rattle.ts_name.proofs.Texts.{WrittenSoFar-more, WrittenSoFar-all}
 use Rattle.ts_name.proofs.paths.Path.push_text.Goals as goal

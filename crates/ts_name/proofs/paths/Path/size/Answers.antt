@@ -1,4 +1,4 @@
-use Rattle.std.proofs.Common.{arith, ap}
+use Rattle.std.proofs.Common.{arith}
 use Rattle.ts_name.proofs.Buffers.{Holds, Holds-same, measured}
 use Rattle.ts_name.proofs.paths.Path.size.Goals as goal
 

@@ -1,0 +1,68 @@
+-- What carrying out a plan leaves, entry by entry, without a run.
+--     copied r source t entries        t with the source's subtree at the path of each entry of reason r
+--     marked_all s archive entries     the archive with the mark of each entry that isn't skipped
+--     IsCarriedOut s plan a b          these are the pair that is asked for, and the final archive
+--     AreInPlace s plan a b            each entry stands below directories, and apart from those after it
+use Rattle.std.specs.Prelude.{◌≡◌, ◌≢◌, Bool, true, false, cond, List, [], ◌∷◌, ◌++◌, Some}
+use Rattle.std.specs.List.{AllByRecursion}
+use Rattle.ts_name.specs.Paths.{Name, Path, IsBefore}
+use Rattle.ts_model.specs.Trees.{Tree, Print, sub, IsTree}
+use Rattle.ts_model.specs.Sync.{Snapshot, Synced}
+use Rattle.ts_model.specs.Runs.{graft, with_mark}
+use Rattle.ts_model.specs.Headline.{FinalArchive}
+use Rattle.ts_model.specs.declared.row.Content.TheVariants.{Dir}
+use Rattle.ts_model.specs.declared.plan.Reason.{Reason}
+use Rattle.ts_model.specs.declared.plan.Reason.TheVariants as reason
+use Rattle.ts_model.specs.declared.plan.Entry.{Entry}
+use Rattle.ts_model.specs.declared.plan.Plan.{Plan}
+
+-- whether two reasons are one
+abbrev pub same_reason : Reason → Reason → Bool
+same_reason reason.Same reason.Same = true
+same_reason reason.First reason.First = true
+same_reason reason.Second reason.Second = true
+same_reason reason.Conflict reason.Conflict = true
+same_reason reason.Held reason.Held = true
+same_reason reason.Dir reason.Dir = true
+same_reason _ _ = false
+
+-- whether nothing is done about it
+abbrev pub is_skipped : Reason → Bool
+is_skipped reason.Conflict = true
+is_skipped reason.Held = true
+is_skipped _ = false
+
+-- t with the source's subtree at the path of each entry of this reason, in the entries' order
+abbrev pub copied : Reason → Tree → Tree → List Entry → Tree
+copied r source t [] = t
+copied r source t (entry ∷ entries) = copied r source (cond (same_reason entry.reason r) (graft t entry.path (sub source entry.path)) t) entries
+
+-- the archive with the mark of each entry that isn't skipped, in the entries' order. The mark of a skipped one would change nothing
+abbrev pub marked_all : Snapshot → Print → List Entry → Print
+marked_all s archive [] = archive
+marked_all s archive (entry ∷ entries) = marked_all s (cond (is_skipped entry.reason) archive (with_mark s archive (Some entry))) entries
+
+-- what the entries of a plan leave is the pair that is asked for, with the final archive
+pub record IsCarriedOut (s : Snapshot) (plan : Plan) (a b : Tree) : Type 0 where
+  pub pair : Synced s a b (copied reason.Second b a plan.entries) (copied reason.First a b plan.entries)
+  pub archive : FinalArchive s (copied reason.Second b a plan.entries) (marked_all s s.archive plan.entries)
+  pub trees : IsTree (copied reason.Second b a plan.entries) × IsTree (copied reason.First a b plan.entries)
+  pub archive_tree : IsTree (marked_all s s.archive plan.entries)
+
+-- ---- where the entries stand
+
+-- what an entry's path is, in the entries' order, when its turn comes
+pub record IsInPlace (s : Snapshot) (a b : Tree) (before : List Entry) (entry : Entry) (after : List Entry) : Type 0 where
+  pub not_root : entry.path ≢ []
+  -- its parent is a directory in both replicas, and stays one in them and in the archive until then
+  pub parent : (parent : Path) (name : Name) → entry.path ≡ parent ++ name ∷ [] → (a parent ≡ Dir) × (b parent ≡ Dir)
+  pub in_first : (parent : Path) (name : Name) → entry.path ≡ parent ++ name ∷ [] → copied reason.Second b a before parent ≡ Dir
+  pub in_second : (parent : Path) (name : Name) → entry.path ≡ parent ++ name ∷ [] → copied reason.First a b before parent ≡ Dir
+  pub in_archive : (parent : Path) (name : Name) → entry.path ≡ parent ++ name ∷ [] → marked_all s s.archive before parent ≡ Dir
+  -- it comes before each later entry's path, and so does all that is below it, unless it is a new directory
+  pub ascends : AllByRecursion (λ later. IsBefore entry.path later.path) after
+  pub apart : entry.reason ≢ reason.Dir → (rest : Path) → AllByRecursion (λ later. IsBefore (entry.path ++ rest) later.path) after
+
+-- each entry is in its place
+abbrev pub AreInPlace : Snapshot → Plan → Tree → Tree → Type 0
+AreInPlace s plan a b = (before : List Entry) (entry : Entry) (after : List Entry) → plan.entries ≡ before ++ entry ∷ after → IsInPlace s a b before entry after
