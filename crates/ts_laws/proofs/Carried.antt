@@ -16,8 +16,8 @@ use Rattle.ts_model.specs.declared.plan.Entry.{Entry}
 use Rattle.ts_model.specs.declared.plan.Kind.TheVariants.{Commit, Mark}
 use Rattle.ts_model.specs.declared.plan.Plan.{Plan}
 use Rattle.ts_laws.specs.Laws.{Finishes}
-use Rattle.ts_laws.specs.Carried.{same_reason, is_skipped, copied, marked_all, IsCarriedOut}
-use Rattle.ts_laws.proofs.Settings.{Setting, Begun, Ran, begun_at, ran_at}
+use Rattle.ts_laws.specs.Carried.{same_reason, is_skipped, copied, marked_all, IsCarriedOut, LeavesCarried}
+use Rattle.ts_laws.proofs.Settings.{Setting, Begun, Ran, begun_at, ran_at, ran_from}
 use Rattle.ts_laws.proofs.Basics.{Dec-both, Dec-either, Dec-not, IsTree-from_print, Start-from, by_each, at_each, stable, same_names}
 use Rattle.ts_laws.proofs.Paths.{before_below, before_itself, before_trans, decide_above, graft_at, graft_off}
 use Rattle.ts_laws.proofs.Lists.{find_index}
@@ -85,6 +85,11 @@ module _ (r : Reason) (source : Tree) where
       go true e more = more (graft t x.path (sub source x.path)) ∙ graft_off t x.path (sub source x.path) q (off 0 x refl (same_reason_equal x.reason r e))
       go false e more = more t
 
+  -- one part of the entries after another
+  pub copied_append : (t : Tree) (xs ys : List Entry) → copied r source t (xs ++ ys) ≡ copied r source (copied r source t xs) ys
+  copied_append t [] ys = refl
+  copied_append t (x ∷ xs) ys = copied_append (cond (same_reason x.reason r) (graft t x.path (sub source x.path)) t) xs ys
+
   -- what is the source's stays so
   pub copied_kept : (t : Tree) (entries : List Entry) (q : Path) → t q ≡ source q → copied r source t entries q ≡ source q
   copied_kept t [] q same = same
@@ -127,6 +132,11 @@ rest_from plan k x xs from j y is = let same : k + suc j ≡ suc k + j = omega a
 -- those of the plan itself
 all_from : (plan : Plan) → AreFrom plan 0 plan.entries
 all_from plan j x is = let same : j ≡ 0 + j = omega arith in subst (λ z. EntryIs plan z x) same is
+
+-- one part of the entries after another
+pub marked_append : (s : Snapshot) (t : Print) (xs ys : List Entry) → marked_all s t (xs ++ ys) ≡ marked_all s (marked_all s t xs) ys
+marked_append s t [] ys = refl
+marked_append s t (x ∷ xs) ys = marked_append s (cond (is_skipped x.reason) t (with_mark s t (Some x))) xs ys
 
 module _ (given : Setting) where
   open given use {s, plan, valid}
@@ -197,7 +207,7 @@ module _ (given : Ran) (done : AllDone given.begun.setting.plan given.r) where
   has_from_copy side.Second p copy = (copy.edge.below, (copy.edge.no_dirs, copy.differ, stable (decide_dirty s lawful side.First p) copy.dirty, copy.clean))
 
   -- each side is left with what its entries copy
-  ends_copied : (on : Side) → tree_on (after s plan (start s a b) r) on ≡ copied (reason_onto on) (tree_on (start s a b) (other on)) (tree_on (start s a b) on) plan.entries
+  pub ends_copied : (on : Side) → tree_on (after s plan (start s a b) r) on ≡ copied (reason_onto on) (tree_on (start s a b) (other on)) (tree_on (start s a b) on) plan.entries
   ends_copied on = by_each (tree_on (after s plan (start s a b) r) on) (copied (reason_onto on) (tree_on (start s a b) (other on)) (tree_on (start s a b) on) plan.entries) (λ q.
       go q (find_index (λ x. (x.reason ≡ reason_onto on) × IsAbove x.path q) (λ x. Dec-both (decide_reason x.reason (reason_onto on)) (decide_above x.path q)) plan.entries))
     where
@@ -225,7 +235,7 @@ module _ (given : Ran) (done : AllDone given.begun.setting.plan given.r) where
   decide_reaches q x = Dec-both (Dec-not (decide_skipped x.reason)) (Dec-either (same_names x.path q) (Dec-both (Dec-not (decide_reason x.reason reason.Dir)) (decide_above x.path q)))
 
   -- the archive is left with the marks of the entries
-  ends_marked : (after s plan (start s a b) r).archive ≡ marked_all s s.archive plan.entries
+  pub ends_marked : (after s plan (start s a b) r).archive ≡ marked_all s s.archive plan.entries
   ends_marked = by_each (after s plan (start s a b) r).archive (marked_all s s.archive plan.entries) (λ q. go q (find_index (Reaches q) (decide_reaches q) plan.entries))
     where
       found_at : (q : Path) (k : ℕ) (x : Entry) → EntryIs plan k x → ¬ IsSkipped x.reason → (rest : Path) → q ≡ x.path ++ rest → (x.reason ≡ reason.Dir → rest ≡ [])
@@ -248,9 +258,11 @@ module _ (given : Ran) (done : AllDone given.begun.setting.plan given.r) where
       go q (inl (k, x, is, (markable, inl same))) = found_at q k x is markable [] (sym same ∙ sym (append-nil x.path)) (λ _. refl)
       go q (inl (k, x, is, (markable, inr (ne, (rest, at))))) = found_at q k x is markable rest at (λ new. absurd (ne new))
       go q (inr none) =
-          archive_kept given.begun.setting q r legal (record { each = λ i e x acted kind is more at.
-            let found = mark_is_marked s plan valid i e kind in
-            off q none e x is (subst (λ z. ¬ IsSkipped z.reason) (same_entry plan e found.0 x found.1 is) found.2) more at })
+          archive_kept given.begun.setting q r legal (record {
+            each = λ i e x acted kind is more at.
+                let found = mark_is_marked s plan valid i e kind in
+                off q none e x is (subst (λ z. ¬ IsSkipped z.reason) (same_entry plan e found.0 x found.1 is) found.2) more at;
+          })
           ∙ sym (marked_off given.begun.setting s.archive 0 plan.entries (all_from plan) q (off q none) refl)
 
   -- so what the entries leave is the pair and the final archive
@@ -290,3 +302,9 @@ carried_out s plan a b valid lawful are contents = go (finish begun [] tt (λ i.
 
     go : (more : Run) × Finishes s plan a b [] more → IsCarriedOut s plan a b
     go (more, finishes) = carried (ran_at begun more finishes.legal (λ x y met_x met_y same. contents x y (finishes.met x met_x) (finishes.met y met_y) same)) finishes.done
+
+-- and so does any run in which all is done
+pub leaves_carried : (s : Snapshot) (plan : Plan) → Valid s plan → LeavesCarried s plan
+leaves_carried s plan valid a b r met legal done =
+    let given = ran_from s plan valid a b r met legal in
+    (ends_copied given done side.First, ends_copied given done side.Second, ends_marked given done)

@@ -2,14 +2,15 @@
 --     copied r source t entries        t with the source's subtree at the path of each entry of reason r
 --     marked_all s archive entries     the archive with the mark of each entry that isn't skipped
 --     IsCarriedOut s plan a b          these are the pair that is asked for, and the final archive
+--     LeavesCarried s plan             a run in which all is done leaves just that
 --     AreInPlace s plan a b            each entry stands below directories, and apart from those after it
 use Rattle.std.specs.Prelude.{◌≡◌, ◌≢◌, Bool, true, false, cond, List, [], ◌∷◌, ◌++◌, Some}
 use Rattle.std.specs.List.{AllByRecursion}
 use Rattle.ts_name.specs.Paths.{Name, Path, IsBefore}
 use Rattle.ts_model.specs.Trees.{Tree, Print, sub, IsTree}
 use Rattle.ts_model.specs.Sync.{Snapshot, Synced}
-use Rattle.ts_model.specs.Runs.{graft, with_mark}
-use Rattle.ts_model.specs.Headline.{FinalArchive}
+use Rattle.ts_model.specs.Runs.{Run, Legal, graft, with_mark, after, start}
+use Rattle.ts_model.specs.Headline.{FinalArchive, Premises, AllDone}
 use Rattle.ts_model.specs.declared.row.Content.TheVariants.{Dir}
 use Rattle.ts_model.specs.declared.plan.Reason.{Reason}
 use Rattle.ts_model.specs.declared.plan.Reason.TheVariants as reason
@@ -48,6 +49,12 @@ pub record IsCarriedOut (s : Snapshot) (plan : Plan) (a b : Tree) : Type 0 where
   pub archive : FinalArchive s (copied reason.Second b a plan.entries) (marked_all s s.archive plan.entries)
   pub trees : IsTree (copied reason.Second b a plan.entries) × IsTree (copied reason.First a b plan.entries)
   pub archive_tree : IsTree (marked_all s s.archive plan.entries)
+
+-- whatever the order of its steps, a run in which all is done leaves just that
+abbrev pub LeavesCarried : Snapshot → Plan → Type 0
+LeavesCarried s plan = (a b : Tree) (r : Run) → Premises s a b r → Legal s plan r → AllDone plan r
+    → let w = after s plan (start s a b) r in
+    (w.first ≡ copied reason.Second b a plan.entries) × (w.second ≡ copied reason.First a b plan.entries) × (w.archive ≡ marked_all s s.archive plan.entries)
 
 -- ---- where the entries stand
 

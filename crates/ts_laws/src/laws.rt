@@ -1,7 +1,7 @@
 //! The laws. Each function has an empty body, and its contract is the law.
 
 ghost use Rattle.std.specs.Prelude.{◌≡◌, ◌⊎◌, ℕ, List, []};
-ghost use Rattle.ts_laws.specs.Carried.{AreInPlace, IsCarriedOut};
+ghost use Rattle.ts_laws.specs.Carried.{AreInPlace, IsCarriedOut, LeavesCarried};
 ghost use Rattle.ts_laws.specs.Laws.{AreDecided, ArePrinted, CanFinish, CountsOpen, DirsAreParents, DirtIsDifference, EndsAlike, EntriesAreReasons, FindsPieces, HasAnswer, IsAnswered, IsDecided, IsReasonDecided, Keeps, OneToOne, ValidExample};
 ghost use Rattle.ts_model.specs.Headline.{ArchiveAgrees, Completes, FinalArchive, HasOnePair, Meets, NotStuck, OnePair, OriginalOrFinal};
 ghost use Rattle.ts_model.specs.Plans.{Valid};
@@ -62,6 +62,11 @@ pub fn words_count_open()
 pub fn carried_out()
     ensures { (s : Snapshot) (plan : Plan) (a b : Tree) → Valid s plan → IsSnapshot s → AreReplicas s a b → AreApart (Meets a b [])
         → IsCarriedOut s plan a b }
+{}
+
+/// Whatever the order of its steps, a run in which all actions are done leaves just that.
+pub fn complete_runs_leave_the_same()
+    ensures { (s : Snapshot) (plan : Plan) → Valid s plan → LeavesCarried s plan }
 {}
 
 /// The entries of a valid plan stand below directories of both replicas, which stay directories until an entry's turn comes, and in path

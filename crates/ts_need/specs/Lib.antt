@@ -1,1 +1,1 @@
-pub mod Heads
+pub mod Needs

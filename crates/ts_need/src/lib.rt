@@ -1,8 +1,12 @@
-//! The checker's own marks and reasons: which entries a plan has to have, found in one walk over the three prints.
+//! Says of entries whether they are just the paths that need attention, each with its reason, or which rule they break first and where.
 #![tactic(auto)]
 
-pub mod edge;
-pub mod heads;
-pub mod need;
+pub mod broken;
+mod fault;
+mod reasons;
+mod rules;
+pub mod state;
 
-pub use need::{Broken, first_wrong};
+pub use broken::Broken;
+pub use fault::NeedFault;
+pub use rules::first_wrong;

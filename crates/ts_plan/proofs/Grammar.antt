@@ -1,17 +1,15 @@
 -- The lines of a plan lead from the start to its end, and no others do.
-use Rattle.std.proofs.Common.{◌≡◌, ◌≢◌, ℕ, ◌+◌, ◌^◌, ◌<◌, ◌≤◌, ◌==◌, ◌&&◌, Bool, true, false, cond, List, [], ◌∷◌, ◌++◌, length, map, flat_map, codes, decimal, Option, Some, None, option_to_list, option_and_then, sum_by, refl, sym, ap, ap₂, ◌∙◌, subst, arith, append_assoc, append-nil, length-append, eq-eqb}
+use Rattle.std.proofs.Common.{◌≡◌, ℕ, ◌^◌, ◌<◌, ◌==◌, ◌&&◌, Bool, true, cond, List, [], ◌∷◌, ◌++◌, length, map, flat_map, codes, decimal, Option, Some, None, option_to_list, option_and_then, refl, sym, ap, ap₂, ◌∙◌, arith, append_assoc, append-nil, eq-eqb}
 use Rattle.std.specs.List.{AllByRecursion}
 use Rattle.std.proofs.lemmas.List.{map-append}
-use Rattle.std.proofs.lemmas.List.Sums.{sum_by-append}
-use Rattle.ts_model.specs.Plans.{WithinLimits}
 use Rattle.ts_model.specs.Texts.{Line, words, entry_line, kind_line, pred_line, action_lines, plan_lines, PathFits, KindFits, IsPlan}
 use Rattle.ts_model.specs.declared.plan.Entry.{Entry}
 use Rattle.ts_model.specs.declared.plan.Kind.{Kind}
 use Rattle.ts_model.specs.declared.plan.Action.{Action}
 use Rattle.ts_model.specs.declared.plan.Plan.{Plan}
-use Rattle.ts_laws.proofs.Words.{all_append, all_parts}
+use Rattle.ts_laws.proofs.Words.{all_append}
 use Rattle.ts_plan.specs.PlanLines.{line_text, LineFits}
-use Rattle.ts_plan.specs.Progress.{Progress, all_actions, plan_of, start, body_lines, fed_in, fed, step, step_in, step_body}
+use Rattle.ts_plan.specs.Progress.{Progress, all_actions, plan_of, start, body_lines, fed_in, fed, step, step_in}
 use Rattle.ts_plan.specs.Reading.{IsLarge, IsProgress, Begins}
 use Rattle.ts_plan.specs.declared.progress.Part.{Part}
 use Rattle.ts_plan.specs.declared.progress.Part.TheVariants.{Start, Body, Ended}
@@ -197,7 +195,7 @@ completed q =
     let acts = after_actions q.entries [] None q.actions in (
       ended p,
       run_body q.entries q.actions (line.End (length q.entries) (length q.actions) ∷ [])
-      ∙ ap (option_and_then (λ x. run x [])) (step_end p (length q.entries) (length q.actions) (after_part q.entries [] None q.actions) (sym (ap length es)) (sym (ap length acts))),
+          ∙ ap (option_and_then (λ x. run x [])) (step_end p (length q.entries) (length q.actions) (after_part q.entries [] None q.actions) (sym (ap length es)) (sym (ap length acts))),
       refl,
       λ i. record { entries = es i; actions = acts i },
     )

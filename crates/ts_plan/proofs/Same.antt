@@ -1,14 +1,13 @@
 -- A line is one line's.
-use Rattle.std.proofs.Common.{◌≡◌, ℕ, ◌+◌, ◌*◌, ◌^◌, ◌<◌, ◌==◌, if◌then◌else◌, List, [], ◌∷◌, ◌++◌, length, get_or, codes, decimal, refl, sym, ap, ap₂, ◌∙◌, subst, arith}
+use Rattle.std.proofs.Common.{◌≡◌, ℕ, ◌+◌, ◌*◌, ◌^◌, ◌<◌, ◌==◌, if◌then◌else◌, List, ◌∷◌, ◌++◌, length, get_or, decimal, refl, sym, ap, ap₂, ◌∙◌, arith}
 use Rattle.std.proofs.lemmas.Fmt.{decimal_injective}
-use Rattle.ts_name.specs.Paths.{Path, path_text}
-use Rattle.ts_model.specs.Texts.{reason_text, PathFits, KindFits}
+use Rattle.ts_name.specs.Paths.{path_text}
+use Rattle.ts_model.specs.Texts.{reason_text}
 use Rattle.ts_model.specs.declared.plan.Reason.{Reason}
 use Rattle.ts_model.specs.declared.plan.Reason.TheVariants as reason
-use Rattle.ts_model.specs.declared.plan.Entry.{Entry}
 use Rattle.ts_model.specs.declared.plan.Kind.TheVariants.{Piece, Commit, Mark}
 use Rattle.ts_laws.proofs.Words.{one_path}
-use Rattle.ts_plan.proofs.Words.{IsWord, cut_word, number_parts, short_word, reason_word, front, tail, front_word, line_split}
+use Rattle.ts_plan.proofs.Words.{cut_word, number_parts, reason_word, front, tail, front_word, line_split}
 use Rattle.ts_plan.specs.PlanLines.{line_text, LineFits}
 use Rattle.ts_plan.specs.declared.line.PlanLine.{PlanLine}
 use Rattle.ts_plan.specs.declared.line.PlanLine.TheVariants as line

@@ -1,5 +1,5 @@
 -- What goes out to a sink, one write after another.
-use Rattle.std.proofs.Common.{◌≡◌, ◌≢◌, ℕ, List, [], ◌∷◌, ◌++◌, Option, Result, Ok, Err, refl, sym, ap, ◌∙◌, subst, append_assoc, append-nil, arith, zero, suc, ◌+◌, ◌<◌, get_or, take, drop, flat_map, map, length, codes, decimal, take-append-drop}
+use Rattle.std.proofs.Common.{◌≡◌, ℕ, List, [], ◌∷◌, ◌++◌, Option, Result, Ok, Err, refl, sym, ap, ◌∙◌, subst, append_assoc, append-nil, arith, zero, suc, ◌+◌, ◌<◌, get_or, take, drop, flat_map, map, length, codes, decimal, take-append-drop}
 use Rattle.std.specs.Io.KnownBytes.{Appends}
 use Rattle.std.proofs.KnownBytes.{Appends-trans, Appends-nil}
 use Rattle.std.proofs.lemmas.List.{take_more}
@@ -8,10 +8,9 @@ use Rattle.ts_model.specs.Texts.{text, entry_line, kind_line, pred_line, action_
 use Rattle.ts_model.specs.declared.plan.Entry.{Entry}
 use Rattle.ts_model.specs.declared.plan.Action.{Action}
 use Rattle.ts_model.specs.declared.plan.Plan.{Plan}
-use Rattle.ts_text.specs.Sources.{AppendsFront}
 use Rattle.ts_text.proofs.Sinks.{front_longer, front_after}
 use Rattle.ts_plan.specs.Sends.{Sends, entry_chunk, pred_chunk, action_chunk}
-use Rattle.ts_plan.proofs.Texts.{text_append, text_cons}
+use Rattle.ts_plan.proofs.Texts.{text_append}
 use Rattle.ts_plan.specs.declared.fault.PlanFault.{PlanFault}
 use Rattle.ts_plan.specs.declared.fault.PlanFault.TheVariants.{OutOfMemory, Failed, NotCanonical, PastLimit}
 

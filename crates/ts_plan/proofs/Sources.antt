@@ -1,9 +1,8 @@
 -- What the decoder knows of a source's bytes.
-use Rattle.std.proofs.Common.{◌≡◌, ◌≢◌, ◌⊎◌, ℕ, List, [], ◌∷◌, ◌++◌, length, Option, Some, None, IfSome, Result, Ok, Err, refl, sym, ap, ◌∙◌, subst, inl, inr, append_assoc, append-nil}
-use Rattle.std.specs.List.{AllByRecursion}
+use Rattle.std.proofs.Common.{◌≡◌, ◌≢◌, ◌⊎◌, ℕ, List, [], ◌∷◌, ◌++◌, Option, Some, None, IfSome, Result, Ok, Err, refl, sym, ap, ◌∙◌, subst, inl, inr, append-nil}
 use Rattle.std.specs.Io.KnownBytes.{Keeps, Consumes, IsAtEnd}
 use Rattle.std.proofs.KnownBytes.{Consumes-trans, Consumes-kept, Consumes-nil}
-use Rattle.ts_model.specs.Texts.{Line, text, plan_lines, IsPlan, IsPlanText}
+use Rattle.ts_model.specs.Texts.{Line, text, plan_lines}
 use Rattle.ts_model.specs.declared.plan.Plan.{Plan}
 use Rattle.ts_text.specs.Lines.{Reading, IsLine, HasNoLine, Answers, GivesLine}
 use Rattle.ts_text.specs.declared.fault.TextFault.{TextFault}
@@ -11,7 +10,7 @@ use Rattle.ts_text.specs.declared.fault.TextFault.TheVariants as text_fault
 use Rattle.ts_text.specs.declared.state.State.TheVariants.{Going, Refused}
 use Rattle.ts_plan.specs.Progress.{Progress, fed}
 use Rattle.ts_plan.specs.Reading.{IsLarge, Begins, ReadsNext, Finishes}
-use Rattle.ts_plan.specs.Decoding.{fault_of_text, IsPastLimit, Decodes}
+use Rattle.ts_plan.specs.Decoding.{fault_of_text, Decodes}
 use Rattle.ts_plan.specs.declared.fault.PlanFault.{PlanFault}
 use Rattle.ts_plan.specs.declared.fault.PlanFault.TheVariants.{OutOfMemory, Failed, NotCanonical, PastLimit}
 use Rattle.ts_plan.proofs.Grammar.{large}
@@ -117,9 +116,12 @@ none_behind (Some rest) more end same bytes c consumed = sym same ∙ end
 
 -- the end of the source
 pub finished : (old now new : Reading) (p : Progress) (r : Result Plan PlanFault) → Given old now (fed p) → Keeps now.left new.left → IsAtEnd new.left → Finishes p r → Decodes old r new
-finished old now new p (Ok q) given kept end h = (h.0, if_known old.left (λ bytes known.
-    let consumed = Consumes-kept (Some bytes) now.left new.left (text (fed p)) (subst (λ z. Consumes z now.left (text (fed p))) known given.bytes) kept in
-    record { plan_fits = h.0; spelled = at_end new.left bytes (text (fed p)) consumed end ∙ ap text (sym h.1) }))
+finished old now new p (Ok q) given kept end h = (
+  h.0,
+  if_known old.left (λ bytes known.
+      let consumed = Consumes-kept (Some bytes) now.left new.left (text (fed p)) (subst (λ z. Consumes z now.left (text (fed p))) known given.bytes) kept in
+      record { plan_fits = h.0; spelled = at_end new.left bytes (text (fed p)) consumed end ∙ ap text (sym h.1) }),
+)
 finished old now new p (Err OutOfMemory) given kept end h = tt
 finished old now new p (Err Failed) given kept end h = absurd h
 finished old now new p (Err NotCanonical) given kept end h = if_known old.left (λ bytes known q is same.

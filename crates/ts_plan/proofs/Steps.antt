@@ -1,12 +1,12 @@
 -- Lines that lead past a limit.
 use Rattle.std.proofs.Common.{◌≡◌, ℕ, ◌+◌, ◌<◌, ◌≤◌, List, [], ◌∷◌, ◌++◌, length, Option, Some, None, option_to_list, is_some, true, false, ◌^◌, sum_by, refl, sym, ap, ap₂, ◌∙◌, subst, arith, length-append}
 use Rattle.std.proofs.lemmas.List.Sums.{sum_by-append}
-use Rattle.ts_model.specs.Plans.{WithinLimits, entry_limit, action_limit, pred_limit}
+use Rattle.ts_model.specs.Plans.{WithinLimits}
 use Rattle.ts_model.specs.declared.plan.Entry.{Entry}
 use Rattle.ts_model.specs.declared.plan.Kind.{Kind}
 use Rattle.ts_model.specs.declared.plan.Action.{Action}
 use Rattle.std.specs.List.{AllByRecursion}
-use Rattle.ts_model.specs.Texts.{KindFits, IsPlan}
+use Rattle.ts_model.specs.Texts.{KindFits}
 use Rattle.ts_laws.proofs.Words.{all_append, all_parts}
 use Rattle.ts_plan.specs.declared.text.OpenAction.{OpenAction}
 use Rattle.ts_plan.specs.Readers.{open_action}

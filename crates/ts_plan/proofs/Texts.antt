@@ -3,7 +3,7 @@ use Rattle.std.proofs.Common.{◌≡◌, ◌≢◌, ℕ, ◌+◌, ◌*◌, ◌^�
 use Rattle.std.specs.List.{AllByRecursion}
 use Rattle.std.proofs.lemmas.Fmt.{length-decimal-le}
 use Rattle.std.proofs.lemmas.List.{length-map}
-use Rattle.std.proofs.lemmas.List.Sums.{sum_by-cons, sum_by-append}
+use Rattle.std.proofs.lemmas.List.Sums.{sum_by-cons}
 use Rattle.ts_name.specs.Paths.{Name, Path, IsPath, is_escaped, upper_hex_digit, byte_text, name_text, path_text}
 use Rattle.std.proofs.Common.{Bool, true, false, if◌then◌else◌, ◌/◌, ◌%◌}
 use Rattle.ts_model.specs.Texts.{Line, text, reason_text, entry_line, pred_line, action_lines, plan_lines}
@@ -116,8 +116,16 @@ length_tail : (l : PlanLine) → LineFits l → length (tail l) ≤ 16000
 length_tail line.Header fits = omega arith
 length_tail (line.Entry e) fits = omega (arith, length-append (reason_text e.reason) (32 ∷ path_text e.path), length_reason e.reason, length_path e.path fits.0)
 length_tail (line.Action (Piece e offset size p)) fits =
-    omega (arith, length-append (decimal e) (32 ∷ (decimal offset ++ 32 ∷ (decimal size ++ 32 ∷ path_text p))), length-append (decimal offset) (32 ∷ (decimal size ++ 32 ∷ path_text p)), length-append (decimal size) (32 ∷ path_text p),
-    length_number e (wide e fits.0), length_number offset fits.1, length_number size fits.2, length_path p fits.3.0)
+    omega (
+      arith,
+      length-append (decimal e) (32 ∷ (decimal offset ++ 32 ∷ (decimal size ++ 32 ∷ path_text p))),
+      length-append (decimal offset) (32 ∷ (decimal size ++ 32 ∷ path_text p)),
+      length-append (decimal size) (32 ∷ path_text p),
+      length_number e (wide e fits.0),
+      length_number offset fits.1,
+      length_number size fits.2,
+      length_path p fits.3.0,
+    )
 length_tail (line.Action (Commit e)) fits = omega (arith, length_number e (wide e fits))
 length_tail (line.Action (Mark e)) fits = omega (arith, length_number e (wide e fits))
 length_tail (line.Pred j) fits = omega (arith, length_number j (wide j fits))
@@ -161,7 +169,7 @@ one_tail line.Header fits = clean_one (codes "1") (clean_from_test (codes "1") r
 one_tail (line.Entry e) fits = joined (reason_text e.reason) (path_text e.path) (one_reason e.reason) (one_path e.path fits.0)
 one_tail (line.Action (Piece e offset size p)) fits =
     joined (decimal e) (decimal offset ++ 32 ∷ (decimal size ++ 32 ∷ path_text p)) (one_number e (wide e fits.0))
-        (joined (decimal offset) (decimal size ++ 32 ∷ path_text p) (one_number offset fits.1) (joined (decimal size) (path_text p) (one_number size fits.2) (one_path p fits.3.0)))
+    (joined (decimal offset) (decimal size ++ 32 ∷ path_text p) (one_number offset fits.1) (joined (decimal size) (path_text p) (one_number size fits.2) (one_path p fits.3.0)))
 one_tail (line.Action (Commit e)) fits = one_number e (wide e fits)
 one_tail (line.Action (Mark e)) fits = one_number e (wide e fits)
 one_tail (line.Pred j) fits = one_number j (wide j fits)

@@ -1,7 +1,7 @@
 -- What one line does to a reader, and what its end tells.
-use Rattle.std.proofs.Common.{◌≡◌, ◌≢◌, ℕ, ◌+◌, ◌^◌, ◌<◌, ◌≤◌, ◌==◌, ◌&&◌, Bool, true, false, cond, List, [], ◌∷◌, ◌++◌, length, map, flat_map, codes, decimal, Option, Some, None, option_to_list, option_and_then, Result, Ok, Err, sum_by, refl, sym, ap, ap₂, ◌∙◌, subst, arith, append_assoc, append-nil, length-append, eqb-true}
+use Rattle.std.proofs.Common.{◌≡◌, ◌≢◌, ℕ, ◌^◌, ◌<◌, ◌==◌, ◌&&◌, Bool, true, false, cond, List, [], ◌∷◌, ◌++◌, length, map, flat_map, codes, decimal, Option, Some, None, option_to_list, option_and_then, Result, Ok, Err, refl, sym, ap, ◌∙◌, subst, arith, append_assoc, append-nil, length-append, eqb-true}
 use Rattle.std.specs.List.{AllByRecursion}
-use Rattle.std.proofs.lemmas.Bool.{false≢true, and_parts}
+use Rattle.std.proofs.lemmas.Bool.{and_parts}
 use Rattle.std.proofs.lemmas.List.{map-append}
 use Rattle.std.proofs.lemmas.List.Concat.{flat_map-append}
 use Rattle.std.proofs.lemmas.List.Sums.{sum_by-append}
@@ -13,8 +13,8 @@ use Rattle.ts_model.specs.declared.plan.Action.{Action}
 use Rattle.ts_model.specs.declared.plan.Plan.{Plan}
 use Rattle.ts_laws.proofs.Words.{all_append, all_parts}
 use Rattle.ts_plan.specs.PlanLines.{line_text, LineFits, ReadsLine}
-use Rattle.ts_plan.specs.Progress.{Progress, all_actions, plan_of, start, body_lines, fed_in, fed, step, step_in, step_body}
-use Rattle.ts_plan.specs.Reading.{IsLarge, IsProgress, Begins, Takes, ReadsNext, Finishes}
+use Rattle.ts_plan.specs.Progress.{Progress, all_actions, plan_of, start, body_lines, fed_in, fed, step, step_in}
+use Rattle.ts_plan.specs.Reading.{IsLarge, IsProgress, Begins, Takes, ReadsNext}
 use Rattle.ts_plan.specs.declared.fault.PlanFault.{PlanFault}
 use Rattle.ts_plan.specs.declared.fault.PlanFault.TheVariants.{OutOfMemory, Failed, NotCanonical, PastLimit}
 use Rattle.ts_plan.specs.declared.progress.Part.{Part}
@@ -51,8 +51,8 @@ pred_read es acts a j =
     let one : action_lines longer ++ [] ≡ (action_lines a ++ []) ++ pred_line j ∷ [] =
     append-nil (action_lines longer) ∙ ap (λ z. kind_line a.kind ∷ z) (map-append pred_line a.preds (j ∷ [])) ∙ ap (λ z. z ++ pred_line j ∷ []) (sym (append-nil (action_lines a))) in
     ap (λ z. codes "twosync-plan 1" ∷ z)
-        (ap (λ z. map entry_line es ++ z) (flat_map-append action_lines acts (longer ∷ []) ∙ ap (λ z. flat_map action_lines acts ++ z) one ∙ sym (append_assoc (flat_map action_lines acts) (action_lines a ++ []) (pred_line j ∷ [])) ∙ ap (λ z. z ++ pred_line j ∷ []) (sym (flat_map-append action_lines acts (a ∷ []))))
-        ∙ sym (append_assoc (map entry_line es) (flat_map action_lines (acts ++ a ∷ [])) (pred_line j ∷ [])))
+    (ap (λ z. map entry_line es ++ z) (flat_map-append action_lines acts (longer ∷ []) ∙ ap (λ z. flat_map action_lines acts ++ z) one ∙ sym (append_assoc (flat_map action_lines acts) (action_lines a ++ []) (pred_line j ∷ [])) ∙ ap (λ z. z ++ pred_line j ∷ []) (sym (flat_map-append action_lines acts (a ∷ []))))
+    ∙ sym (append_assoc (map entry_line es) (flat_map action_lines (acts ++ a ∷ [])) (pred_line j ∷ [])))
 
 counted : (m n k l : ℕ) (f q : Progress) → cond ((m == k) && (n == l)) (Some f) None ≡ Some q → (m ≡ k) × (n ≡ l) × (f ≡ q)
 counted m n k l f q = go ((m == k) && (n == l)) refl
@@ -197,11 +197,11 @@ line_taken p one l (Err PastLimit) new is fits same h =
     let read = read_in p.part p.entries p.actions p.last l next is.first is.none h.1.1 ∙ ap (λ z. fed p ++ z ∷ []) (sym same) in (
       h.0,
       λ q is_q begins.
-      let found = next_line p one q is (large q is_q) begins in
-      let done = completed q in
-      let same_line = one_line l found.0 fits found.2 (sym same ∙ found.3) in
-      let led_to : run next found.1 ≡ Some done.0 = ap (option_and_then (λ x. run x found.1)) (sym h.1.1 ∙ ap (step p) same_line) ∙ sym found.4 ∙ done.1 in
-      h.1.2 (run_within next found.1 done.0 led_to (subst (λ z. WithinLimits z) (sym done.3) is_q.limits)),
+          let found = next_line p one q is (large q is_q) begins in
+          let done = completed q in
+          let same_line = one_line l found.0 fits found.2 (sym same ∙ found.3) in
+          let led_to : run next found.1 ≡ Some done.0 = ap (option_and_then (λ x. run x found.1)) (sym h.1.1 ∙ ap (step p) same_line) ∙ sym found.4 ∙ done.1 in
+          h.1.2 (run_within next found.1 done.0 led_to (subst (λ z. WithinLimits z) (sym done.3) is_q.limits)),
       (plan_of next, large_in p.part p.entries p.actions p.last l next h.1.1 fits is.plan, subst (λ z. Begins (plan_of next) z) read (begins_in next.part next.entries (all_actions next))),
     )
 

@@ -1,5 +1,5 @@
 -- What decoding a plan tells of the bytes that a line reader has left.
-use Rattle.std.specs.Prelude.{◌≡◌, ◌≢◌, ◌⊎◌, ℕ, List, ◌++◌, Option, IfSome, Result, Ok, Err}
+use Rattle.std.specs.Prelude.{◌≡◌, ◌≢◌, ◌⊎◌, ℕ, List, ◌++◌, IfSome, Result, Ok, Err}
 use Rattle.ts_model.specs.Texts.{Line, text, plan_lines, IsPlan, IsPlanText}
 use Rattle.ts_model.specs.declared.plan.Plan.{Plan}
 use Rattle.ts_text.specs.Lines.{Reading}

@@ -1,5 +1,5 @@
 -- What a reader of plans does with a line, and what it keeps.
-use Rattle.std.specs.Prelude.{◌≡◌, ◌≢◌, ℕ, ◌^◌, ◌<◌, List, [], ◌∷◌, ◌++◌, length, Option, Some, None, Result, Ok, Err}
+use Rattle.std.specs.Prelude.{◌≡◌, ◌≢◌, ◌^◌, ◌<◌, List, [], ◌∷◌, ◌++◌, length, Some, None, Result, Ok, Err}
 use Rattle.std.specs.List.{AllByRecursion}
 use Rattle.ts_model.specs.Plans.{WithinLimits}
 use Rattle.ts_model.specs.Texts.{Line, plan_lines, PathFits, KindFits, IsPlan}

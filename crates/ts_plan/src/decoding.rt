@@ -1,12 +1,11 @@
 //! Reading a plan's text to its end.
 ghost use Rattle.ts_plan.specs.Decoding.{Decodes};
 
+use crate::fault::PlanFault;
+use crate::text::PlanReader;
 use std::alloc::Global;
 use ts_model::plan::Plan;
 use ts_text::{Lines, Source};
-
-use crate::fault::PlanFault;
-use crate::text::PlanReader;
 
 /// The plan whose text is all that the lines' source has left.
 ///

@@ -3,11 +3,10 @@ ghost use Rattle.std.specs.Prelude.{◌≡◌, ◌∷◌, [], ◌++◌, ◌^◌,
 ghost use Rattle.ts_model.specs.Texts.{text, reason_text, entry_line, kind_line, pred_line, action_lines, plan_lines, IsPlan};
 ghost use Rattle.ts_plan.specs.Sends.{Sends, entry_chunk, pred_chunk, action_chunk};
 
+use crate::fault::PlanFault;
 use std::alloc::{AllocError, Global};
 use ts_model::plan::{Action, Entry, Kind, Plan, Reason};
 use ts_text::{Sink, push_decimal, push_word, write_line};
-
-use crate::fault::PlanFault;
 
 /// The word of a reason.
 fn reason_word(reason: Reason) -> &'static [u8]
@@ -96,11 +95,7 @@ fn send<W: Sink>(sink: &mut W, line: &[u8]) -> Result<(), PlanFault>
     }
 }
 
-fn send_entry<W: Sink>(
-    sink: &mut W,
-    line: &mut Vec<u8>,
-    entry: &Entry,
-) -> Result<(), PlanFault>
+fn send_entry<W: Sink>(sink: &mut W, line: &mut Vec<u8>, entry: &Entry) -> Result<(), PlanFault>
     ensures { Sends (W.holds sink.old) (W.holds sink.new) (W.failures sink.old) (W.failures sink.new) (entry_chunk entry.now) result }
 {
     if fill_entry(line, entry).is_err() {
@@ -156,11 +151,7 @@ fn send_entries<W: Sink>(
     Ok(())
 }
 
-fn send_preds<W: Sink>(
-    sink: &mut W,
-    line: &mut Vec<u8>,
-    preds: &[u32],
-) -> Result<(), PlanFault>
+fn send_preds<W: Sink>(sink: &mut W, line: &mut Vec<u8>, preds: &[u32]) -> Result<(), PlanFault>
     ensures { Sends (W.holds sink.old) (W.holds sink.new) (W.failures sink.old) (W.failures sink.new) (flat_map pred_chunk preds.now) result }
 {
     for number in preds {
@@ -171,11 +162,7 @@ fn send_preds<W: Sink>(
     Ok(())
 }
 
-fn send_action<W: Sink>(
-    sink: &mut W,
-    line: &mut Vec<u8>,
-    action: &Action,
-) -> Result<(), PlanFault>
+fn send_action<W: Sink>(sink: &mut W, line: &mut Vec<u8>, action: &Action) -> Result<(), PlanFault>
     ensures { Sends (W.holds sink.old) (W.holds sink.new) (W.failures sink.old) (W.failures sink.new) (action_chunk action.now) result }
 {
     if let Err(fault) = send_kind(sink, line, &action.kind) {

@@ -5,12 +5,11 @@ ghost use Rattle.ts_model.specs.Texts.{reason_text};
 ghost use Rattle.ts_model.specs.declared.plan.Reason.{Reason};
 ghost use Rattle.ts_plan.specs.PathFields.{ReadsPath};
 
+use crate::fault::PlanFault;
 use std::alloc::Global;
 use ts_model::plan::Reason;
 use ts_name::{Path, PathFault};
 use ts_text::{field_dec, split_word};
-
-use crate::fault::PlanFault;
 
 /// What stands before the first space, and what stands behind it.
 pub(crate) fn cut(fields: &[u8]) -> Option<(&[u8], &[u8])>

@@ -1,12 +1,11 @@
 //! One line of a plan's text.
 ghost use Rattle.std.specs.Prelude.{◌≡◌, ◌∷◌, ◌++◌, codes};
 
+use crate::fault::PlanFault;
+use crate::field::{cut, number_then, path_field, reason_field, short_number};
 use std::alloc::Global;
 use ts_model::plan::{Entry, Kind};
 use ts_text::field_dec;
-
-use crate::fault::PlanFault;
-use crate::field::{cut, number_then, path_field, reason_field, short_number};
 
 /// What one line of a plan says.
 #[derive(Drop)]

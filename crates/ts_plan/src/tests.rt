@@ -1,7 +1,6 @@
+use crate::{PlanFault, PlanReader, decode, encode};
 use std::alloc::Global;
 use std::test::Fail;
-
-use crate::{PlanFault, PlanReader, decode, encode};
 use ts_model::plan::Kind;
 use ts_text::{Counted, Lines};
 
@@ -28,7 +27,10 @@ fn reads_and_writes_plans(rt: HostRuntime) -> Result<(), Fail> {
         let again = round(rt.alloc(), text)?;
         assert!(rt; again.is_ok(), "{text:?}");
         let again = again?;
-        assert!(rt; again.as_slice() == text, "{text:?} comes back as {again:?}");
+        assert!(rt;
+            again.as_slice() == text,
+            "{text:?} comes back as {again:?}"
+        );
     }
     Ok(())
 }
@@ -91,7 +93,17 @@ fn keeps_what_a_piece_says(rt: HostRuntime) -> Result<(), Fail> {
     let plan = decode(rt.alloc(), &mut lines)?;
     let actions = plan.actions.as_slice();
     assert_eq!(rt; actions.len(), 1);
-    assert!(rt; matches!(actions[0].kind, Kind::Piece { entry: 1, offset: 2, length: 3, .. }));
+    assert!(rt;
+        matches!(
+            actions[0].kind,
+            Kind::Piece {
+                entry: 1,
+                offset: 2,
+                length: 3,
+                ..
+            }
+        )
+    );
     Ok(())
 }
 

@@ -7,14 +7,13 @@ ghost use Rattle.ts_plan.specs.Reading.{Takes, ReadsNext, Finishes};
 ghost use Rattle.ts_plan.specs.declared.progress.Part.TheVariants as part;
 ghost use Rattle.ts_plan.specs.declared.line.PlanLine.TheVariants as line;
 
+use crate::fault::PlanFault;
+use crate::line::PlanLine;
+use crate::progress::Part;
 use std::alloc::Global;
 use std::marker::Model;
 use ts_model::items::Items;
 use ts_model::plan::{Action, Entry, Kind, Plan};
-
-use crate::fault::PlanFault;
-use crate::line::PlanLine;
-use crate::progress::Part;
 
 /// How many entries a plan may have.
 const MOST_ENTRIES: usize = 1_048_576;

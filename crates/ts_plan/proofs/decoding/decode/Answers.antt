@@ -1,9 +1,8 @@
-use Rattle.std.proofs.Common.{◌≡◌, ◌∷◌, [], ◌++◌, length, Ok, Err, refl, sym, ap, ◌∙◌, subst, arith, length-append}
+use Rattle.std.proofs.Common.{◌∷◌, [], ◌++◌, Ok, Err, sym, ap, ◌∙◌, subst}
 use Rattle.ts_text.specs.Lines.{Answers}
 use Rattle.ts_plan.specs.Progress.{fed}
-use Rattle.ts_plan.specs.Decoding.{Decodes, fault_of_text}
-use Rattle.ts_plan.specs.Reading.{ReadsNext}
-use Rattle.ts_plan.proofs.Sources.{Given, given_more, finished, text_refused, line_refused}
+use Rattle.ts_plan.specs.Decoding.{Decodes}
+use Rattle.ts_plan.proofs.Sources.{given_more, finished, text_refused, line_refused}
 use Rattle.ts_plan.proofs.decoding.decode.Goals as goal
 
 pub returns-in-Ok-false : goal.returns-in-Ok-false
@@ -16,7 +15,7 @@ pub returns-in-Err : goal.returns-in-Err
 returns-in-Err g c =
     let loop = c.loop-reader in
     subst (λ f. Decodes c.args.lines.now (Err f) c.advance.new.self) (sym c.from.ensures)
-        (text_refused c.args.lines.now loop.lines c.advance.new.self (fed loop.reader) c.in-Err.fault loop.invariant c.in-Err.ensures.answers)
+    (text_refused c.args.lines.now loop.lines c.advance.new.self (fed loop.reader) c.in-Err.fault loop.invariant c.in-Err.ensures.answers)
 
 pub returns-in-Err-taken : goal.returns-in-Err-taken
 returns-in-Err-taken g c =

@@ -1,5 +1,4 @@
-use Rattle.std.proofs.Common.{List, ℕ, ◌∷◌, [], ◌++◌, length, flat_map, codes, decimal, Err, refl, sym, subst}
-use Rattle.ts_model.specs.Texts.{text, plan_lines}
+use Rattle.std.proofs.Common.{◌∷◌, [], ◌++◌, length, flat_map, codes, decimal, Err, refl, subst}
 use Rattle.ts_plan.specs.Sends.{Sends, entry_chunk, action_chunk}
 use Rattle.ts_plan.proofs.Sinks.{sent_after, sent_short, plan_parts}
 use Rattle.ts_plan.proofs.encoding.encode.Goals as goal
@@ -16,7 +15,7 @@ returns-in-Err g c =
     let f1 = g.W.Sink.failures c.send.new.sink in
     let whole = plan_parts q es acts (length es) (length acts) c.as_slice-entries.ensures c.as_slice-actions.ensures refl refl in
     subst (λ z. Sends {A = Unit {0}} h0 h1 f0 f1 z (Err c.in-Err.fault)) whole
-        (sent_short h0 h1 f0 f1 (codes "twosync-plan 1" ++ 10 ∷ []) (flat_map entry_chunk es ++ (flat_map action_chunk acts ++ end)) c.in-Err.fault c.in-Err.ensures)
+    (sent_short h0 h1 f0 f1 (codes "twosync-plan 1" ++ 10 ∷ []) (flat_map entry_chunk es ++ (flat_map action_chunk acts ++ end)) c.in-Err.fault c.in-Err.ensures)
 
 pub returns-in-Err-send_entries : goal.returns-in-Err-send_entries
 returns-in-Err-send_entries g c =
@@ -33,7 +32,7 @@ returns-in-Err-send_entries g c =
     let whole = plan_parts q es acts (length es) (length acts) c.as_slice-entries.ensures c.as_slice-actions.ensures refl refl in
     let failed = sent_short h1 h2 f1 f2 (flat_map entry_chunk es) ((flat_map action_chunk acts) ++ end) c.in-Err-send_entries.fault c.in-Err-send_entries.ensures in
     subst (λ z. Sends {A = Unit {0}} h0 h2 f0 f2 z (Err c.in-Err-send_entries.fault)) whole
-        (sent_after h0 h1 h2 f0 f1 f2 (codes "twosync-plan 1" ++ 10 ∷ []) ((flat_map entry_chunk es) ++ ((flat_map action_chunk acts) ++ end)) (Err c.in-Err-send_entries.fault) c.in_default.ensures.0 c.in_default.ensures.1 failed)
+    (sent_after h0 h1 h2 f0 f1 f2 (codes "twosync-plan 1" ++ 10 ∷ []) ((flat_map entry_chunk es) ++ ((flat_map action_chunk acts) ++ end)) (Err c.in-Err-send_entries.fault) c.in_default.ensures.0 c.in_default.ensures.1 failed)
 
 pub returns-in-Err-send_actions : goal.returns-in-Err-send_actions
 returns-in-Err-send_actions g c =
@@ -54,7 +53,7 @@ returns-in-Err-send_actions g c =
     let failed = sent_short h2 h3 f2 f3 (flat_map action_chunk acts) end fault c.in-Err-send_actions.ensures in
     let entries = sent_after h1 h2 h3 f1 f2 f3 (flat_map entry_chunk es) ((flat_map action_chunk acts) ++ end) (Err fault) c.in_default-send_entries.ensures.0 c.in_default-send_entries.ensures.1 failed in
     subst (λ z. Sends {A = Unit {0}} h0 h3 f0 f3 z (Err fault)) whole
-        (sent_after h0 h1 h3 f0 f1 f3 (codes "twosync-plan 1" ++ 10 ∷ []) ((flat_map entry_chunk es) ++ ((flat_map action_chunk acts) ++ end)) (Err fault) c.in_default.ensures.0 c.in_default.ensures.1 entries)
+    (sent_after h0 h1 h3 f0 f1 f3 (codes "twosync-plan 1" ++ 10 ∷ []) ((flat_map entry_chunk es) ++ ((flat_map action_chunk acts) ++ end)) (Err fault) c.in_default.ensures.0 c.in_default.ensures.1 entries)
 
 pub returns : goal.returns
 returns g c =
@@ -77,4 +76,4 @@ returns g c =
     let actions = sent_after h2 h3 h4 f2 f3 f4 (flat_map action_chunk acts) end r c.in_default-send_actions.ensures.0 c.in_default-send_actions.ensures.1 c.send_end.ensures in
     let entries = sent_after h1 h2 h4 f1 f2 f4 (flat_map entry_chunk es) ((flat_map action_chunk acts) ++ end) r c.in_default-send_entries.ensures.0 c.in_default-send_entries.ensures.1 actions in
     subst (λ z. Sends {A = Unit {0}} h0 h4 f0 f4 z r) whole
-        (sent_after h0 h1 h4 f0 f1 f4 (codes "twosync-plan 1" ++ 10 ∷ []) ((flat_map entry_chunk es) ++ ((flat_map action_chunk acts) ++ end)) r c.in_default.ensures.0 c.in_default.ensures.1 entries)
+    (sent_after h0 h1 h4 f0 f1 f4 (codes "twosync-plan 1" ++ 10 ∷ []) ((flat_map entry_chunk es) ++ ((flat_map action_chunk acts) ++ end)) r c.in_default.ensures.0 c.in_default.ensures.1 entries)

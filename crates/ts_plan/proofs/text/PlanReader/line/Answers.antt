@@ -1,5 +1,4 @@
-use Rattle.std.proofs.Common.{◌≤◌, length, subst}
-use Rattle.ts_plan.specs.Progress.{fed}
+use Rattle.std.proofs.Common.{subst}
 use Rattle.ts_plan.specs.Reading.{IsProgress}
 use Rattle.ts_plan.proofs.Texts.{fed_short}
 use Rattle.ts_plan.proofs.Turns.{line_refused, line_taken}

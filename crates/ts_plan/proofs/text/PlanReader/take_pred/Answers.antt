@@ -1,4 +1,4 @@
-use Rattle.std.proofs.Common.{◌≡◌, ◌≤◌, not, Some, length, sum_by, refl, sym, ap, ◌∙◌, arith}
+use Rattle.std.proofs.Common.{◌≤◌, not, length, sum_by, refl, sym, ap, ◌∙◌, arith}
 use Rattle.ts_model.specs.declared.plan.Action.{Action}
 use Rattle.ts_plan.specs.Progress.{all_actions}
 use Rattle.ts_plan.specs.Readers.{open_action, progress}
@@ -18,4 +18,4 @@ invariant_of-self-in-Some c =
     let last = ap open_action (sym c.take.ensures.value ∙ c.in-Some.is) in
     let body = ap (λ v. v.part) c.self.view_is ∙ c.requires.body in
     pred_progress (progress c.self.inside) (record { kind = taken.kind; preds = taken.preds.items }) c.push-pushed.new.self.items c.args.number c.self.inside.pred_count
-        c.self.invariant.0 body last c.in_ok-pushed-in-Some.ensures.items (omega arith) c.self.invariant.1 (omega (arith, c.if-self-ge-MOST_PREDS.false))
+    c.self.invariant.0 body last c.in_ok-pushed-in-Some.ensures.items (omega arith) c.self.invariant.1 (omega (arith, c.if-self-ge-MOST_PREDS.false))

@@ -1,0 +1,9 @@
+pub mod Scans
+pub mod Waits
+pub mod Nearests
+pub mod Links
+pub mod Rowed
+pub mod Staging
+pub mod Placing
+pub mod Complete
+pub mod Verdicts

@@ -1,0 +1,178 @@
+-- The places of pieces in a map, and the first piece that stands again.
+use Rattle.std.proofs.Common.{◌≡◌, ◌≢◌, ◌⊎◌, ℕ, ◌+◌, ◌<◌, ◌≤◌, Bool, true, false, List, length, Option, Some, None, is_some, slice_get, Ordering, Less, Equal, Greater, sym, refl, ap, ◌∙◌, subst, inl, inr, arith}
+use Rattle.std.specs.Ordering.{is_eq, nat_cmp, ordering_then}
+use Rattle.std.specs.BTreeMap.{BTreeMap, get, Updates, IsEmpty, get_by}
+use Rattle.std.proofs.lemmas.Bool.{cases_eq, false≢true}
+use Rattle.std.proofs.lemmas.Map.Lookups.{exact_pairs, exact_unsigned}
+use Rattle.std.proofs.lemmas.Option.{none-some, same_Some, slice_get_within}
+use Rattle.ts_name.specs.Paths.{Path, IsAbove}
+use Rattle.ts_model.specs.Trees.{Listing, IsListing}
+use Rattle.ts_model.specs.Plans.{ActionIs, KindIs}
+use Rattle.ts_model.specs.declared.row.Row.{Row}
+use Rattle.ts_model.specs.declared.row.Stamp.{Stamp}
+use Rattle.ts_model.specs.declared.plan.Action.{Action}
+use Rattle.ts_model.specs.declared.plan.Kind.{Kind}
+use Rattle.ts_model.specs.declared.plan.Kind.TheVariants.{Piece}
+use Rattle.ts_model.specs.declared.plan.Plan.{Plan}
+use Rattle.ts_check.proofs.Scans.{same_kind}
+use Rattle.ts_check.proofs.Rowed.{file_row, one_row}
+use Rattle.ts_check.proofs.Staging.{IsPieceOf-from, one_source, source_lists, same_piece}
+use Rattle.ts_check.specs.Pieces.{on_side, IsSourceOf, IsPieceIn, IsRowOf, IsUnlawful, IsAgain, NotEachOnce, IsPlaceOf, IsStagedMap, Place, place_cmp}
+
+-- places that compare equal are equal
+place_eq : (x y : Place) → place_cmp x y ≡ Equal → x ≡ y
+place_eq x y e = exact_pairs nat_cmp (λ (a b : ℕ × ℕ). ordering_then (nat_cmp a.0 b.0) (nat_cmp a.1 b.1)) exact_unsigned (exact_pairs nat_cmp nat_cmp exact_unsigned exact_unsigned) x y e
+
+is_eq_Equal : (o : Ordering) → is_eq o ≡ true → o ≡ Equal
+is_eq_Equal Less e = cc
+is_eq_Equal Equal e = refl
+is_eq_Equal Greater e = cc
+
+-- what a map has at a place after another was put in
+after_put : (m n : BTreeMap Place ℕ) (z : Place) (i : ℕ) → Updates place_cmp m n z (Some i) → (q : Place) → ((q ≡ z) × (get place_cmp n q ≡ Some i)) ⊎ (get place_cmp n q ≡ get place_cmp m q)
+after_put m n z i puts q = go (is_eq (place_cmp z q)) refl
+  where
+    go : (b : Bool) → is_eq (place_cmp z q) ≡ b → ((q ≡ z) × (get place_cmp n q ≡ Some i)) ⊎ (get place_cmp n q ≡ get place_cmp m q)
+    go true e = (let same = place_eq z q (is_eq_Equal (place_cmp z q) e) in inl (sym same, subst (λ y. get place_cmp n y ≡ Some i) same puts.1))
+    go false e = inr (puts.2 q e)
+
+-- the map after n actions, none of which stands again
+pub record IsPlaced (xs ys : Listing Stamp) (plan : Plan) (n : ℕ) (map : BTreeMap Place ℕ) : Type 0 where
+  pub map_is : IsStagedMap xs ys plan n map
+  pub fresh : (k : ℕ) → k < n → ¬ IsAgain plan k
+
+module _ (xs ys : Listing Stamp) (first : IsListing xs) (second : IsListing ys) (plan : Plan) where
+  -- a piece has one place
+  one_place : (kind : Kind) (x y : Place) → IsPlaceOf xs ys plan kind x → IsPlaceOf xs ys plan kind y → x ≡ y
+  one_place kind x y a b =
+      let same = same_piece x.0 x.1.1 a.0 y.0 y.1.1 b.0 a.1 b.1 (sym a.3 ∙ b.3) in
+      let rows : a.2 ≡ b.2 = one_source xs ys plan y.0 a.2 b.2 (subst (λ z. IsSourceOf xs ys plan z a.2) same.0 a.4) b.4 in
+      let lists = source_lists xs ys plan y.0 b.2 b.4 first second in
+      let row : x.1.0 ≡ y.1.0 = one_row b.2 lists.ascending x.1.0 y.1.0 b.1 (subst (λ z. IsRowOf z x.1.0 b.1) rows (subst (λ z. IsRowOf a.2 x.1.0 z) same.3 a.5)) b.5 in
+      λ i. (same.0 i, (row i, same.1 i))
+
+  -- pieces in one place are of one entry, path and offset
+  same_path_there : (x y : Kind) (z : Place) (a : IsPlaceOf xs ys plan x z) (b : IsPlaceOf xs ys plan y z) → a.1 ≡ b.1
+  same_path_there x y z a b =
+      let rows : a.2 ≡ b.2 = one_source xs ys plan z.0 a.2 b.2 a.4 b.4 in
+      let row : a.5.0 ≡ b.5.0 = same_Some a.5.0 b.5.0 (sym a.5.1 ∙ ap (λ (w : Listing Stamp). slice_get w z.1.0) rows ∙ b.5.1) in
+      sym a.5.2 ∙ ap (λ (w : Row Stamp). w.path) row ∙ b.5.2
+
+  -- a piece like one that has a place has the same
+  place_like : (x : Kind) (z : Place) (len : ℕ) (a : IsPlaceOf xs ys plan x z) → IsPlaceOf xs ys plan (Piece z.0 z.1.1 len a.1) z
+  place_like x z len a = (len, a.1, a.2, refl, a.4, a.5)
+
+  -- a lawful piece has a place
+  has_place : (e offset len : ℕ) (p : Path) → IsPieceIn xs ys plan e offset len p → (z : Place) × IsPlaceOf xs ys plan (Piece e offset len p) z
+  has_place e offset len p piece =
+      let rows = on_side xs ys piece.1 in
+      let src : IsSourceOf xs ys plan e rows = (piece.0, piece.1, piece.3, refl) in
+      let h = IsPieceOf-from xs ys plan rows e offset len p src piece in
+      let found = file_row rows p h.stamp h.file in
+      ((e, (found.0, offset)), (len, p, rows, refl, src, found.1))
+
+  pub IsPlaced-none : (map : BTreeMap Place ℕ) → IsEmpty map → IsPlaced xs ys plan 0 map
+  IsPlaced-none map empty = record {
+    map_is = record { found = λ z i e. absurd (none-some i (rw empty at e)); complete = λ z i kind less. absurd (omega arith) };
+    fresh = λ k less. absurd (omega arith);
+  }
+
+  -- an action without a place changes nothing
+  pub IsPlaced-skip : (n : ℕ) (map : BTreeMap Place ℕ) (action : Action) → ((k : ℕ) → ¬ IsUnlawful xs ys plan k) → ActionIs plan n action → ((z : Place) → ¬ IsPlaceOf xs ys plan action.kind z) → IsPlaced xs ys plan n map → IsPlaced xs ys plan (n + 1) map
+  IsPlaced-skip n map action right is none placed = record {
+    map_is = record {
+      found = λ z i e. let h = placed.map_is.found z i e in (omega (arith, h.0), h.1);
+      complete = λ z i kind less at of. elim (cases_eq i n) [
+        | inl same ↦ absurd (none z (subst (λ k. IsPlaceOf xs ys plan k z) (sym (same_kind plan n action kind is (subst (λ k. KindIs plan k kind) same at))) of))
+        | inr differ ↦ placed.map_is.complete z i kind (omega arith) at of
+      ];
+    };
+    fresh = λ k less again. elim (cases_eq k n) [
+      | inl same ↦ here (subst (λ z. IsAgain plan z) same again)
+      | inr differ ↦ placed.fresh k (omega arith) again
+    ];
+  }
+    where
+      here : ¬ IsAgain plan n
+      here again = right n (again.0, again.1, again.2, again.3, again.4, λ piece.
+          let found = has_place again.0 again.1 again.2 again.3 piece in
+          none found.0 (subst (λ k. IsPlaceOf xs ys plan k found.0) (sym (same_kind plan n action (Piece again.0 again.1 again.2 again.3) is again.4)) found.1))
+
+  -- a piece whose place was free is put in
+  pub IsPlaced-put : (n : ℕ) (m map : BTreeMap Place ℕ) (z : Place) (action : Action) → ActionIs plan n action → IsPlaceOf xs ys plan action.kind z → get place_cmp m z ≡ None → Updates place_cmp m map z (Some n) → IsPlaced xs ys plan n m → IsPlaced xs ys plan (n + 1) map
+  IsPlaced-put n m map z action is of free puts placed = record {
+    map_is = record { found = found; complete = complete };
+    fresh = λ k less again. elim (cases_eq k n) [
+      | inl same ↦ here (subst (λ w. IsAgain plan w) same again)
+      | inr differ ↦ placed.fresh k (omega arith) again
+    ];
+  }
+    where
+      found : (q : Place) (i : ℕ) → get place_cmp map q ≡ Some i → (i < n + 1) × ((kind : Kind) × KindIs plan i kind × IsPlaceOf xs ys plan kind q)
+      found q i e = elim (after_put m map z n puts q) [
+        | inl put ↦ (
+            let now : i ≡ n = same_Some i n (sym e ∙ put.1) in
+            (omega arith, subst (λ k. (kind : Kind) × KindIs plan k kind × IsPlaceOf xs ys plan kind q) (sym now) (action.kind, (action, is, refl), subst (λ w. IsPlaceOf xs ys plan action.kind w) (sym put.0) of)))
+        | inr kept ↦ (let h = placed.map_is.found q i (sym kept ∙ e) in (omega (arith, h.0), h.1))
+      ]
+
+      complete : (q : Place) (i : ℕ) (kind : Kind) → i < n + 1 → KindIs plan i kind → IsPlaceOf xs ys plan kind q → (j : ℕ) × (get place_cmp map q ≡ Some j)
+      complete q i kind less at of_q = elim (after_put m map z n puts q) [
+        | inl put ↦ (n, put.1)
+        | inr kept ↦ elim (cases_eq i n) [
+          | inl same ↦ (
+              let kinds = same_kind plan n action kind is (subst (λ k. KindIs plan k kind) same at) in
+              let one : q ≡ z = one_place action.kind q z (subst (λ k. IsPlaceOf xs ys plan k q) (sym kinds) of_q) of in
+              (n, subst (λ w. get place_cmp map w ≡ Some n) (sym one) puts.1))
+          | inr differ ↦ (let h = placed.map_is.complete q i kind (omega arith) at of_q in (h.0, kept ∙ h.1))
+        ]
+      ]
+
+      here : ¬ IsAgain plan n
+      here again =
+          let kinds : action.kind ≡ Piece again.0 again.1 again.2 again.3 = same_kind plan n action (Piece again.0 again.1 again.2 again.3) is again.4 in
+          let same = same_piece z.0 z.1.1 of.0 again.0 again.1 again.2 of.1 again.3 (sym of.3 ∙ kinds) in
+          let earlier : again.5.1 ≡ Piece z.0 z.1.1 again.5.4.0 of.1 = again.5.4.1 ∙ ap (λ w. Piece w again.1 again.5.4.0 again.3) (sym same.0) ∙ ap (λ w. Piece z.0 w again.5.4.0 again.3) (sym same.1) ∙ ap (λ w. Piece z.0 z.1.1 again.5.4.0 w) (sym same.3) in
+          let h = placed.map_is.complete z again.5.0 again.5.1 again.5.2 again.5.3 (subst (λ k. IsPlaceOf xs ys plan k z) (sym earlier) (place_like action.kind z again.5.4.0 of)) in
+          none-some h.0 (sym free ∙ h.1)
+
+  -- a piece whose place was taken stands again, and is the first
+  pub stands_again : (n j : ℕ) (m : BTreeMap Place ℕ) (z : Place) (action : Action) → ActionIs plan n action → IsPlaceOf xs ys plan action.kind z → get place_cmp m z ≡ Some j → IsPlaced xs ys plan n m
+      → NotEachOnce xs ys plan n × ((k : ℕ) → k < n → ¬ NotEachOnce xs ys plan k)
+  stands_again n j m z action is of taken placed =
+      let h = placed.map_is.found z j taken in
+      let path = same_path_there h.1.0 action.kind z h.1.2 of in
+      (
+        inl (z.0, z.1.1, of.0, of.1, (action, is, of.3), (j, h.1.0, h.0, h.1.1, (h.1.2.0, h.1.2.3 ∙ ap (λ w. Piece z.0 z.1.1 h.1.2.0 w) path))),
+        λ k less wrong. elim wrong [
+          | inl again ↦ placed.fresh k less again
+          | inr lacks ↦ (let e = lacks.1 in let within = slice_get_within plan.actions n action is in omega arith)
+        ],
+      )
+
+  -- where the path of a piece has no row in its source, it has no place
+  pub no_place : (kind : Kind) (e offset len : ℕ) (p : Path) (rows : Listing Stamp) → kind ≡ Piece e offset len p → IsSourceOf xs ys plan e rows → ((k : ℕ) → ¬ IsRowOf rows k p) → (z : Place) → ¬ IsPlaceOf xs ys plan kind z
+  no_place kind e offset len p rows is src none z of =
+      let same = same_piece z.0 z.1.1 of.0 e offset len of.1 p (sym of.3 ∙ is) in
+      let one : of.2 ≡ rows = one_source xs ys plan e of.2 rows (subst (λ w. IsSourceOf xs ys plan w of.2) same.0 of.4) src in
+      none z.1.0 (subst (λ w. IsRowOf w z.1.0 p) one (subst (λ w. IsRowOf of.2 z.1.0 w) same.3 of.5))
+
+-- an option that has a value
+pub some_of : (o : Option ℕ) → is_some o ≡ true → (j : ℕ) × (o ≡ Some j)
+some_of None e = absurd (false≢true e)
+some_of (Some j) e = (j, refl)
+
+-- and one that has none
+pub none_of : (o : Option ℕ) → is_some o ≡ false → o ≡ None
+none_of None e = refl
+none_of (Some j) e = absurd (false≢true (sym e))
+
+-- after all actions
+pub finish_placing : (xs ys : Listing Stamp) (plan : Plan) (n : ℕ) (map : BTreeMap Place ℕ) → length plan.actions ≤ n → IsPlaced xs ys plan n map → IsStagedMap xs ys plan (length plan.actions) map × ((k : ℕ) → ¬ IsAgain plan k)
+finish_placing xs ys plan n map all placed = (
+  record {
+    found = λ z i e. let h = placed.map_is.found z i e in (slice_get_within plan.actions i h.1.1.0 h.1.1.1, h.1);
+    complete = λ z i kind less at of. placed.map_is.complete z i kind (omega arith) at of;
+  },
+  λ k again. placed.fresh k (let h = slice_get_within plan.actions k again.4.0 again.4.1 in omega arith) again,
+)

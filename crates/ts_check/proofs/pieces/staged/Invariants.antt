@@ -1,0 +1,5 @@
+use Rattle.ts_check.proofs.Placing.{IsPlaced}
+use Rattle.ts_check.proofs.pieces.staged.Given as goal
+
+abbrev pub invariant-loop-i : goal.invariant-loop-i
+invariant-loop-i l = IsPlaced l.first l.second l.plan l.i l.map

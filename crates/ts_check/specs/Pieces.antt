@@ -1,0 +1,92 @@
+-- Words for pieces: what they are of, and where their file stands in the source.
+--     on_side a b from               a or b
+--     IsPieceIn a b plan ..          a lawful piece, by the prints of the two replicas
+--     IsStaged xs ys plan i place    action i is a piece of this entry, of the file in this row of the source, at this offset
+--     IsAgain plan i                 an earlier action is a piece of the same entry, path and offset
+use Rattle.std.specs.Prelude.{◌≡◌, ◌≢◌, ◌⊎◌, ℕ, ◌+◌, ◌<◌, List, [], length, Option, Some, None, slice_get}
+use Rattle.std.specs.Ordering.{nat_cmp, ordering_then}
+use Rattle.std.specs.declared.cmp.Ordering.{Ordering}
+use Rattle.std.specs.BTreeMap.{BTreeMap, get}
+use Rattle.ts_name.specs.Paths.{Path, IsAbove}
+use Rattle.ts_model.specs.Trees.{Listing, Print, at}
+use Rattle.ts_model.specs.Plans.{EntryIs, KindIs, Copies, Earlier, IsRange, source}
+use Rattle.ts_model.specs.declared.row.Content.TheVariants.{File}
+use Rattle.ts_model.specs.declared.row.Row.{Row}
+use Rattle.ts_model.specs.declared.row.Stamp.{Stamp}
+use Rattle.ts_model.specs.declared.plan.Side.{Side}
+use Rattle.ts_model.specs.declared.plan.Side.TheVariants as side
+use Rattle.ts_model.specs.declared.plan.Entry.{Entry}
+use Rattle.ts_model.specs.declared.plan.Kind.{Kind}
+use Rattle.ts_model.specs.declared.plan.Kind.TheVariants.{Piece}
+use Rattle.ts_model.specs.declared.plan.Plan.{Plan}
+
+abbrev pub on_side : {A : Type 0} → A → A → Side → A
+on_side a b side.First = a
+on_side a b side.Second = b
+
+-- the rows of the side that an entry is copied from
+abbrev pub IsSourceOf : Listing Stamp → Listing Stamp → Plan → ℕ → Listing Stamp → Type 0
+IsSourceOf xs ys plan e rows = (entry : Entry) × (from : Side) × Copies plan e entry from × (rows ≡ on_side xs ys from)
+
+abbrev pub IsPieceIn : Listing Stamp → Listing Stamp → Plan → ℕ → ℕ → ℕ → Path → Type 0
+IsPieceIn xs ys plan e offset len p =
+    (entry : Entry) × (from : Side) × (stamp : Stamp)
+    × Copies plan e entry from × IsAbove entry.path p × (at (on_side xs ys from) p ≡ File stamp) × IsRange stamp.size offset len
+
+-- a piece that isn't lawful
+abbrev pub IsUnlawful : Listing Stamp → Listing Stamp → Plan → ℕ → Type 0
+IsUnlawful xs ys plan place = (e offset len : ℕ) × (p : Path) × KindIs plan place (Piece e offset len p) × (¬ IsPieceIn xs ys plan e offset len p)
+
+-- this row is that of the path
+abbrev pub IsRowOf : Listing Stamp → ℕ → Path → Type 0
+IsRowOf rows k p = (row : Row Stamp) × (slice_get rows k ≡ Some row) × (row.path ≡ p)
+
+-- an entry, a row of its source, and an offset
+abbrev pub Place : Type 0
+Place = ℕ × (ℕ × ℕ)
+
+-- a piece of this entry, of the file in this row of its source, at this offset
+abbrev pub IsPlaceOf : Listing Stamp → Listing Stamp → Plan → Kind → Place → Type 0
+IsPlaceOf xs ys plan kind place = (len : ℕ) × (p : Path) × (rows : Listing Stamp)
+    × (kind ≡ Piece place.0 place.1.1 len p) × IsSourceOf xs ys plan place.0 rows × IsRowOf rows place.1.0 p
+
+-- the order of places
+abbrev pub place_cmp : Place → Place → Ordering
+place_cmp x y = ordering_then (nat_cmp x.0 y.0) (ordering_then (nat_cmp x.1.0 y.1.0) (nat_cmp x.1.1 y.1.1))
+
+-- what stands at each place: the number of its piece among the first n actions
+pub record IsStagedMap (xs ys : Listing Stamp) (plan : Plan) (n : ℕ) (map : BTreeMap Place ℕ) : Type 0 where
+  pub found : (place : Place) (i : ℕ) → get place_cmp map place ≡ Some i → (i < n) × ((kind : Kind) × KindIs plan i kind × IsPlaceOf xs ys plan kind place)
+  pub complete : (place : Place) (i : ℕ) (kind : Kind) → i < n → KindIs plan i kind → IsPlaceOf xs ys plan kind place → (j : ℕ) × (get place_cmp map place ≡ Some j)
+
+abbrev pub IsAgain : Plan → ℕ → Type 0
+IsAgain plan i = (e offset len : ℕ) × (p : Path) × KindIs plan i (Piece e offset len p) × Earlier plan i (λ kind. (other : ℕ) × (kind ≡ Piece e offset other p))
+
+-- a lawful piece of entry e is no action
+abbrev pub LacksSome : Listing Stamp → Listing Stamp → Plan → ℕ → Type 0
+LacksSome xs ys plan e = (offset len : ℕ) × (p : Path) × IsPieceIn xs ys plan e offset len p × ((i other : ℕ) → ¬ KindIs plan i (Piece e offset other p))
+
+-- not each lawful piece stands once
+abbrev pub NotEachOnce : Listing Stamp → Listing Stamp → Plan → ℕ → Type 0
+NotEachOnce xs ys plan place = IsAgain plan place ⊎ ((e : ℕ) × (place ≡ length plan.actions + e) × LacksSome xs ys plan e)
+
+-- each range of a file of this size has a piece of entry e, of the file in this row
+abbrev pub HasAll : BTreeMap Place ℕ → ℕ → ℕ → ℕ → Type 0
+HasAll map e row size = (offset len : ℕ) → IsRange size offset len → (i : ℕ) × (get place_cmp map (e, (row, offset)) ≡ Some i)
+
+-- so has each file at or below a path
+abbrev pub HasAllBelow : Path → Listing Stamp → BTreeMap Place ℕ → ℕ → Type 0
+HasAllBelow top rows map e = (k : ℕ) (row : Row Stamp) (stamp : Stamp) → slice_get rows k ≡ Some row → IsAbove top row.path → row.content ≡ File stamp → HasAll map e k stamp.size
+
+-- some range has none
+abbrev pub LacksRange : BTreeMap Place ℕ → ℕ → ℕ → ℕ → Type 0
+LacksRange map e row size = (offset len : ℕ) × IsRange size offset len × (get place_cmp map (e, (row, offset)) ≡ None)
+
+-- in some file at or below a path
+abbrev pub LacksBelow : Path → Listing Stamp → BTreeMap Place ℕ → ℕ → Type 0
+LacksBelow top rows map e = (k : ℕ) × (row : Row Stamp) × (stamp : Stamp)
+    × (slice_get rows k ≡ Some row) × IsAbove top row.path × (row.content ≡ File stamp) × LacksRange map e k stamp.size
+
+-- no entry has the root as its path
+abbrev pub HasNoRoot : Plan → Type 0
+HasNoRoot plan = (e : ℕ) (entry : Entry) → EntryIs plan e entry → entry.path ≢ []

@@ -1,0 +1,21 @@
+-- What the checker answers.
+--     HoldBelow s plan n      no rule before the n-th is broken anywhere
+--     IsTold s plan fault     a plan that is told to be broken is broken there first
+use Rattle.std.specs.Prelude.{◌≡◌, ℕ, ◌<◌}
+use Rattle.ts_model.specs.Sync.{Snapshot}
+use Rattle.ts_model.specs.Plans.{Wrong, Broken, rule_number}
+use Rattle.ts_model.specs.declared.plan.PlanRule.{PlanRule}
+use Rattle.ts_model.specs.declared.plan.Plan.{Plan}
+use Rattle.ts_check.specs.declared.fault.CheckFault.{CheckFault}
+use Rattle.ts_check.specs.declared.fault.CheckFault.TheVariants as fault
+
+abbrev pub HoldBelow : Snapshot → Plan → ℕ → Type 0
+HoldBelow s plan n = (rule : PlanRule) (place : ℕ) → rule_number rule < n → ¬ Wrong s plan rule place
+
+abbrev pub IsTold : Snapshot → Plan → CheckFault → Type 0
+IsTold s plan fault.OutOfMemory = Unit {0}
+IsTold s plan (fault.Broken rule place) = Broken s plan rule place
+
+abbrev pub fault_number : CheckFault → ℕ
+fault_number fault.OutOfMemory = 1
+fault_number (fault.Broken rule place) = 13

@@ -1,0 +1,47 @@
+-- Words for the rules about what an action waits for.
+use Rattle.std.specs.Prelude.{◌≡◌, ◌≢◌, ℕ, ◌+◌, ◌<◌, ◌≤◌, min, List, [], ◌∷◌, Option, Some, None, slice_get}
+use Rattle.ts_name.specs.Paths.{Path}
+use Rattle.ts_model.specs.Plans.{ActionIs, KindIs, Waits, AscendBelow, NearestDir}
+use Rattle.ts_model.specs.declared.plan.Action.{Action}
+use Rattle.ts_model.specs.declared.plan.Kind.{Kind}
+use Rattle.ts_model.specs.declared.plan.Kind.TheVariants.{Piece, Commit, Mark}
+use Rattle.ts_model.specs.declared.plan.Plan.{Plan}
+use Rattle.ts_check.specs.Places.{no_action}
+
+-- strictly ascending from low on, and below n
+abbrev pub AscendFrom : ℕ → ℕ → List ℕ → Type 0
+AscendFrom low n [] = Unit {0}
+AscendFrom low n (x ∷ xs) = (low ≤ x) × (x < n) × AscendFrom (x + 1) n xs
+
+-- the action's predecessors don't ascend, or aren't before it
+abbrev pub HasBadPreds : Plan → ℕ → Type 0
+HasBadPreds plan place = (action : Action) × ActionIs plan place action × (¬ AscendBelow place action.preds)
+
+-- the action is a commit, and action i is a piece of its entry that it doesn't wait for
+abbrev pub IsLateFor : Plan → ℕ → ℕ → Type 0
+IsLateFor plan i place = (e offset len : ℕ) × (p : Path) × KindIs plan place (Commit e) × KindIs plan i (Piece e offset len p) × (¬ Waits plan place i)
+
+-- a commit that doesn't wait for some piece of its entry
+abbrev pub LacksPiece : Plan → ℕ → Type 0
+LacksPiece plan place = (e i offset len : ℕ) × (p : Path) × KindIs plan place (Commit e) × KindIs plan i (Piece e offset len p) × (¬ Waits plan place i)
+
+-- a mark that doesn't wait for the commit of its entry
+abbrev pub LacksCommit : Plan → ℕ → Type 0
+LacksCommit plan place = (e i : ℕ) × KindIs plan place (Mark e) × KindIs plan i (Commit e) × (¬ Waits plan place i)
+
+-- a mark that doesn't wait for the mark of the nearest new directory above it
+abbrev pub LacksDir : Plan → ℕ → Type 0
+LacksDir plan place = (e d i : ℕ) × KindIs plan place (Mark e) × NearestDir plan e d × KindIs plan i (Mark d) × (¬ Waits plan place i)
+
+-- action i stands at entry e
+abbrev pub IsLinked : List ℕ → ℕ → ℕ → Type 0
+IsLinked links e i = (slice_get links e ≡ Some i) × (i ≢ no_action)
+
+-- a mark that doesn't wait for the action that stands at its entry
+abbrev pub LacksLink : Plan → List ℕ → ℕ → Type 0
+LacksLink plan links place = (e i : ℕ) × KindIs plan place (Mark e) × IsLinked links e i × (¬ Waits plan place i)
+
+-- the lesser of the two
+abbrev pub least : Option ℕ → ℕ → Option ℕ
+least None k = Some k
+least (Some j) k = Some (min j k)

@@ -1,0 +1,136 @@
+ghost use Rattle.std.specs.Prelude.{◌≡◌, ◌≤◌, ℕ, length, IfOk, IfErr, OnOk};
+ghost use Rattle.ts_check.specs.Pieces.{IsStagedMap};
+ghost use Rattle.ts_check.specs.Places.{IsIndex, kind_of};
+ghost use Rattle.ts_check.specs.Verdict.{HoldBelow, IsTold};
+ghost use Rattle.ts_check.specs.declared.census.Role.TheVariants.{Commits, Marks};
+ghost use Rattle.ts_model.specs.Plans.{Valid, action_limit, entry_limit};
+ghost use Rattle.ts_model.specs.Sync.{listed_snapshot};
+ghost use Rattle.ts_need.specs.Needs.{AreListings, snapshot_of};
+
+use crate::census::{Role, one_each};
+use crate::entries::{first_out_of_order, nearest_dirs};
+use crate::fault::CheckFault;
+use crate::limits;
+use crate::pieces::{Staged, each_once, first_unlawful};
+use crate::waiting::{first_bad_preds, first_without_commit, first_without_dir, first_without_piece};
+use std::alloc::Global;
+use ts_hold::Holds;
+use ts_model::plan::{Plan, PlanRule};
+use ts_need::first_wrong;
+use ts_need::state::State;
+use ts_print::Print;
+
+/// What was found of a plan's actions: the commit and the mark of each entry, and where each piece stands.
+#[derive(Drop)]
+struct Index {
+    commits: Vec<u32>,
+    marks: Vec<u32>,
+    staged: Staged,
+}
+
+/// A plan that is valid for what it was checked against.
+#[derive(Drop)]
+pub struct Checked<'a> {
+    pub plan: &'a Plan,
+    pub archive: &'a Print,
+    pub first: &'a Print,
+    pub second: &'a Print,
+    index: Index,
+}
+
+
+/// The rules about limits, entries and reasons.
+fn check_entries(alloc: Global, plan: &Plan, state: &State) -> Result<(), CheckFault>
+    requires { AreListings state.now }
+    ensures holds { OnOk result (HoldBelow (snapshot_of state.now) plan.now 5) }
+    ensures told { IfErr result (IsTold (snapshot_of state.now) plan.now) }
+{
+    if let Some(place) = limits::first_wrong(plan) {
+        return Err(CheckFault::Broken { rule: PlanRule::Limits, place });
+    }
+    let entries = plan.entries.as_slice();
+    if let Some(place) = first_out_of_order(entries) {
+        return Err(CheckFault::Broken { rule: PlanRule::EntriesAscend, place: place as u64 });
+    }
+    match first_wrong(alloc, entries, state.archive, state.first, state.second, state.holds)? {
+        Some(broken) => Err(CheckFault::Broken { rule: broken.rule, place: broken.place }),
+        None => Ok(()),
+    }
+}
+
+/// The rules about predecessors, commits, pieces and marks, each by itself.
+fn check_actions(alloc: Global, plan: &Plan, state: &State) -> Result<Index, CheckFault>
+    requires listing { AreListings state.now }
+    requires before { HoldBelow (snapshot_of state.now) plan.now 5 }
+    ensures holds { OnOk result (HoldBelow (snapshot_of state.now) plan.now 10) }
+    ensures told { IfErr result (IsTold (snapshot_of state.now) plan.now) }
+    ensures commits { IfOk result (λ index. IsIndex plan.now (kind_of Commits) (length plan.now.actions) index.commits.items) }
+    ensures marks { IfOk result (λ index. IsIndex plan.now (kind_of Marks) (length plan.now.actions) index.marks.items) }
+    ensures staged { IfOk result (λ index. IsStagedMap state.now.first.now state.now.second.now plan.now (length plan.now.actions) index.staged) }
+{
+    if let Some(place) = first_bad_preds(plan) {
+        return Err(CheckFault::Broken { rule: PlanRule::PredsAscend, place: place as u64 });
+    }
+    let commits = match one_each(alloc, plan, Role::Commits)? {
+        Ok(commits) => commits,
+        Err(place) => return Err(CheckFault::Broken { rule: PlanRule::OneCommit, place }),
+    };
+    let first = state.first.rows();
+    let second = state.second.rows();
+    if let Some(place) = first_unlawful(plan, first, second) {
+        return Err(CheckFault::Broken { rule: PlanRule::PiecesLawful, place: place as u64 });
+    }
+    let staged = match each_once(alloc, plan, first, second)? {
+        Ok(staged) => staged,
+        Err(place) => return Err(CheckFault::Broken { rule: PlanRule::PiecesComplete, place }),
+    };
+    let marks = match one_each(alloc, plan, Role::Marks)? {
+        Ok(marks) => marks,
+        Err(place) => return Err(CheckFault::Broken { rule: PlanRule::OneMark, place }),
+    };
+    Ok(Index { commits, marks, staged })
+}
+
+/// The rules about what commits and marks wait for.
+fn check_order(alloc: Global, plan: &Plan, state: &State, index: &Index) -> Result<(), CheckFault>
+    requires before { HoldBelow (snapshot_of state.now) plan.now 10 }
+    requires commits { IsIndex plan.now (kind_of Commits) (length plan.now.actions) index.now.commits.items }
+    requires marks { IsIndex plan.now (kind_of Marks) (length plan.now.actions) index.now.marks.items }
+    ensures holds { OnOk result (Valid (snapshot_of state.now) plan.now) }
+    ensures told { IfErr result (IsTold (snapshot_of state.now) plan.now) }
+{
+    if let Some(place) = first_without_piece(plan, &index.commits) {
+        return Err(CheckFault::Broken { rule: PlanRule::PiecesFirst, place: place as u64 });
+    }
+    if let Some(place) = first_without_commit(plan, &index.commits) {
+        return Err(CheckFault::Broken { rule: PlanRule::CommitFirst, place: place as u64 });
+    }
+    let nearest = nearest_dirs(alloc, plan.entries.as_slice())?;
+    match first_without_dir(plan, &nearest, &index.marks) {
+        Some(place) => Err(CheckFault::Broken { rule: PlanRule::DirFirst, place: place as u64 }),
+        None => Ok(()),
+    }
+}
+
+/// Accepts exactly the plans that are valid for these prints and rules, and tells of another which rule it breaks first, and
+/// where.
+pub fn check<'a>(
+    alloc: Global,
+    plan: &'a Plan,
+    archive: &'a Print,
+    first: &'a Print,
+    second: &'a Print,
+    holds: &'a Holds,
+) -> Result<Checked<'a>, CheckFault>
+    ensures valid { OnOk result (Valid (listed_snapshot archive.entry.now first.entry.now second.entry.now holds.entry.now) plan.entry.now) }
+    ensures told { IfErr result (IsTold (listed_snapshot archive.entry.now first.entry.now second.entry.now holds.entry.now) plan.entry.now) }
+{
+    let _archive = archive.rows();
+    let _first = first.rows();
+    let _second = second.rows();
+    let state = State { archive, first, second, holds };
+    check_entries(alloc, plan, &state)?;
+    let index = check_actions(alloc, plan, &state)?;
+    check_order(alloc, plan, &state, &index)?;
+    Ok(Checked { plan, archive, first, second, index })
+}

@@ -1,0 +1,67 @@
+-- From a path up to the root.
+use Rattle.std.proofs.Common.{◌≡◌, ◌≢◌, ℕ, zero, suc, ◌<◌, List, [], ◌∷◌, ◌++◌, length, MatchOption, Option, Some, None, sym, refl, ap, ◌∙◌, subst, append_assoc, append-nil, arith}
+use Rattle.std.proofs.lemmas.List.{length-append}
+use Rattle.std.proofs.lemmas.Option.{none-some, same_Some}
+use Rattle.ts_name.specs.Paths.{Name, Path, IsAbove}
+use Rattle.ts_model.specs.Holds.{Names}
+use Rattle.ts_model.specs.declared.hold.Rule.{Rule}
+use Rattle.ts_laws.proofs.Paths.{above_parent, snoc_not_empty}
+use Rattle.ts_need.specs.Needs.{IsNamedAbove}
+
+-- the named paths strictly above p are at or above this one
+pub record IsClimb (rules : List Rule) (p : Path) (up : Option Path) : Type 0 where
+  pub covers : (h : Path) (name : Name) (rest : Path) → p ≡ h ++ name ∷ rest → Names rules h → (q : Path) × (up ≡ Some q) × IsAbove h q
+  pub place : (q : Path) → up ≡ Some q → (name : Name) × (rest : Path) × (p ≡ q ++ name ∷ rest)
+
+-- how far it is to the root
+abbrev pub climb_left : Option Path → ℕ
+climb_left None = 0
+climb_left (Some q) = suc (length q)
+
+-- a path's parent
+abbrev pub IsParent : Path → Option Path → Type 0
+IsParent p up = MatchOption up (p ≡ []) (λ q. (name : Name) × (p ≡ q ++ name ∷ []))
+
+no_root : (h : Path) (name : Name) (rest : Path) → [] ≢ h ++ name ∷ rest
+no_root [] name rest e = cc
+no_root (x ∷ h) name rest e = cc
+
+pub IsClimb-start : (rules : List Rule) (p : Path) (up : Option Path) → IsParent p up → IsClimb rules p up
+IsClimb-start rules p None root = record {
+  covers = λ h name rest e named. absurd (no_root h name rest (sym root ∙ e));
+  place = λ q e. absurd (none-some q e);
+}
+IsClimb-start rules p (Some q) parent = record {
+  covers = λ h name rest e named. let more = above_parent h name rest q parent.0 (sym e ∙ parent.1) in (q, refl, more);
+  place = λ r e. let same : q ≡ r = same_Some q r e in (parent.0, [], parent.1 ∙ ap (λ z. z ++ parent.0 ∷ []) same);
+}
+
+pub IsClimb-up : (rules : List Rule) (p q : Path) (old up : Option Path) → old ≡ Some q → IsClimb rules p old → ¬ Names rules q → IsParent q up → IsClimb rules p up
+IsClimb-up rules p q old up is climb unnamed parent = record { covers = λ h name rest e named. go h (climb.covers h name rest e named) named; place = λ r e. place r e up refl parent }
+  where
+    go : (h : Path) → (r : Path) × (old ≡ Some r) × IsAbove h r → Names rules h → (r : Path) × (up ≡ Some r) × IsAbove h r
+    go h found named = strict found.2.0 (same_Some q found.0 (sym is ∙ found.1) ∙ found.2.1)
+      where
+        strict : (rest : Path) → q ≡ h ++ rest → (r : Path) × (up ≡ Some r) × IsAbove h r
+        strict [] e = absurd (unnamed (subst (λ z. Names rules z) (sym (e ∙ append-nil h)) named))
+        strict (n ∷ rest) e = (IsClimb-start rules q up parent).covers h n rest e named
+
+    place : (r : Path) → up ≡ Some r → (o : Option Path) → up ≡ o → IsParent q o → (name : Name) × (rest : Path) × (p ≡ r ++ name ∷ rest)
+    place r e None f root = absurd (none-some r (sym f ∙ e))
+    place r e (Some s) f above =
+        let same : s ≡ r = same_Some s r (sym f ∙ e) in
+        let at = climb.place q is in
+        (above.0, at.0 ∷ at.1, at.2 ∙ ap (λ z. z ++ at.0 ∷ at.1) (above.1 ∙ ap (λ z. z ++ above.0 ∷ []) same) ∙ append_assoc r (above.0 ∷ []) (at.0 ∷ at.1))
+
+-- a named path met on the way is above
+pub climb_found : (rules : List Rule) (p q : Path) (up : Option Path) → up ≡ Some q → IsClimb rules p up → Names rules q → IsNamedAbove rules p
+climb_found rules p q up is climb named = let at = climb.place q is in (q, at.0, at.1, at.2, named)
+
+-- at the root there is none left
+pub climb_end : (rules : List Rule) (p : Path) (up : Option Path) → up ≡ None → IsClimb rules p up → ¬ IsNamedAbove rules p
+climb_end rules p up is climb h = let found = climb.covers h.0 h.1 h.2 h.3 h.4 in none-some found.0 (sym is ∙ found.1)
+
+-- each step is shorter
+pub climb_shorter : (q : Path) (up : Option Path) → IsParent q up → climb_left up < suc (length q)
+climb_shorter q None root = omega arith
+climb_shorter q (Some r) parent = let e = ap length parent.1 in omega (arith, length-append r (parent.0 ∷ []))

@@ -1,0 +1,6 @@
+pub mod Between
+pub mod Listed
+pub mod Climbs
+pub mod Touches
+pub mod Edges
+pub mod Lacking
