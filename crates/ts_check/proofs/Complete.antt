@@ -85,8 +85,8 @@ to_end rows top start stop k last row lists at_start less is_last out is above =
         | inr differ ↦ omega arith
       ] in
       out (above_between top last.path row.path above
-          (subst (λ z. IsBefore z last.path) at_start.2 (rows_order rows lists.ascending start stop at_start.0 last at_start.1 is_last up))
-          (rows_order rows lists.ascending stop k last row is_last is after)))
+      (subst (λ z. IsBefore z last.path) at_start.2 (rows_order rows lists.ascending start stop at_start.0 last at_start.1 is_last up))
+      (rows_order rows lists.ascending stop k last row is_last is after)))
 ]
 
 -- ---- an entry
@@ -110,8 +110,7 @@ module _ (xs ys : Listing Stamp) (plan : Plan) (map : BTreeMap Place ℕ) (stage
   pub lacks_one : (e : ℕ) (entry : Entry) (rows : Listing Stamp) → EntryIs plan e entry → IsListing rows → IsSourceOf xs ys plan e rows → LacksBelow entry.path rows map e → LacksSome xs ys plan e
   lacks_one e entry rows is lists src lacks =
       let row = lacks.1 in
-      let range = lacks.6 in
-      (
+      let range = lacks.6 in (
         range.0,
         range.1,
         row.path,
@@ -124,9 +123,9 @@ module _ (xs ys : Listing Stamp) (plan : Plan) (map : BTreeMap Place ℕ) (stage
           range = range.2;
         }),
         λ i other kind.
-          let within = slice_get_within plan.actions i kind.0 kind.1 in
-          let has = staged.complete (e, (lacks.0, range.0)) i (Piece e range.0 other row.path) within kind (other, row.path, rows, refl, src, (row, lacks.3, refl)) in
-          none-some has.0 (sym range.3 ∙ has.1),
+            let within = slice_get_within plan.actions i kind.0 kind.1 in
+            let has = staged.complete (e, (lacks.0, range.0)) i (Piece e range.0 other row.path) within kind (other, row.path, rows, refl, src, (row, lacks.3, refl)) in
+            none-some has.0 (sym range.3 ∙ has.1),
       )
 
   -- an entry that isn't copied lacks none
@@ -137,10 +136,13 @@ module _ (xs ys : Listing Stamp) (plan : Plan) (map : BTreeMap Place ℕ) (stage
 
 pub first_lacking : (xs ys : Listing Stamp) (plan : Plan) (e : ℕ) → ((k : ℕ) → ¬ IsAgain plan k) → LacksSome xs ys plan e → ((j : ℕ) → j < e → ¬ LacksSome xs ys plan j)
     → NotEachOnce xs ys plan (length plan.actions + e) × ((k : ℕ) → k < length plan.actions + e → ¬ NotEachOnce xs ys plan k)
-first_lacking xs ys plan e fresh lacks least = (inr (e, refl, lacks), λ k less wrong. elim wrong [
+first_lacking xs ys plan e fresh lacks least = (
+  inr (e, refl, lacks),
+  λ k less wrong. elim wrong [
     | inl again ↦ fresh k again
     | inr other ↦ least other.0 (let same = other.1 in omega arith) other.2
-  ])
+  ],
+)
 
 pub never_lacking : (xs ys : Listing Stamp) (plan : Plan) → ((k : ℕ) → ¬ IsAgain plan k) → ((e : ℕ) → ¬ LacksSome xs ys plan e) → (k : ℕ) → ¬ NotEachOnce xs ys plan k
 never_lacking xs ys plan fresh none k wrong = elim wrong [ inl again ↦ fresh k again | inr other ↦ none other.0 other.2 ]

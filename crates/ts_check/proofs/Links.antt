@@ -55,10 +55,20 @@ module _ (plan : Plan) (order : (k : ℕ) → ¬ IsOutOfOrder plan.entries k) (f
     above = found.1.above;
     strictly = found.1.strictly;
     nearest = λ k other is new above strictly. elim (found.2 k (record {
-        dir = other; below = found.1.below; is_dir = is; is_below = found.1.is_below; new_dir = new; above = above; strictly = strictly })) [
-      | inl same ↦ ([], (
-          let one : other ≡ found.1.dir = same_Some other found.1.dir (sym is ∙ ap (slice_get plan.entries) same ∙ found.1.is_dir) in
-          sym (ap (λ (z : Entry). z.path) one) ∙ sym (append-nil other.path)))
+      dir = other;
+      below = found.1.below;
+      is_dir = is;
+      is_below = found.1.is_below;
+      new_dir = new;
+      above = above;
+      strictly = strictly;
+    })) [
+      | inl same ↦ (
+        [],
+        (
+            let one : other ≡ found.1.dir = same_Some other found.1.dir (sym is ∙ ap (slice_get plan.entries) same ∙ found.1.is_dir) in
+            sym (ap (λ (z : Entry). z.path) one) ∙ sym (append-nil other.path)),
+      )
       | inr over ↦ (
           let up = same_Some over.dir other (sym over.is_dir ∙ is) in
           let down = same_Some over.below found.1.dir (sym over.is_below ∙ found.1.is_dir) in
@@ -69,19 +79,33 @@ module _ (plan : Plan) (order : (k : ℕ) → ¬ IsOutOfOrder plan.entries k) (f
   -- and the nearest is what is found
   found_nearest : (e d found : ℕ) → NearestDir plan e d → IsNearestOf plan.entries e found → d ≡ found
   found_nearest e d found near (inl none) = absurd (none.1 d (record {
-    dir = near.dir; below = near.below; is_dir = near.is_dir; is_below = near.is_below; new_dir = near.new_dir; above = near.above; strictly = near.strictly }))
+    dir = near.dir;
+    below = near.below;
+    is_dir = near.is_dir;
+    is_below = near.is_below;
+    new_dir = near.new_dir;
+    above = near.above;
+    strictly = near.strictly;
+  }))
   found_nearest e d found near (inr at) = elim (at.2 d (record {
-    dir = near.dir; below = near.below; is_dir = near.is_dir; is_below = near.is_below; new_dir = near.new_dir; above = near.above; strictly = near.strictly })) [
+    dir = near.dir;
+    below = near.below;
+    is_dir = near.is_dir;
+    is_below = near.is_below;
+    new_dir = near.new_dir;
+    above = near.above;
+    strictly = near.strictly;
+  })) [
     | inl same ↦ same
     | inr over ↦ absurd (
         let same_below : at.1.below ≡ near.below = same_Some at.1.below near.below (sym at.1.is_below ∙ near.is_below) in
         let above : IsAbove at.1.dir.path near.dir.path = near.nearest found at.1.dir at.1.is_dir at.1.new_dir
-            (subst (λ (z : Entry). IsAbove at.1.dir.path z.path) same_below at.1.above)
-            (subst (λ (z : Entry). at.1.dir.path ≢ z.path) same_below at.1.strictly) in
+        (subst (λ (z : Entry). IsAbove at.1.dir.path z.path) same_below at.1.above)
+        (subst (λ (z : Entry). at.1.dir.path ≢ z.path) same_below at.1.strictly) in
         let one : over.dir ≡ near.dir = same_Some over.dir near.dir (sym over.is_dir ∙ near.is_dir) in
         let two : over.below ≡ at.1.dir = same_Some over.below at.1.dir (sym over.is_below ∙ at.1.is_dir) in
         let down : IsBefore near.dir.path at.1.dir.path = subst (λ (z : Entry). IsBefore near.dir.path z.path) two
-            (subst (λ (z : Entry). IsBefore z.path over.below.path) one (before_from_above over.dir.path over.below.path over.above over.strictly)) in
+        (subst (λ (z : Entry). IsBefore z.path over.below.path) one (before_from_above over.dir.path over.below.path over.above over.strictly)) in
         let differ : at.1.dir.path ≢ near.dir.path = λ same. before_itself at.1.dir.path (subst (λ z. IsBefore z at.1.dir.path) (sym same) down) in
         let up : IsBefore at.1.dir.path near.dir.path = before_from_above at.1.dir.path near.dir.path above differ in
         before_itself near.dir.path (before_trans near.dir.path at.1.dir.path near.dir.path down up))

@@ -119,27 +119,31 @@ module _ (entries : List Entry) (order : (k : ℕ) → ¬ IsOutOfOrder entries k
 
   -- where no candidate is left there is none above
   pub IsNearestOf-none : (e at : ℕ) → length entries ≤ 1048576 → IsCandidate entries e at → at ≡ no_action → IsNearestOf entries e at
-  IsNearestOf-none e at few candidate none = inl (none, λ d h. elim (candidate.covers d h) [
-    | inl same ↦ (let within = slice_get_within entries d h.dir h.is_dir in omega arith)
-    | inr above ↦ (let within = slice_get_within entries at above.below above.is_below in omega arith)
-  ])
+  IsNearestOf-none e at few candidate none = inl (
+    none,
+    λ d h. elim (candidate.covers d h) [
+      | inl same ↦ (let within = slice_get_within entries d h.dir h.is_dir in omega arith)
+      | inr above ↦ (let within = slice_get_within entries at above.below above.is_below in omega arith)
+    ],
+  )
 
   -- a candidate that is above is the nearest
   pub IsNearestOf-found : (e at : ℕ) (of dir : Entry) → length entries ≤ 1048576 → IsCandidate entries e at → slice_get entries e ≡ Some of → slice_get entries at ≡ Some dir → IsAbove dir.path of.path → IsNearestOf entries e at
   IsNearestOf-found e at of dir few candidate is_of is_dir above = elim candidate.place [
     | inl none ↦ absurd (let within = slice_get_within entries at dir is_dir in omega arith)
     | inr here ↦ inr (
-        here.0,
-        record {
-          dir = here.1.0;
-          below = of;
-          is_dir = here.1.1;
-          is_below = is_of;
-          new_dir = here.1.2;
-          above = subst (λ (z : Entry). IsAbove z.path of.path) (same_Some dir here.1.0 (sym is_dir ∙ here.1.1)) above;
-          strictly = λ same. before_itself of.path (subst (λ z. IsBefore z of.path) same (in_order at e here.1.0 of here.1.1 is_of here.0));
-        },
-        candidate.covers)
+      here.0,
+      record {
+        dir = here.1.0;
+        below = of;
+        is_dir = here.1.1;
+        is_below = is_of;
+        new_dir = here.1.2;
+        above = subst (λ (z : Entry). IsAbove z.path of.path) (same_Some dir here.1.0 (sym is_dir ∙ here.1.1)) above;
+        strictly = λ same. before_itself of.path (subst (λ z. IsBefore z of.path) same (in_order at e here.1.0 of here.1.1 is_of here.0));
+      },
+      candidate.covers,
+    )
   ]
 
   -- the first entry has no directory above

@@ -94,9 +94,16 @@ module _ (xs ys : Listing Stamp) (first : IsListing xs) (second : IsListing ys) 
   }
     where
       here : ¬ IsAgain plan n
-      here again = right n (again.0, again.1, again.2, again.3, again.4, λ piece.
-          let found = has_place again.0 again.1 again.2 again.3 piece in
-          none found.0 (subst (λ k. IsPlaceOf xs ys plan k found.0) (sym (same_kind plan n action (Piece again.0 again.1 again.2 again.3) is again.4)) found.1))
+      here again = right n (
+        again.0,
+        again.1,
+        again.2,
+        again.3,
+        again.4,
+        λ piece.
+            let found = has_place again.0 again.1 again.2 again.3 piece in
+            none found.0 (subst (λ k. IsPlaceOf xs ys plan k found.0) (sym (same_kind plan n action (Piece again.0 again.1 again.2 again.3) is again.4)) found.1),
+      )
 
   -- a piece whose place was free is put in
   pub IsPlaced-put : (n : ℕ) (m map : BTreeMap Place ℕ) (z : Place) (action : Action) → ActionIs plan n action → IsPlaceOf xs ys plan action.kind z → get place_cmp m z ≡ None → Updates place_cmp m map z (Some n) → IsPlaced xs ys plan n m → IsPlaced xs ys plan (n + 1) map
@@ -141,8 +148,7 @@ module _ (xs ys : Listing Stamp) (first : IsListing xs) (second : IsListing ys) 
       → NotEachOnce xs ys plan n × ((k : ℕ) → k < n → ¬ NotEachOnce xs ys plan k)
   stands_again n j m z action is of taken placed =
       let h = placed.map_is.found z j taken in
-      let path = same_path_there h.1.0 action.kind z h.1.2 of in
-      (
+      let path = same_path_there h.1.0 action.kind z h.1.2 of in (
         inl (z.0, z.1.1, of.0, of.1, (action, is, of.3), (j, h.1.0, h.0, h.1.1, (h.1.2.0, h.1.2.3 ∙ ap (λ w. Piece z.0 z.1.1 h.1.2.0 w) path))),
         λ k less wrong. elim wrong [
           | inl again ↦ placed.fresh k less again

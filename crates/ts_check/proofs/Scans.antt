@@ -196,35 +196,47 @@ wrong_here plan role n e numbers action so_far is kind met = elim (decide_wants 
 
 -- an entry whose action is lacking is a wrong place
 pub wrong_after : (plan : Plan) (role : Role) (e : ℕ) (numbers : List ℕ) → length plan.actions ≤ 1048576 → IsIndex plan (kind_of role) (length plan.actions) numbers → IsUnmet plan.entries role numbers e → NotOneOf plan role (length plan.actions + e)
-wrong_after plan role e numbers few index unmet = inr (e, refl, (unmet.0, unmet.1, unmet.2), λ i at.
-    let within = slice_get_within plan.actions i at.0 at.1 in
-    absurd (let same : i ≡ no_action = same_Some i no_action (sym (index.complete e i within at) ∙ unmet.3) in omega arith))
+wrong_after plan role e numbers few index unmet = inr (
+  e,
+  refl,
+  (unmet.0, unmet.1, unmet.2),
+  λ i at.
+      let within = slice_get_within plan.actions i at.0 at.1 in
+      absurd (let same : i ≡ no_action = same_Some i no_action (sym (index.complete e i within at) ∙ unmet.3) in omega arith),
+)
 
 -- and no other place after the actions is
 pub right_after : (plan : Plan) (role : Role) (place : ℕ) (numbers : List ℕ) → IsIndex plan (kind_of role) (length plan.actions) numbers → length plan.actions ≤ place
     → NotOneOf plan role place → (e : ℕ) × (place ≡ length plan.actions + e) × (¬ (¬ IsUnmet plan.entries role numbers e))
 right_after plan role place numbers index past (inl h) = absurd (let within = slice_get_within plan.actions place h.1.0 h.1.1 in omega arith)
-right_after plan role place numbers index past (inr h) = (h.0, h.1, λ met.
-    let within = slice_get_within plan.entries h.0 h.2.0 h.2.1 in
-    let at = held_at numbers h.0 (omega (arith, index.size)) in
-    elim (cases_eq at.0 no_action) [
-      | inl none ↦ met (h.2.0, h.2.1, h.2.2, at.1 ∙ ap Some none)
-      | inr there ↦ h.3 at.0 (index.found h.0 at.0 at.1 there).1
-    ])
+right_after plan role place numbers index past (inr h) = (
+  h.0,
+  h.1,
+  λ met.
+      let within = slice_get_within plan.entries h.0 h.2.0 h.2.1 in
+      let at = held_at numbers h.0 (omega (arith, index.size)) in
+      elim (cases_eq at.0 no_action) [
+        | inl none ↦ met (h.2.0, h.2.1, h.2.2, at.1 ∙ ap Some none)
+        | inr there ↦ h.3 at.0 (index.found h.0 at.0 at.1 there).1
+      ],
+)
 
 -- where an entry's action is lacking, and no earlier one's, that is the first wrong place
 pub first_after : (plan : Plan) (role : Role) (numbers : List ℕ) (e : ℕ) → length plan.actions ≤ 1048576 → IsIndex plan (kind_of role) (length plan.actions) numbers
     → ((k : ℕ) → k < length plan.actions → ¬ NotOneOf plan role k) → IsUnmet plan.entries role numbers e → ((j : ℕ) → j < e → ¬ IsUnmet plan.entries role numbers j)
     → NotOneOf plan role (length plan.actions + e) × ((j : ℕ) → j < length plan.actions + e → ¬ NotOneOf plan role j)
-first_after plan role numbers e few index right unmet met = (wrong_after plan role e numbers few index unmet, λ j h wrong. elim (cases_lt j (length plan.actions)) [
+first_after plan role numbers e few index right unmet met = (
+  wrong_after plan role e numbers few index unmet,
+  λ j h wrong. elim (cases_lt j (length plan.actions)) [
     | inl early ↦ right j early wrong
     | inr late ↦ (let at = right_after plan role j numbers index late wrong in at.2 (met at.0 (let e = at.1 in omega arith)))
-  ])
+  ],
+)
 
 -- where none is lacking, no place is wrong
 pub never_after : (plan : Plan) (role : Role) (numbers : List ℕ) → IsIndex plan (kind_of role) (length plan.actions) numbers
     → ((k : ℕ) → k < length plan.actions → ¬ NotOneOf plan role k) → ((j : ℕ) → ¬ IsUnmet plan.entries role numbers j) → (k : ℕ) → ¬ NotOneOf plan role k
 never_after plan role numbers index right met k wrong = elim (cases_lt k (length plan.actions)) [
-    | inl early ↦ right k early wrong
-    | inr late ↦ (let at = right_after plan role k numbers index late wrong in at.2 (met at.0))
-  ]
+  | inl early ↦ right k early wrong
+  | inr late ↦ (let at = right_after plan role k numbers index late wrong in at.2 (met at.0))
+]

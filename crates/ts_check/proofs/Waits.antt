@@ -57,11 +57,13 @@ pub IsFirst-least : (A B : ℕ → Type 0) (k : ℕ) → ((j : ℕ) → A j → 
 IsFirst-least A B k keeps new only None h = (new, λ j less wrong. elim (only j wrong) [ inl old ↦ h j old | inr same ↦ omega arith ])
 IsFirst-least A B k keeps new only (Some i) h = elim (cases_lt i k) [
   | inl less ↦ (
-      subst B (omega arith) (keeps i h.0),
-      λ j below wrong. elim (only j wrong) [ inl old ↦ h.1 j (omega arith) old | inr same ↦ omega arith ])
+    subst B (omega arith) (keeps i h.0),
+    λ j below wrong. elim (only j wrong) [ inl old ↦ h.1 j (omega arith) old | inr same ↦ omega arith ],
+  )
   | inr more ↦ (
-      subst B (omega arith) new,
-      λ j below wrong. elim (only j wrong) [ inl old ↦ h.1 j (omega arith) old | inr same ↦ omega arith ])
+    subst B (omega arith) new,
+    λ j below wrong. elim (only j wrong) [ inl old ↦ h.1 j (omega arith) old | inr same ↦ omega arith ],
+  )
 ]
 
 -- whether numbers ascend is decided
@@ -85,9 +87,12 @@ search_tells n xs x r ascend result = go r (searched xs x r result (never_falls 
     go : (r : Result ℕ ℕ) → MatchResult r (λ i. (i < length xs) × (get_or xs i 0 ≡ x)) (λ i. (i ≤ length xs) × ((k : ℕ) → k < i → get_or xs k 0 < x) × ((k : ℕ) → i ≤ k → k < length xs → x < get_or xs k 0))
         → (IsTrue (is_ok r) → Contains xs x) × (Contains xs x → IsTrue (is_ok r))
     go (Ok i) h = (λ _. (i, h.0, at_zero i h.0 x ∙ h.1), λ _. refl)
-    go (Err i) h = (λ is. absurd (true≢false (sym is)), λ has. absurd (
-      let same = sym (at_zero has.0 has.1 x) ∙ has.2 in
-      elim (cases_lt has.0 i) [ inl less ↦ (let g = h.1 has.0 less in omega arith) | inr more ↦ (let g = h.2 has.0 more has.1 in omega arith) ]))
+    go (Err i) h = (
+      λ is. absurd (true≢false (sym is)),
+      λ has. absurd (
+          let same = sym (at_zero has.0 has.1 x) ∙ has.2 in
+          elim (cases_lt has.0 i) [ inl less ↦ (let g = h.1 has.0 less in omega arith) | inr more ↦ (let g = h.2 has.0 more has.1 in omega arith) ]),
+    )
 
 -- the predecessors of each action ascend
 pub ascending_preds : (plan : Plan) → ((k : ℕ) → ¬ HasBadPreds plan k) → (i : ℕ) (action : Action) → ActionIs plan i action → AscendBelow i action.preds

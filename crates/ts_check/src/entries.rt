@@ -60,7 +60,11 @@ fn nearest_of(entries: &[Entry], nearest: &[u32], i: usize) -> u32
     if i == 0 {
         return NO_ACTION;
     }
-    let mut at = if is_dir(entries, i - 1) { (i - 1) as u32 } else { nearest[i - 1] };
+    let mut at = if is_dir(entries, i - 1) {
+        (i - 1) as u32
+    } else {
+        nearest[i - 1]
+    };
     while at != NO_ACTION && !is_entry_above(entries, at as usize, i) {
         at = nearest[at as usize];
     }

@@ -12,10 +12,7 @@ pub enum CheckFault {
     OutOfMemory,
     /// The first rule that the plan breaks, with the least place where it does.
     #[error("the plan breaks rule {rule:?} at {place}")]
-    Broken {
-        rule: PlanRule,
-        place: u64,
-    },
+    Broken { rule: PlanRule, place: u64 },
 }
 
 impl CheckFault {

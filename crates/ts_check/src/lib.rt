@@ -2,14 +2,17 @@
 #![tactic(auto)]
 
 mod census;
-
 mod entries;
 mod fault;
 mod limits;
 mod order;
 mod pieces;
 mod rules;
+mod safety;
 mod waiting;
 
-pub use rules::{Checked, check};
 pub use fault::CheckFault;
+pub use rules::{Checked, check};
+
+#[cfg(test)]
+mod tests;

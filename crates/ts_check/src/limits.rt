@@ -10,7 +10,9 @@ ghost use Rattle.std.specs.Prelude.{IsTrue, ◌↔◌};
 use ts_model::plan::{Action, Plan};
 
 const ENTRY_LIMIT: usize = 1_048_576;
+
 const ACTION_LIMIT: usize = 1_048_576;
+
 const PRED_LIMIT: usize = 4_194_304;
 
 /// Whether the actions have no more predecessors than the limit, all together.

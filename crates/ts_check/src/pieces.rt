@@ -31,7 +31,12 @@ fn is_range(size: u64, offset: u64, length: u64) -> bool
 }
 
 /// The rows of the side that an entry is copied from.
-fn source_of<'a>(plan: &Plan, first: &'a [Row<Stamp>], second: &'a [Row<Stamp>], e: usize) -> Option<&'a [Row<Stamp>]>
+fn source_of<'a>(
+    plan: &Plan,
+    first: &'a [Row<Stamp>],
+    second: &'a [Row<Stamp>],
+    e: usize,
+) -> Option<&'a [Row<Stamp>]>
     ensures some { IfSome result (λ rows. IsSourceOf first.entry.now second.entry.now plan.entry.now e rows.now) }
     ensures none { IfNone result (¬ IsCopied plan.entry.now e) }
 {
@@ -65,7 +70,15 @@ fn is_below_entry(plan: &Plan, e: usize, path: &Path) -> bool
 }
 
 /// Whether this is a lawful piece.
-fn is_piece(plan: &Plan, first: &[Row<Stamp>], second: &[Row<Stamp>], e: usize, offset: u64, length: u64, path: &Path) -> bool
+fn is_piece(
+    plan: &Plan,
+    first: &[Row<Stamp>],
+    second: &[Row<Stamp>],
+    e: usize,
+    offset: u64,
+    length: u64,
+    path: &Path,
+) -> bool
     requires first { IsListing first.now }
     requires second { IsListing second.now }
     ensures { IsTrue result ↔ IsPieceIn first.now second.now plan.now e offset length path.now }
@@ -89,7 +102,13 @@ pub fn first_unlawful(plan: &Plan, first: &[Row<Stamp>], second: &[Row<Stamp>]) 
     ensures { IsFirst (IsUnlawful first.now second.now plan.now) result }
 {
     for (i, action) in plan.actions.as_slice().iter().enumerate() {
-        if let Kind::Piece { entry, offset, length, path } = &action.kind {
+        if let Kind::Piece {
+            entry,
+            offset,
+            length,
+            path,
+        } = &action.kind
+        {
             if !is_piece(plan, first, second, *entry as usize, *offset, *length, path) {
                 return Some(i);
             }
@@ -108,7 +127,13 @@ fn place_of(plan: &Plan, first: &[Row<Stamp>], second: &[Row<Stamp>], kind: &Kin
     ensures some { IfSome result (λ place. IsPlaceOf first.now second.now plan.now kind.now place) }
     ensures none { IfNone result ((place : Place) → ¬ IsPlaceOf first.now second.now plan.now kind.now place) }
 {
-    let Kind::Piece { entry, offset, path, .. } = kind else {
+    let Kind::Piece {
+        entry,
+        offset,
+        path,
+        ..
+    } = kind
+    else {
         return None;
     };
     let rows = source_of(plan, first, second, *entry as usize)?;
@@ -117,7 +142,12 @@ fn place_of(plan: &Plan, first: &[Row<Stamp>], second: &[Row<Stamp>], kind: &Kin
 }
 
 /// The place of each piece, or the first piece that stands again.
-fn staged(alloc: Global, plan: &Plan, first: &[Row<Stamp>], second: &[Row<Stamp>]) -> Result<Result<Staged, u64>, AllocError>
+fn staged(
+    alloc: Global,
+    plan: &Plan,
+    first: &[Row<Stamp>],
+    second: &[Row<Stamp>],
+) -> Result<Result<Staged, u64>, AllocError>
     requires first { IsListing first.now }
     requires second { IsListing second.now }
     requires few { length plan.now.actions ≤ action_limit }
@@ -179,7 +209,12 @@ fn is_staged(top: &Path, rows: &[Row<Stamp>], map: &Staged, e: u32) -> bool
 }
 
 /// The first entry of which a lawful piece isn't staged.
-fn first_unstaged(plan: &Plan, first: &[Row<Stamp>], second: &[Row<Stamp>], map: &Staged) -> Option<usize>
+fn first_unstaged(
+    plan: &Plan,
+    first: &[Row<Stamp>],
+    second: &[Row<Stamp>],
+    map: &Staged,
+) -> Option<usize>
     requires few { length plan.now.entries ≤ entry_limit }
     requires first { IsListing first.now }
     requires second { IsListing second.now }
@@ -198,7 +233,12 @@ fn first_unstaged(plan: &Plan, first: &[Row<Stamp>], second: &[Row<Stamp>], map:
 }
 
 /// The place of each piece, or the first place where not each lawful piece stands once.
-pub fn each_once(alloc: Global, plan: &Plan, first: &[Row<Stamp>], second: &[Row<Stamp>]) -> Result<Result<Staged, u64>, AllocError>
+pub fn each_once(
+    alloc: Global,
+    plan: &Plan,
+    first: &[Row<Stamp>],
+    second: &[Row<Stamp>],
+) -> Result<Result<Staged, u64>, AllocError>
     requires actions { length plan.now.actions ≤ action_limit }
     requires entries { length plan.now.entries ≤ entry_limit }
     requires first { IsListing first.now }

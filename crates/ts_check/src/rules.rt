@@ -1,7 +1,7 @@
 ghost use Rattle.std.specs.Prelude.{◌≡◌, ◌≤◌, ℕ, length, IfOk, IfErr, OnOk};
 ghost use Rattle.ts_check.specs.Pieces.{IsStagedMap};
 ghost use Rattle.ts_check.specs.Places.{IsIndex, kind_of};
-ghost use Rattle.ts_check.specs.Verdict.{HoldBelow, IsTold};
+ghost use Rattle.ts_check.specs.Verdict.{HoldBelow, IsSafe, IsTold};
 ghost use Rattle.ts_check.specs.declared.census.Role.TheVariants.{Commits, Marks};
 ghost use Rattle.ts_model.specs.Plans.{Valid, action_limit, entry_limit};
 ghost use Rattle.ts_model.specs.Sync.{listed_snapshot};
@@ -12,7 +12,10 @@ use crate::entries::{first_out_of_order, nearest_dirs};
 use crate::fault::CheckFault;
 use crate::limits;
 use crate::pieces::{Staged, each_once, first_unlawful};
-use crate::waiting::{first_bad_preds, first_without_commit, first_without_dir, first_without_piece};
+use crate::safety::valid_plans_are_safe;
+use crate::waiting::{
+    first_bad_preds, first_without_commit, first_without_dir, first_without_piece,
+};
 use std::alloc::Global;
 use ts_hold::Holds;
 use ts_model::plan::{Plan, PlanRule};
@@ -38,7 +41,6 @@ pub struct Checked<'a> {
     index: Index,
 }
 
-
 /// The rules about limits, entries and reasons.
 fn check_entries(alloc: Global, plan: &Plan, state: &State) -> Result<(), CheckFault>
     requires { AreListings state.now }
@@ -46,14 +48,30 @@ fn check_entries(alloc: Global, plan: &Plan, state: &State) -> Result<(), CheckF
     ensures told { IfErr result (IsTold (snapshot_of state.now) plan.now) }
 {
     if let Some(place) = limits::first_wrong(plan) {
-        return Err(CheckFault::Broken { rule: PlanRule::Limits, place });
+        return Err(CheckFault::Broken {
+            rule: PlanRule::Limits,
+            place,
+        });
     }
     let entries = plan.entries.as_slice();
     if let Some(place) = first_out_of_order(entries) {
-        return Err(CheckFault::Broken { rule: PlanRule::EntriesAscend, place: place as u64 });
+        return Err(CheckFault::Broken {
+            rule: PlanRule::EntriesAscend,
+            place: place as u64,
+        });
     }
-    match first_wrong(alloc, entries, state.archive, state.first, state.second, state.holds)? {
-        Some(broken) => Err(CheckFault::Broken { rule: broken.rule, place: broken.place }),
+    match first_wrong(
+        alloc,
+        entries,
+        state.archive,
+        state.first,
+        state.second,
+        state.holds,
+    )? {
+        Some(broken) => Err(CheckFault::Broken {
+            rule: broken.rule,
+            place: broken.place,
+        }),
         None => Ok(()),
     }
 }
@@ -69,26 +87,45 @@ fn check_actions(alloc: Global, plan: &Plan, state: &State) -> Result<Index, Che
     ensures staged { IfOk result (λ index. IsStagedMap state.now.first.now state.now.second.now plan.now (length plan.now.actions) index.staged) }
 {
     if let Some(place) = first_bad_preds(plan) {
-        return Err(CheckFault::Broken { rule: PlanRule::PredsAscend, place: place as u64 });
+        return Err(CheckFault::Broken {
+            rule: PlanRule::PredsAscend,
+            place: place as u64,
+        });
     }
     let commits = match one_each(alloc, plan, Role::Commits)? {
         Ok(commits) => commits,
-        Err(place) => return Err(CheckFault::Broken { rule: PlanRule::OneCommit, place }),
+        Err(place) => return Err(CheckFault::Broken {
+            rule: PlanRule::OneCommit,
+            place,
+        }),
     };
     let first = state.first.rows();
     let second = state.second.rows();
     if let Some(place) = first_unlawful(plan, first, second) {
-        return Err(CheckFault::Broken { rule: PlanRule::PiecesLawful, place: place as u64 });
+        return Err(CheckFault::Broken {
+            rule: PlanRule::PiecesLawful,
+            place: place as u64,
+        });
     }
     let staged = match each_once(alloc, plan, first, second)? {
         Ok(staged) => staged,
-        Err(place) => return Err(CheckFault::Broken { rule: PlanRule::PiecesComplete, place }),
+        Err(place) => return Err(CheckFault::Broken {
+            rule: PlanRule::PiecesComplete,
+            place,
+        }),
     };
     let marks = match one_each(alloc, plan, Role::Marks)? {
         Ok(marks) => marks,
-        Err(place) => return Err(CheckFault::Broken { rule: PlanRule::OneMark, place }),
+        Err(place) => return Err(CheckFault::Broken {
+            rule: PlanRule::OneMark,
+            place,
+        }),
     };
-    Ok(Index { commits, marks, staged })
+    Ok(Index {
+        commits,
+        marks,
+        staged,
+    })
 }
 
 /// The rules about what commits and marks wait for.
@@ -100,14 +137,23 @@ fn check_order(alloc: Global, plan: &Plan, state: &State, index: &Index) -> Resu
     ensures told { IfErr result (IsTold (snapshot_of state.now) plan.now) }
 {
     if let Some(place) = first_without_piece(plan, &index.commits) {
-        return Err(CheckFault::Broken { rule: PlanRule::PiecesFirst, place: place as u64 });
+        return Err(CheckFault::Broken {
+            rule: PlanRule::PiecesFirst,
+            place: place as u64,
+        });
     }
     if let Some(place) = first_without_commit(plan, &index.commits) {
-        return Err(CheckFault::Broken { rule: PlanRule::CommitFirst, place: place as u64 });
+        return Err(CheckFault::Broken {
+            rule: PlanRule::CommitFirst,
+            place: place as u64,
+        });
     }
     let nearest = nearest_dirs(alloc, plan.entries.as_slice())?;
     match first_without_dir(plan, &nearest, &index.marks) {
-        Some(place) => Err(CheckFault::Broken { rule: PlanRule::DirFirst, place: place as u64 }),
+        Some(place) => Err(CheckFault::Broken {
+            rule: PlanRule::DirFirst,
+            place: place as u64,
+        }),
         None => Ok(()),
     }
 }
@@ -123,14 +169,27 @@ pub fn check<'a>(
     holds: &'a Holds,
 ) -> Result<Checked<'a>, CheckFault>
     ensures valid { OnOk result (Valid (listed_snapshot archive.entry.now first.entry.now second.entry.now holds.entry.now) plan.entry.now) }
+    ensures safe { OnOk result (IsSafe (listed_snapshot archive.entry.now first.entry.now second.entry.now holds.entry.now) plan.entry.now) }
     ensures told { IfErr result (IsTold (listed_snapshot archive.entry.now first.entry.now second.entry.now holds.entry.now) plan.entry.now) }
 {
     let _archive = archive.rows();
     let _first = first.rows();
     let _second = second.rows();
-    let state = State { archive, first, second, holds };
+    let state = State {
+        archive,
+        first,
+        second,
+        holds,
+    };
     check_entries(alloc, plan, &state)?;
     let index = check_actions(alloc, plan, &state)?;
     check_order(alloc, plan, &state, &index)?;
-    Ok(Checked { plan, archive, first, second, index })
+    valid_plans_are_safe();
+    Ok(Checked {
+        plan,
+        archive,
+        first,
+        second,
+        index,
+    })
 }

@@ -80,8 +80,11 @@ count_front {A} f (x ∷ xs) (suc i) le front back =
 pub entry_absent : (entries : List Entry) (p : Path) (i : ℕ) → i ≤ length entries → ((k : ℕ) (d : Entry) → 0 ≤ k → k < i → path_cmp (get_or entries k d).path p ≡ Less)
     → ((k : ℕ) (d : Entry) → i ≤ k → k < length entries → path_cmp (get_or entries k d).path p ≡ Greater)
     → ((k : ℕ) (entry : Entry) → slice_get entries k ≡ Some entry → entry.path ≢ p) × (i ≡ count_by (λ e. is_lt (path_cmp e.path p)) entries)
-entry_absent entries p i le front back = (absent, sym (count_front (λ (e : Entry). is_lt (path_cmp e.path p)) entries i le
-    (λ k x is less. ap is_lt (front_at k x is less)) (λ k x is more. ap is_lt (back_at k x is more))))
+entry_absent entries p i le front back = (
+  absent,
+  sym (count_front (λ (e : Entry). is_lt (path_cmp e.path p)) entries i le
+      (λ k x is less. ap is_lt (front_at k x is less)) (λ k x is more. ap is_lt (back_at k x is more))),
+)
   where
     front_at : (k : ℕ) (x : Entry) → slice_get entries k ≡ Some x → k < i → path_cmp x.path p ≡ Less
     front_at k x is less = subst (λ (z : Entry). path_cmp z.path p ≡ Less) (get_or_from_slice_get entries k x x is) (front k x (omega arith) less)
@@ -97,19 +100,19 @@ entry_absent entries p i le front back = (absent, sym (count_front (λ (e : Entr
 -- what a search for a path among the entries tells
 pub entries_search : (entries : List Entry) (p : Path) (r : Result ℕ ℕ) → ((k : ℕ) → ¬ IsOutOfOrder entries k) → IsSearchInRange r (length entries) → IsBinarySearchResult (λ (e : Entry). path_cmp e.path p) entries r
     → MatchOption (result_err r) ((k : ℕ) × (entry : Entry) × (slice_get entries k ≡ Some entry) × (entry.path ≡ p))
-        (λ place. ((k : ℕ) (entry : Entry) → slice_get entries k ≡ Some entry → entry.path ≢ p) × (place ≡ count_by (λ e. is_lt (path_cmp e.path p)) entries))
+    (λ place. ((k : ℕ) (entry : Entry) → slice_get entries k ≡ Some entry → entry.path ≢ p) × (place ≡ count_by (λ e. is_lt (path_cmp e.path p)) entries))
 entries_search entries p (Ok i) order within h = entry_there entries order p i within h
 entries_search entries p (Err i) order within h = let parted = h (entries_rise entries order p) in entry_absent entries p i within parted.0 parted.1
 
 -- its parts
 pub search_none : (entries : List Entry) (p : Path) (o : Option ℕ) → MatchOption o ((k : ℕ) × (entry : Entry) × (slice_get entries k ≡ Some entry) × (entry.path ≡ p))
-        (λ place. ((k : ℕ) (entry : Entry) → slice_get entries k ≡ Some entry → entry.path ≢ p) × (place ≡ count_by (λ e. is_lt (path_cmp e.path p)) entries))
+    (λ place. ((k : ℕ) (entry : Entry) → slice_get entries k ≡ Some entry → entry.path ≢ p) × (place ≡ count_by (λ e. is_lt (path_cmp e.path p)) entries))
     → IfNone o ((k : ℕ) × (entry : Entry) × (slice_get entries k ≡ Some entry) × (entry.path ≡ p))
 search_none entries p None h = h
 search_none entries p (Some k) h = tt
 
 pub search_absent : (entries : List Entry) (p : Path) (o : Option ℕ) → MatchOption o ((k : ℕ) × (entry : Entry) × (slice_get entries k ≡ Some entry) × (entry.path ≡ p))
-        (λ place. ((k : ℕ) (entry : Entry) → slice_get entries k ≡ Some entry → entry.path ≢ p) × (place ≡ count_by (λ e. is_lt (path_cmp e.path p)) entries))
+    (λ place. ((k : ℕ) (entry : Entry) → slice_get entries k ≡ Some entry → entry.path ≢ p) × (place ≡ count_by (λ e. is_lt (path_cmp e.path p)) entries))
     → IfSome o (λ _. (k : ℕ) (entry : Entry) → slice_get entries k ≡ Some entry → entry.path ≢ p) × IfSome o (λ place. place ≡ count_by (λ e. is_lt (path_cmp e.path p)) entries)
 search_absent entries p None h = (tt, tt)
 search_absent entries p (Some k) h = h

@@ -76,8 +76,7 @@ pub below_any : (rows : Listing Stamp) (p : Path) (P : Path → Type 0) → IsLi
 below_any rows p P lists h =
     let there : All (λ (row : Row Stamp). at rows row.path ≢ Absent) rows = λ k d less. row_there rows lists k (get_or rows k d) (slice_get-get_or rows k d less) in
     let kept = All-filter (λ (row : Row Stamp). is_above p row.path) (λ (row : Row Stamp). at rows row.path ≢ Absent) rows there in
-    let passes = filter_passes (λ (row : Row Stamp). is_above p row.path) rows in
-    (
+    let passes = filter_passes (λ (row : Row Stamp). is_above p row.path) rows in (
       h.1.path,
       is_above_gives p h.1.path (subst (λ (z : Row Stamp). is_above p z.path ≡ true) h.3 (passes h.0 h.1 h.2)),
       subst (λ (z : Row Stamp). at rows z.path ≢ Absent) h.3 (kept h.0 h.1 h.2),

@@ -142,7 +142,11 @@ fn reason_of_edge(alloc: Global, state: &State, path: &Path) -> Result<Option<Re
 {
     let first_changed = !is_same_below(state.first, state.archive, path);
     if is_same_below(state.first, state.second, path) {
-        return Ok(if first_changed { Some(Reason::Same) } else { None });
+        return Ok(if first_changed {
+            Some(Reason::Same)
+        } else {
+            None
+        });
     }
     let second_changed = !is_same_below(state.second, state.archive, path);
     let held = touches_held(alloc, state, path)?;
@@ -158,7 +162,11 @@ pub fn reason_of(alloc: Global, state: &State, path: &Path) -> Result<Option<Rea
         return Ok(None);
     }
     if are_dirs(state, path) {
-        return Ok(if is_dir(state.archive, path) { None } else { Some(Reason::Dir) });
+        return Ok(if is_dir(state.archive, path) {
+            None
+        } else {
+            Some(Reason::Dir)
+        });
     }
     reason_of_edge(alloc, state, path)
 }

@@ -3,7 +3,6 @@
 ghost use Rattle.std.specs.Prelude.{◌≡◌, ◌≤◌, ◌≢◌, ◌↔◌, ℕ, length, IsTrue, IfOk, IfNone, IfSome, MatchOption, Some, None, slice_get, count_by};
 ghost use Rattle.ts_model.specs.Plans.{HasWrongReason, IsOutOfOrder, Lacks};
 ghost use Rattle.ts_need.specs.Needs.{AreListings, IsFirst, IsNeedAnswer, LacksAmong, LacksAt, Never, lesser_of, snapshot_of};
-
 ghost use Rattle.std.specs.Ordering.{is_lt};
 ghost use Rattle.ts_model.specs.Sync.{listed_snapshot};
 ghost use Rattle.ts_model.specs.declared.plan.Entry.{Entry};
@@ -31,7 +30,11 @@ fn is_reason(found: Option<Reason>, reason: Reason) -> bool
 }
 
 /// The first entry whose path hasn't the entry's reason.
-fn first_wrong_reason(alloc: Global, state: &State, entries: &[Entry]) -> Result<Option<usize>, NeedFault>
+fn first_wrong_reason(
+    alloc: Global,
+    state: &State,
+    entries: &[Entry],
+) -> Result<Option<usize>, NeedFault>
     requires { AreListings state.now }
     ensures { IfOk result (λ found. IsFirst (HasWrongReason (snapshot_of state.now) entries.now) found) }
 {
@@ -55,7 +58,12 @@ fn place_of(entries: &[Entry], path: &Path) -> Option<usize>
 }
 
 /// The place of a path that has a reason and is no entry.
-fn lacking_place(alloc: Global, state: &State, entries: &[Entry], path: &Path) -> Result<Option<usize>, NeedFault>
+fn lacking_place(
+    alloc: Global,
+    state: &State,
+    entries: &[Entry],
+    path: &Path,
+) -> Result<Option<usize>, NeedFault>
     requires listing { AreListings state.now }
     requires order { Never (IsOutOfOrder entries.now) }
     ensures { IfOk result (λ found. MatchOption found ((place : ℕ) → ¬ LacksAt (snapshot_of state.now) entries.now path.now place) (LacksAt (snapshot_of state.now) entries.now path.now)) }
@@ -81,7 +89,12 @@ fn lesser(one: Option<usize>, other: Option<usize>) -> Option<usize>
 }
 
 /// The least place where a path of these rows has a reason and is no entry.
-fn least_lacking(alloc: Global, state: &State, entries: &[Entry], rows: &[Row<Stamp>]) -> Result<Option<usize>, NeedFault>
+fn least_lacking(
+    alloc: Global,
+    state: &State,
+    entries: &[Entry],
+    rows: &[Row<Stamp>],
+) -> Result<Option<usize>, NeedFault>
     requires listing { AreListings state.now }
     requires order { Never (IsOutOfOrder entries.now) }
     ensures { IfOk result (λ found. IsFirst (LacksAmong (snapshot_of state.now) entries.now rows.now (length rows.now)) found) }
@@ -95,7 +108,11 @@ fn least_lacking(alloc: Global, state: &State, entries: &[Entry], rows: &[Row<St
 }
 
 /// The least place where a path with a reason is no entry.
-fn first_lacking(alloc: Global, state: &State, entries: &[Entry]) -> Result<Option<usize>, NeedFault>
+fn first_lacking(
+    alloc: Global,
+    state: &State,
+    entries: &[Entry],
+) -> Result<Option<usize>, NeedFault>
     requires listing { AreListings state.now }
     requires order { Never (IsOutOfOrder entries.now) }
     ensures { IfOk result (λ found. IsFirst (Lacks (snapshot_of state.now) entries.now) found) }
@@ -121,12 +138,23 @@ pub fn first_wrong<'a>(
     let _archive = archive.rows();
     let _first = first.rows();
     let _second = second.rows();
-    let state = State { archive, first, second, holds };
+    let state = State {
+        archive,
+        first,
+        second,
+        holds,
+    };
     if let Some(place) = first_wrong_reason(alloc, &state, entries)? {
-        return Ok(Some(Broken { rule: PlanRule::ReasonsHold, place: place as u64 }));
+        return Ok(Some(Broken {
+            rule: PlanRule::ReasonsHold,
+            place: place as u64,
+        }));
     }
     match first_lacking(alloc, &state, entries)? {
-        Some(place) => Ok(Some(Broken { rule: PlanRule::EntriesComplete, place: place as u64 })),
+        Some(place) => Ok(Some(Broken {
+            rule: PlanRule::EntriesComplete,
+            place: place as u64,
+        })),
         None => Ok(None),
     }
 }

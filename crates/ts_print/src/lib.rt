@@ -10,7 +10,7 @@ pub mod reader;
 pub mod stamps;
 
 pub use decoding::decode;
-pub use encoding::encode;
+pub use encoding::{encode, write_row};
 pub use fault::PrintFault;
 pub use print::{Print, Seen};
 pub use reader::PrintReader;

@@ -1,5 +1,5 @@
 ghost use Rattle.std.specs.List.{AllByRecursion};
-ghost use Rattle.std.specs.Prelude.{◌≡◌, ◌≢◌, true, false, ◌++◌, ◌∷◌, ◌↔◌, [], IfErr, IfOk, IsErrOf, IsTrue, MatchResult, OnErr, OnOk, is_ok, if◌then◌else◌};
+ghost use Rattle.std.specs.Prelude.{◌≡◌, ◌≢◌, ◌⊎◌, true, false, ◌++◌, ◌∷◌, ◌↔◌, [], IfErr, IfOk, IsErrOf, IsTrue, MatchResult, OnErr, OnOk, is_ok, if◌then◌else◌};
 ghost use Rattle.ts_model.specs.Runs.{bare_directory, graft};
 ghost use Rattle.ts_model.specs.Trees.{IsListing, at, listed, print_of, sub};
 ghost use Rattle.ts_model.specs.declared.row.Content.{Content};
@@ -7,6 +7,7 @@ ghost use Rattle.ts_model.specs.declared.row.Content.TheVariants.{Absent};
 ghost use Rattle.ts_model.specs.declared.row.Stamp.{Stamp};
 ghost use Rattle.ts_name.specs.Paths.{IsPath};
 ghost use Rattle.ts_print.specs.Prints.{stamped_rows};
+ghost use Rattle.ts_table.specs.Splices.{ArePaths, ArePlaces, AreInOrder, grafted};
 ghost use Rattle.ts_table.specs.Tables.{IsPlace, placed, rows_below};
 
 use crate::fault::PrintFault;
@@ -16,7 +17,7 @@ use std::marker::Model;
 use ts_model::items::Items;
 use ts_model::row::{Content, Row, Stamp};
 use ts_name::Path;
-use ts_table::{SubTable, Table};
+use ts_table::{Edit, SubTable, Table};
 use ts_tree::Tree;
 
 /// What is at a path of a print: nothing, a directory, or a file with its stamp.
@@ -113,9 +114,12 @@ impl Print {
     /// What is at a path and below it, by paths relative to it.
     pub fn sub_table(&self, alloc: Global, path: &Path) -> Result<SubTable<Stamp>, PrintFault>
         ensures part { IfOk result (λ part. listed part ≡ sub (at self.now) path.now) }
+        ensures paths { IfOk result (λ part. AllByRecursion (λ row. IsPath row.path) (placed path.now part)) }
         ensures fault { IfErr result (λ e. e ≡ PrintFault.OutOfMemory) }
     {
         let part = self.table.sub_table(alloc, path)?;
+        let _rows = self.table.rows();
+        let _part_rows = part.rows();
         Ok(part)
     }
 
@@ -145,6 +149,23 @@ impl Print {
         ensures err { OnErr result (self.new ≡ self.old) }
     {
         self.table.make_dir(alloc, path)?;
+        Ok(())
+    }
+
+    /// Makes many edits in one pass, each after the one before it: the paths ascend, and an edit may stand below an
+    /// earlier one, where that one's rows all come before it, as those of a bare directory do.
+    ///
+    /// `TooLong` where a path would be past the limits. After a fault nothing has changed, and the edits are dropped.
+    pub fn splice(&mut self, alloc: Global, edits: Vec<Edit<Stamp>>) -> Result<(), PrintFault>
+        requires places { ArePlaces (at self.old) edits.items }
+        requires order { AreInOrder edits.items }
+        ensures ok { OnOk result (at self.new ≡ grafted (at self.old) edits.items) }
+        ensures paths { OnOk result (ArePaths edits.items) }
+        ensures too_long { IsErrOf result PrintFault.TooLong → ¬ ArePaths edits.items }
+        ensures fault { IfErr result (λ e. (e ≡ PrintFault.OutOfMemory) ⊎ (e ≡ PrintFault.TooLong)) }
+        ensures err { OnErr result (self.new ≡ self.old) }
+    {
+        self.table.splice(alloc, edits)?;
         Ok(())
     }
 

@@ -104,9 +104,11 @@ IsListing-placed {F} p front mid back part lists cut place of_part paths = recor
 
 -- ---- one row after all others
 
+-- a path after all rows cuts them at their end
 one_row_cut : {F : Type 0} (rows : Listing F) (p : Path) → AllByRecursion (λ other. IsBefore other.path p) rows → IsCut p rows [] []
 one_row_cut rows p before = record { before = before; below = tt; after = tt }
 
+-- one content alone is what is at a path
 one_row_sub : {F : Type 0} (content : Content F) → content ≢ Absent → IsPath [] → IsSubListing (record { path = []; content = content } ∷ [])
 one_row_sub {F} content some root = record {
   ascending = tt;
@@ -137,10 +139,12 @@ pub at_front : {F : Type 0} (rows : Listing F) (row : Row F) (q : Path) → row.
 at_front rows row [] differ = refl
 at_front rows row (n ∷ q) differ = listed_before rows (row ∷ []) (n ∷ q) (differ, tt)
 
+-- a path is not its own parent
 longer : (p : Path) (name : Name) → p ++ name ∷ [] ≢ p
 longer [] name e = cc
 longer (n ∷ p) name e = longer p name cc
 
+-- and only such a row may
 pub IsNext-from_push : {F : Type 0} (rows : Listing F) (row : Row F) → IsListing (rows ++ row ∷ []) → IsNext rows row.path
 IsNext-from_push {F} rows row lists = record {
   before = weaker (λ (other : Row F). IsBefore other.path row.path × Unit {0}) (λ other. IsBefore other.path row.path) (λ other h. h.0) rows (ascend_across rows (row ∷ []) lists.ascending);
@@ -174,6 +178,7 @@ IsNext-from_push {F} rows row lists = record {
 
 -- ---- the front of a listing
 
+-- what a front lists the whole lists
 listed_stays : {F : Type 0} (xs ys : Listing F) (p : Path) → listed xs p ≢ Absent → listed (xs ++ ys) p ≡ listed xs p
 listed_stays [] ys p there = absurd (there refl)
 listed_stays {F} (x ∷ xs) ys p there = go (same_path x.path p) there (listed_stays xs ys p)
@@ -216,6 +221,7 @@ pub record IsReplaced {F : Type 0} (rows new : Listing F) (p : Path) (part : Lis
   pub listing : IsListing new
   pub tree : at new ≡ graft (at rows) p (listed part)
 
+-- they are a listing, of the graft
 pub replaced : {F : Type 0} (rows new : Listing F) (p : Path) (part : Listing F) (start end : ℕ) → IsListing rows → start ≤ end → IsCut p (take start rows) (take (end - start) (drop start rows)) (drop end rows) → IsPlace (at rows) p → IsSubListing part → AllByRecursion (λ row. IsPath row.path) (placed p part) → new ≡ take start rows ++ (placed p part ++ drop end rows) → IsReplaced rows new p part
 replaced {F} rows new p part start end lists le cut place of_part paths is =
     let parts = whole rows start end le in

@@ -30,6 +30,7 @@ after_is_Greater p q h = go (path_cmp q p) refl
     go Equal e = absurd (before_itself p (subst (λ z. IsBefore p z) (tied_paths q p e) h))
     go Greater e = e
 
+-- and what does not come before or tie comes after
 Greater_is_after : (p q : Path) → path_cmp q p ≡ Greater → IsBefore p q
 Greater_is_after p q h = elim (before_cases p q) [
   | inl before ↦ before
@@ -55,6 +56,7 @@ rises {F} rows p up i j d le under = elim (same_or_less i j le) [
     go Greater e Equal f before = absurd (before_itself p (before_trans p (get_or rows i d).path p (Greater_is_after p (get_or rows i d).path e) (subst (λ z. IsBefore (get_or rows i d).path z) (tied_paths (get_or rows j d).path p f) before)))
     go Greater e Greater f before = omega arith
 
+-- below the root, what is there is what is listed
 at_listed : {F : Type 0} (rows : Listing F) (p : Path) → p ≢ [] → at rows p ≡ listed rows p
 at_listed rows [] some = absurd (some refl)
 at_listed rows (n ∷ p) some = refl
@@ -82,6 +84,7 @@ not_found {F} rows p i some under parted = sym (at_listed rows p some ∙ ap (λ
 
 -- ---- the rows at or below a path
 
+-- the test for `Less`
 pub is_lt_Less : (o : Ordering) → is_lt o ≡ true → o ≡ Less
 is_lt_Less Less e = refl
 is_lt_Less Equal e = cc

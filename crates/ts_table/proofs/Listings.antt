@@ -56,6 +56,7 @@ one_listed {F} (x ∷ xs) (y ∷ ys) up_x up_y there_x there_y same = ap₂ ◌�
 
 -- ---- the rows below a path
 
+-- the test holds where a path is above
 pub is_above_yes : (p q : Path) → IsAbove p q → is_above p q ≡ true
 is_above_yes p q h = go (below p q) (ap (below p) h.1 ∙ below_append p h.0)
   where
@@ -63,6 +64,7 @@ is_above_yes p q h = go (below p q) (ap (below p) h.1 ∙ below_append p h.0)
     go None e = cc
     go (Some rest) e = refl
 
+-- and only there
 pub is_above_gives : (p q : Path) → is_above p q ≡ true → IsAbove p q
 is_above_gives p q h = go (below p q) refl h
   where
@@ -70,6 +72,7 @@ is_above_gives p q h = go (below p q) refl h
     go None e f = cc
     go (Some rest) e f = (rest, below_gives p q rest e)
 
+-- it fails where a path is not above
 pub is_above_no : (p q : Path) → ¬ IsAbove p q → is_above p q ≡ false
 is_above_no p q off = go (is_above p q) refl
   where
@@ -77,17 +80,21 @@ is_above_no p q off = go (is_above p q) refl
     go true e = absurd (off (is_above_gives p q e))
     go false e = e
 
+-- and only there
 pub not_above_gives : (p q : Path) → is_above p q ≡ false → ¬ IsAbove p q
 not_above_gives p q e h = let f = is_above_yes p q h in cc
 
+-- a filter that no element passes keeps none
 filter_none : {A : Type 0} (test : A → Bool) (xs : List A) → AllByRecursion (λ x. test x ≡ false) xs → filter test xs ≡ []
 filter_none test [] h = refl
 filter_none test (x ∷ xs) h = cond-false _ _ _ h.0 ∙ filter_none test xs h.1
 
+-- a filter that each element passes keeps all
 filter_each : {A : Type 0} (test : A → Bool) (xs : List A) → AllByRecursion (λ x. test x ≡ true) xs → filter test xs ≡ xs
 filter_each test [] h = refl
 filter_each test (x ∷ xs) h = cond-true _ _ _ h.0 ∙ ap (λ z. x ∷ z) (filter_each test xs h.1)
 
+-- a filter goes through the parts of a list
 filter_append : {A : Type 0} (test : A → Bool) (xs ys : List A) → filter test (xs ++ ys) ≡ filter test xs ++ filter test ys
 filter_append test [] ys = refl
 filter_append test (x ∷ xs) ys = go (test x) (filter_append test xs ys)
@@ -105,6 +112,7 @@ filter_all P test (x ∷ xs) h = go (test x) (filter_all P test xs h.1)
     go true more = (h.0, more)
     go false more = more
 
+-- what a filter keeps ascends
 pub filter_ascend : {F : Type 0} (test : Row F → Bool) (rows : Listing F) → Ascend rows → Ascend (filter test rows)
 filter_ascend test [] h = tt
 filter_ascend {F} test (row ∷ rows) h = go (test row) (filter_ascend test rows (ascend_rest row rows h))
@@ -178,6 +186,7 @@ same_rows_below {F} xs ys p lists_x lists_y same =
       | inr off ↦ not_listed_below p q xs off ∙ sym (not_listed_below p q ys off)
     ]
 
+-- and the same rows there make them the same
 pub same_sub : {F : Type 0} (xs ys : Listing F) (p : Path) → rows_below p xs ≡ rows_below p ys → sub (at xs) p ≡ sub (at ys) p
 same_sub {F} xs ys p e = by_each _ _ (λ rest. at_same (p ++ rest) (rest, refl))
   where

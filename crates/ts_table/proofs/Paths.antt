@@ -98,6 +98,7 @@ same_path_differ p q differ = false_from_ne_true _ (λ h. differ (same_path_equa
 name_total : IsTotalOrder (slice_cmp nat_cmp)
 name_total = nat_list_cmp_total
 
+-- the order of paths is total
 pub path_total : IsTotalOrder path_cmp
 path_total = lists_total nat_list_cmp_total
 
@@ -109,6 +110,7 @@ before_itself p h = let same : path_cmp p p ≡ Equal = tied_itself path_total p
 pub before_trans : (p q r : Path) → IsBefore p q → IsBefore q r → IsBefore p r
 before_trans p q r h k = path_total.trans p q r h k
 
+-- two comparisons in turn tie where both do
 then_Equal : (o r : Ordering) → ordering_then o r ≡ Equal → (o ≡ Equal) × (r ≡ Equal)
 then_Equal Less r e = cc
 then_Equal Equal r e = (refl, e)

@@ -7,6 +7,7 @@ use Rattle.ts_model.specs.declared.row.Row.{Row}
 use Rattle.ts_table.specs.Tables.{placed}
 use Rattle.ts_table.proofs.Rows.{all_append, all_right}
 
+-- rows are placed part by part
 pub placed_append : {F : Type 0} (p : Path) (xs ys : Listing F) → placed p (xs ++ ys) ≡ placed p xs ++ placed p ys
 placed_append p [] ys = refl
 placed_append p (x ∷ xs) ys = ap (λ z. record { path = p ++ x.path; content = x.content } ∷ z) (placed_append p xs ys)

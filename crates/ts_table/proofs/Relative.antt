@@ -16,6 +16,7 @@ use Rattle.ts_table.proofs.Rows.{by_each, weaker, all_append, all_right, ascend_
 use Rattle.ts_table.proofs.Listings.{filter_ascend, filter_all, listed_below}
 use Rattle.ts_table.proofs.Cuts.{HasParents, IsPath-root}
 
+-- rows are seen from a path part by part
 pub relative_append : {F : Type 0} (p : Path) (xs ys : Listing F) → relative p (xs ++ ys) ≡ relative p xs ++ relative p ys
 relative_append p [] ys = refl
 relative_append {F} p (x ∷ xs) ys = go (below p x.path) (relative_append p xs ys)
@@ -78,6 +79,7 @@ relative_all {F} P p (row ∷ rows) h = go (below p row.path) refl (relative_all
     go None e more = more
     go (Some rest) e more = (h.0 rest (below_gives p row.path rest e), more)
 
+-- no row seen from a path is absent
 relative_some : {F : Type 0} (p : Path) (rows : Listing F) → AllByRecursion (λ row. row.content ≢ Absent) rows → AllByRecursion (λ row. row.content ≢ Absent) (relative p rows)
 relative_some p [] h = tt
 relative_some {F} p (row ∷ rows) h = go (below p row.path) (relative_some p rows h.1)
@@ -86,6 +88,7 @@ relative_some {F} p (row ∷ rows) h = go (below p row.path) (relative_some p ro
     go None more = more
     go (Some rest) more = (h.0, more)
 
+-- rows seen from a path ascend
 relative_ascend : {F : Type 0} (p : Path) (rows : Listing F) → Ascend rows → Ascend (relative p rows)
 relative_ascend p [] h = tt
 relative_ascend {F} p (row ∷ rows) h = go (below p row.path) refl (relative_ascend p rows (ascend_rest row rows h))
@@ -103,6 +106,7 @@ pub record IsPart {F : Type 0} (rows part : Listing F) (p : Path) : Type 0 where
   pub listing : IsSubListing part
   pub tree : listed part ≡ sub (at rows) p
 
+-- it is the part of the tree from the path down
 pub part_of : {F : Type 0} (rows : Listing F) (p : Path) → IsListing rows → IsPart rows (root_row p ++ relative p (rows_below p rows)) p
 part_of {F} rows p lists = record { listing = record { ascending = ascending p refl; rows_are = all_append (λ (row : Row F). IsPath row.path × (row.content ≢ Absent)) (root_row p) _ (root_is p) rest_is; parents = parents }; tree = tree }
   where
@@ -160,6 +164,7 @@ pub relative_more : {F : Type 0} (p : Path) (front xs : Listing F) (i : ℕ) (ro
 relative_more p front xs i row rest under is e =
     ap (λ z. front ++ relative p z) (take_more xs i row under ∙ ap (λ z. take i xs ++ z ∷ []) (sym is)) ∙ relative_push p front (take i xs) row rest e
 
+-- the row at an index is not below the path
 pub relative_pass : {F : Type 0} (p : Path) (front xs : Listing F) (i : ℕ) (row : Row F) → i < length xs → row ≡ get_or xs i row → None ≡ below p row.path → front ++ relative p (take (i + 1) xs) ≡ front ++ relative p (take i xs)
 relative_pass p front xs i row under is e =
     ap (λ z. front ++ relative p z) (take_more xs i row under ∙ ap (λ z. take i xs ++ z ∷ []) (sym is)) ∙ relative_skip p front (take i xs) row e

@@ -21,26 +21,32 @@ by_each f g h = λ i. λ x. h x i
 pub at_each : {A B : Type 0} {f g : A → B} → f ≡ g → (x : A) → f x ≡ g x
 at_each e x = ap (λ h. h x) e
 
+-- what each element has, each has in a weaker form
 pub weaker : {A : Type 0} (P Q : A → Type 0) → ((x : A) → P x → Q x) → (xs : List A) → AllByRecursion P xs → AllByRecursion Q xs
 weaker P Q h [] all = tt
 weaker P Q h (x ∷ xs) all = (h x all.0, weaker P Q h xs all.1)
 
+-- what holds in two parts holds in the whole
 pub all_append : {A : Type 0} (P : A → Type 0) (xs ys : List A) → AllByRecursion P xs → AllByRecursion P ys → AllByRecursion P (xs ++ ys)
 all_append P [] ys h k = k
 all_append P (x ∷ xs) ys h k = (h.0, all_append P xs ys h.1 k)
 
+-- what holds in the whole holds in its front
 pub all_left : {A : Type 0} (P : A → Type 0) (xs ys : List A) → AllByRecursion P (xs ++ ys) → AllByRecursion P xs
 all_left P [] ys h = tt
 all_left P (x ∷ xs) ys h = (h.0, all_left P xs ys h.1)
 
+-- and in what follows
 pub all_right : {A : Type 0} (P : A → Type 0) (xs ys : List A) → AllByRecursion P (xs ++ ys) → AllByRecursion P ys
 all_right P [] ys h = h
 all_right P (x ∷ xs) ys h = all_right P xs ys h.1
 
+-- two facts of each element are one
 pub all_both : {A : Type 0} (P Q : A → Type 0) (xs : List A) → AllByRecursion P xs → AllByRecursion Q xs → AllByRecursion (λ x. P x × Q x) xs
 all_both P Q [] h k = tt
 all_both P Q (x ∷ xs) h k = ((h.0, k.0), all_both P Q xs h.1 k.1)
 
+-- what holds after a map
 pub all_map : {A B : Type 0} (P : B → Type 0) (f : A → B) (xs : List A) → AllByRecursion (λ x. P (f x)) xs → AllByRecursion P (map f xs)
 all_map P f [] h = tt
 all_map P f (x ∷ xs) h = (h.0, all_map P f xs h.1)
@@ -49,11 +55,13 @@ all_map P f (x ∷ xs) h = (h.0, all_map P f xs h.1)
 pub all_before : {A : Type 0} (P : A → Type 0) (xs : List A) (n : ℕ) → n ≤ length xs → AllWithin P xs 0 n → AllByRecursion P (take n xs)
 all_before P xs n short h = recursion_from_All P (take n xs) (λ k d below. let cut = length-take-le n xs short in let under : k < n = omega arith in rw get_or-take (h k d (omega arith) under))
 
+-- of the second part
 pub all_from : {A : Type 0} (P : A → Type 0) (xs : List A) (n : ℕ) → n ≤ length xs → AllWithin P xs n (length xs) → AllByRecursion P (drop n xs)
 all_from P xs n short h = recursion_from_All P (drop n xs) (λ k d below. let cut = length-drop n xs in rw get_or-drop (h (n + k) d (omega arith) (omega arith)))
 
 -- ---- what ascends
 
+-- the rows after the first ascend
 pub ascend_rest : {F : Type 0} (row : Row F) (rows : Listing F) → Ascend (row ∷ rows) → Ascend rows
 ascend_rest row [] h = tt
 ascend_rest row (next ∷ rows) h = h.1
@@ -68,10 +76,12 @@ pub ascend_cons : {F : Type 0} (row : Row F) (rows : Listing F) → AllByRecursi
 ascend_cons row [] h k = tt
 ascend_cons row (next ∷ rows) h k = (h.0, k)
 
+-- a front ascends
 pub ascend_left : {F : Type 0} (xs ys : Listing F) → Ascend (xs ++ ys) → Ascend xs
 ascend_left [] ys h = tt
 ascend_left {F} (x ∷ xs) ys h = ascend_cons x xs (all_left (λ (other : Row F). IsBefore x.path other.path) xs ys (ascend_first x (xs ++ ys) h)) (ascend_left xs ys (ascend_rest x (xs ++ ys) h))
 
+-- and so does what follows
 pub ascend_right : {F : Type 0} (xs ys : Listing F) → Ascend (xs ++ ys) → Ascend ys
 ascend_right [] ys h = h
 ascend_right (x ∷ xs) ys h = ascend_right xs ys (ascend_rest x (xs ++ ys) h)
@@ -80,12 +90,14 @@ ascend_right (x ∷ xs) ys h = ascend_right xs ys (ascend_rest x (xs ++ ys) h)
 abbrev pub AllBefore : {F : Type 0} → Listing F → Listing F → Type 0
 AllBefore xs ys = AllByRecursion (λ x. AllByRecursion (λ y. IsBefore x.path y.path) ys) xs
 
+-- two parts ascend together where the first comes before the second
 pub ascend_join : {F : Type 0} (xs ys : Listing F) → Ascend xs → Ascend ys → AllBefore xs ys → Ascend (xs ++ ys)
 ascend_join [] ys h k across = k
 ascend_join {F} (x ∷ xs) ys h k across =
     ascend_cons x (xs ++ ys) (all_append (λ (other : Row F). IsBefore x.path other.path) xs ys (ascend_first x xs h) across.0)
     (ascend_join xs ys (ascend_rest x xs h) k across.1)
 
+-- as it does where they ascend together
 pub ascend_across : {F : Type 0} (xs ys : Listing F) → Ascend (xs ++ ys) → AllBefore xs ys
 ascend_across [] ys h = tt
 ascend_across {F} (x ∷ xs) ys h = (all_right (λ (other : Row F). IsBefore x.path other.path) xs ys (ascend_first x (xs ++ ys) h), ascend_across xs ys (ascend_rest x (xs ++ ys) h))
@@ -128,10 +140,12 @@ pub listed_append : {F : Type 0} (xs ys zs : Listing F) (p : Path) → listed ys
 listed_append [] ys zs p e = e
 listed_append (x ∷ xs) ys zs p e = ap (cond (same_path x.path p) x.content) (listed_append xs ys zs p e)
 
+-- nothing at the end changes nothing
 append_none : {F : Type 0} (xs : Listing F) → xs ++ [] ≡ xs
 append_none [] = refl
 append_none (x ∷ xs) = ap (λ z. x ∷ z) (append_none xs)
 
+-- rows of other paths at the end do not count
 pub listed_before : {F : Type 0} (xs ys : Listing F) (p : Path) → AllByRecursion (λ row. row.path ≢ p) ys → listed (xs ++ ys) p ≡ listed xs p
 listed_before xs ys p all = listed_append xs ys [] p (listed_none ys p all) ∙ ap (λ z. listed z p) (append_none xs)
 
@@ -165,9 +179,11 @@ placed_ascend p (row ∷ next ∷ rows) h = (below_order p row.path next.path �
 pub front_off : {F : Type 0} (p q : Path) (front : Listing F) → AllByRecursion (λ row. IsBefore row.path p) front → IsAbove p q → AllByRecursion (λ row. row.path ≢ q) front
 front_off {F} p q front h above = weaker (λ (row : Row F). IsBefore row.path p) (λ row. row.path ≢ q) (λ row before e. before_not_below row.path p before (subst (λ z. IsAbove p z) (sym e) above)) front h
 
+-- nor is anything after it
 pub back_off : {F : Type 0} (p q : Path) (back : Listing F) → AllByRecursion (λ row. IsBefore p row.path × (¬ IsAbove p row.path)) back → IsAbove p q → AllByRecursion (λ row. row.path ≢ q) back
 back_off {F} p q back h above = weaker (λ (row : Row F). IsBefore p row.path × (¬ IsAbove p row.path)) (λ row. row.path ≢ q) (λ row after e. after.1 (subst (λ z. IsAbove p z) (sym e) above)) back h
 
+-- and what stands below the path is nowhere else
 pub mid_off : {F : Type 0} (p q : Path) (mid : Listing F) → AllByRecursion (λ row. IsAbove p row.path) mid → ¬ IsAbove p q → AllByRecursion (λ row. row.path ≢ q) mid
 mid_off {F} p q mid h off = weaker (λ (row : Row F). IsAbove p row.path) (λ row. row.path ≢ q) (λ row above e. off (subst (λ z. IsAbove p z) e above)) mid h
 
@@ -188,6 +204,7 @@ graft_listed {F} p front mid back part cut q = go (below p q) refl
         ∙ listed_before (placed p part) back q (back_off p q back cut.after above)
         ∙ ap (listed (placed p part)) is ∙ listed_placed p part rest
 
+-- the same of the whole tree
 pub graft_at_rows : {F : Type 0} (p : Path) (front mid back part : Listing F) → p ≢ [] → IsCut p front mid back → at (front ++ (placed p part ++ back)) ≡ graft (at (front ++ (mid ++ back))) p (listed part)
 graft_at_rows {F} p front mid back part some cut = by_each _ _ (everywhere p some (graft_listed p front mid back part cut))
   where

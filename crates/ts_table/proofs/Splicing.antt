@@ -19,6 +19,7 @@ use Rattle.ts_table.proofs.Cuts.{IsListing-placed}
 
 -- ---- fronts
 
+-- the two parts make the whole
 pub lead_trail : {X : Type 0} (test : X → Bool) (xs : List X) → lead test xs ++ trail test xs ≡ xs
 lead_trail test [] = refl
 lead_trail {X} test (x ∷ xs) = go (test x) (lead_trail test xs)
@@ -27,6 +28,7 @@ lead_trail {X} test (x ∷ xs) = go (test x) (lead_trail test xs)
     go true e = ap (λ z. x ∷ z) e
     go false e = refl
 
+-- each element of the front passes
 pub lead_all : {X : Type 0} (test : X → Bool) (xs : List X) → AllByRecursion (λ x. test x ≡ true) (lead test xs)
 lead_all test [] = tt
 lead_all {X} test (x ∷ xs) = go (test x) refl (lead_all test xs)
@@ -67,6 +69,7 @@ trail_off {F} p (row ∷ rows) up late = go (stands_below p row) refl (trail_off
     go true e more = more
     go false e more = (e, weaker (λ (other : Row F). IsBefore row.path other.path) (λ other. stands_below p other ≡ false) (off e) rows (ascend_first row rows up))
 
+-- what holds of all holds of what follows the front
 trail_keeps : {X : Type 0} (P : X → Type 0) (test : X → Bool) (xs : List X) → AllByRecursion P xs → AllByRecursion P (trail test xs)
 trail_keeps P test [] h = tt
 trail_keeps {X} P test (x ∷ xs) h = go (test x) (trail_keeps P test xs h.1)
@@ -119,6 +122,7 @@ record IsStep {F : Type 0} (front rest : Listing F) (edit : Edit F) : Type 0 whe
   tree : at (((front ++ lead (comes_before edit.path) rest) ++ placed edit.path edit.part) ++ trail (stands_below edit.path) (trail (comes_before edit.path) rest)) ≡ graft (at (front ++ rest)) edit.path (listed edit.part)
   before : AllByRecursion (λ row. IsBefore row.path edit.path) (front ++ lead (comes_before edit.path) rest)
 
+-- each edit does so
 step : {F : Type 0} (front rest : Listing F) (edit : Edit F) → IsListing (front ++ rest) → AllByRecursion (λ row. IsBefore row.path edit.path) front → IsPlace (at (front ++ rest)) edit.path → IsSubListing edit.part → AllByRecursion (λ row. IsPath row.path) (placed edit.path edit.part) → IsStep front rest edit
 step {F} front rest edit lists first place part paths =
     let made = parted (front ++ lead (comes_before edit.path) rest) (lead (stands_below edit.path) (trail (comes_before edit.path) rest)) (trail (stands_below edit.path) (trail (comes_before edit.path) rest)) whole (cut_left edit.path front rest first (ascend_right front rest lists.ascending)) in
@@ -137,6 +141,7 @@ step {F} front rest edit lists first place part paths =
           cut.before,
         )
 
+-- the pass makes each edit in turn
 pub all_spliced : {F : Type 0} (front rest : Listing F) (edits : List (Edit F)) → IsListing (front ++ rest) → ComesFirst front edits → ArePlaces (at (front ++ rest)) edits → AreInOrder edits → AreParts edits → ArePaths edits → IsSpliced (at (front ++ rest)) edits (front ++ spliced rest (map put_of edits))
 all_spliced front rest [] lists first places order parts paths = record { listing = lists; tree = refl }
 all_spliced {F} front rest (edit ∷ edits) lists first places order parts paths =
@@ -163,9 +168,11 @@ all_spliced {F} front rest (edit ∷ edits) lists first places order parts paths
 
 -- ---- one more edit
 
+-- one more part
 pub parts_push : {F : Type 0} (edits : List (Edit F)) (edit : Edit F) → AreParts edits → IsSubListing edit.part → AreParts (edits ++ edit ∷ [])
 parts_push {F} edits edit all one = all_append (λ (other : Edit F). IsSubListing other.part) edits (edit ∷ []) all (one, tt)
 
+-- one more edit within the limits
 pub edit_paths_push : {F : Type 0} (edits : List (Edit F)) (edit : Edit F) → ArePaths edits → AllByRecursion (λ row. IsPath row.path) (placed edit.path edit.part) → ArePaths (edits ++ edit ∷ [])
 edit_paths_push {F} edits edit all one = all_append (λ (other : Edit F). AllByRecursion (λ (row : Row F). IsPath row.path) (placed other.path other.part)) edits (edit ∷ []) all (one, tt)
 

@@ -31,8 +31,8 @@ pub no_line : (bytes rest : List ℕ) → bytes ≢ [] → ((line tail : List �
 no_line bytes rest some within free = record {
   some = λ e. some (front_empty bytes e);
   none = λ line tail is e.
-  let small = within line tail is e in
-  free (length line) small (sym (get_or_append_left bytes rest 0 (length line) small) ∙ ap (λ l. get_or l (length line) 0) e ∙ get_or_at line 10 tail 0 (length line) refl);
+      let small = within line tail is e in
+      free (length line) small (sym (get_or_append_left bytes rest 0 (length line) small) ∙ ap (λ l. get_or l (length line) 0) e ∙ get_or_at line 10 tail 0 (length line) refl);
 }
   where
     front_empty : (xs : List ℕ) → xs ++ rest ≡ [] → xs ≡ []
@@ -50,9 +50,9 @@ pub none_at_end : (bytes : List ℕ) (left : Option (List ℕ)) → 0 < length b
 none_at_end bytes None some end free = tt
 none_at_end bytes (Some rest) some end free =
     no_line bytes rest (λ e. let size = ap length e in omega (arith, size, some))
-        (λ line tail is e. let whole : bytes ≡ line ++ 10 ∷ tail = sym (append-nil bytes) ∙ ap (λ l. bytes ++ l) (sym end) ∙ e in
-        omega (arith, ap length whole, length-append line (10 ∷ tail)))
-        free
+    (λ line tail is e. let whole : bytes ≡ line ++ 10 ∷ tail = sym (append-nil bytes) ∙ ap (λ l. bytes ++ l) (sym end) ∙ e in
+    omega (arith, ap length whole, length-append line (10 ∷ tail)))
+    free
 
 -- a read adds to what is held, and takes it from what the source has
 pub kept_when_read : (bytes more : List ℕ) (before after : Option (List ℕ)) → Consumes before after more → Keeps (prepend_known bytes before) (prepend_known (bytes ++ more) after)
@@ -71,7 +71,7 @@ pub gives_front : (before after : Option (List ℕ)) (bytes : List ℕ) (n : ℕ
     → Consumes before (prepend_known (drop (n + 1) bytes) after) (take n bytes ++ 10 ∷ [])
 gives_front before after bytes n small feed kept =
     subst (λ m. Consumes before (prepend_known (drop m bytes) after) (take n bytes ++ 10 ∷ [])) (sym (add-one n))
-        (prepend_known-read before after bytes (drop (suc n) bytes) (take n bytes ++ 10 ∷ []) ⊥ kept (cut_at_feed bytes n small feed) (λ no. absurd no)).0
+    (prepend_known-read before after bytes (drop (suc n) bytes) (take n bytes ++ 10 ∷ []) ⊥ kept (cut_at_feed bytes n small feed) (λ no. absurd no)).0
 
 -- what is looked at is all behind what was seen
 pub rest_is : (bytes : List ℕ) (seen : ℕ) → take (length bytes - seen) (drop seen bytes) ≡ drop seen bytes

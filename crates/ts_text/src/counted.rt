@@ -1,8 +1,7 @@
 ghost use Rattle.std.specs.Prelude.{◌≡◌, ◌≢◌};
 
-use std::io::{Read, Write};
-
 use crate::source::{Failed, Sink, Source};
+use std::io::{Read, Write};
 
 /// A reader or a writer of std that counts its failures.
 ///

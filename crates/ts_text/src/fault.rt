@@ -1,10 +1,9 @@
 ghost use Rattle.std.specs.Prelude.{◌≡◌};
 ghost use Rattle.ts_text.specs.Faults.{fault_number};
 
+use crate::source::Failed;
 use std::alloc::AllocError;
 use thiserror::Error;
-
-use crate::source::Failed;
 
 /// Why a text can't be read or written.
 #[derive(Clone, Copy, Debug, PartialEq, Eq, Error)]

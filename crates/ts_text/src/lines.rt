@@ -8,13 +8,12 @@ ghost use Rattle.ts_text.specs.Lines.{Answers, AnswersLine, Finds, FailuresFit, 
 ghost use Rattle.ts_text.specs.declared.fault.TextFault.TheVariants as fault;
 ghost use Rattle.ts_text.specs.declared.state.State.TheVariants as state;
 
-use std::alloc::Global;
-use std::marker::Model;
-
 use crate::fault::TextFault;
 use crate::source::Source;
 use crate::state::State;
 use crate::window::{CAPACITY, Window};
+use std::alloc::Global;
+use std::marker::Model;
 
 /// Gives the lines of a source's bytes, one after another.
 ///
@@ -36,10 +35,10 @@ impl<S: Source> Model for Lines<S> {
     ghost Value = { Reading };
 
     ghost view = { λ l. record {
-        left = prepend_known (drop l.given l.window) (S.holds l.source);
-        line = take (l.given - 1) l.window;
-        state = l.state;
-        failures = S.failures l.source;
+      left = prepend_known (drop l.given l.window) (S.holds l.source);
+      line = take (l.given - 1) l.window;
+      state = l.state;
+      failures = S.failures l.source;
     } };
 
     ghost invariant = { λ l. (l.given ≤ length l.window) × StateFits l.state (prepend_known (drop l.given l.window) (S.holds l.source)) };

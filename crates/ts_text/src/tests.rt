@@ -1,12 +1,11 @@
-use std::alloc::Global;
-use std::io;
-use std::io::{ErrorKind, Read, Write};
-use std::test::Fail;
-
 use crate::{
     Counted, Lines, Source, TextFault, field_dec, field_digest, push_decimal, push_digest,
     push_word, split_word, write_line,
 };
+use std::alloc::Global;
+use std::io;
+use std::io::{ErrorKind, Read, Write};
+use std::test::Fail;
 
 /// Gives at most `step` bytes a call, and fails once no more than `fails_at` bytes are left.
 #[derive(Drop)]
@@ -163,7 +162,10 @@ fn writes_a_line_or_its_beginning(rt: HostRuntime) -> Result<(), Fail> {
         assert_eq!(rt; result, want, "room for {room}");
         assert_eq!(rt; sink.failures, failures, "room for {room}");
         let taken = sink.into_inner().taken;
-        assert!(rt; taken.as_slice() == &whole[..room], "room for {room}: {taken:?}");
+        assert!(rt;
+            taken.as_slice() == &whole[..room],
+            "room for {room}: {taken:?}"
+        );
     }
     Ok(())
 }

@@ -3,10 +3,9 @@ ghost use Rattle.std.specs.Prelude.{◌≡◌, ◌+◌, ◌-◌, ◌<◌, ◌≤
 ghost use Rattle.std.specs.Io.KnownBytes.{Keeps, Consumes, IsAtEnd};
 ghost use Rattle.ts_text.specs.Sources.{CountsFailure, Gains};
 
+use crate::source::{Failed, Source};
 use std::alloc::{AllocError, Global};
 use std::marker::Model;
-
-use crate::source::{Failed, Source};
 
 /// The bytes of a longest line, and one more for its line feed.
 pub(crate) const CAPACITY: usize = 16385;
@@ -88,11 +87,7 @@ fn move_to_front(buffer: &mut Vec<u8>, start: usize, end: usize)
     }
 }
 
-fn read_behind<S: Source>(
-    source: &mut S,
-    buffer: &mut Vec<u8>,
-    end: usize,
-) -> Result<usize, Failed>
+fn read_behind<S: Source>(source: &mut S, buffer: &mut Vec<u8>, end: usize) -> Result<usize, Failed>
     requires { end < vec_len buffer.old }
     ensures len { vec_len buffer.new ≡ vec_len buffer.old }
     ensures bound { IfOk result (λ n. end + n ≤ vec_len buffer.old) }

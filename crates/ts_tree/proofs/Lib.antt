@@ -7,3 +7,4 @@ pub mod Readers
 pub mod Taken
 pub mod NoTree
 pub mod Writing
+pub mod Parts

@@ -1,5 +1,7 @@
 -- The faults of trees.
 use Rattle.std.specs.Prelude.{ℕ}
+use Rattle.ts_table.specs.declared.fault.TableFault.{TableFault}
+use Rattle.ts_table.specs.declared.fault.TableFault.TheVariants as table
 use Rattle.ts_tree.specs.declared.fault.TreeFault.{TreeFault}
 use Rattle.ts_tree.specs.declared.fault.TreeFault.TheVariants as fault
 
@@ -9,6 +11,11 @@ fault_number fault.OutOfMemory = 1
 fault_number fault.TooLong = 4
 fault_number fault.Failed = 5
 fault_number fault.NotCanonical = 6
+
+-- what a table's fault is called here
+abbrev pub fault_of_table : TableFault → TreeFault
+fault_of_table table.OutOfMemory = fault.OutOfMemory
+fault_of_table table.TooLong = fault.TooLong
 
 -- a line or a text is refused for this reason, unless memory ran out
 abbrev pub Refuses : Type 0 → TreeFault → Type 0

@@ -1,11 +1,18 @@
--- What a node of a tree says.
+-- What the calls of a tree say.
+--     node_of x        the content, with a file's bytes themselves
+--     EditFits edit    the files that are put down are no larger than files may be
 use Rattle.std.specs.Prelude.{ℕ, List}
 use Rattle.std.specs.Borrow.{Bor}
+use Rattle.std.specs.List.{AllByRecursion}
+use Rattle.ts_model.specs.Texts.{FileFits}
 use Rattle.ts_model.specs.declared.row.Content.{Content}
 use Rattle.ts_model.specs.declared.row.Content.TheVariants.{Absent, Dir, File}
+use Rattle.ts_table.specs.declared.splice.Edit.{Edit}
 
--- the content, with a file's bytes themselves
 abbrev pub node_of : Content (Bor (List ℕ)) → Content (List ℕ)
 node_of Absent = Absent
 node_of Dir = Dir
 node_of (File bytes) = File bytes.now
+
+abbrev pub EditFits : Edit (List ℕ) → Type 0
+EditFits edit = AllByRecursion (λ row. FileFits row.content) edit.part

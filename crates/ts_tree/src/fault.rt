@@ -3,6 +3,7 @@ ghost use Rattle.ts_tree.specs.Faults.{fault_number};
 
 use std::alloc::{AllocError, AllocFailed};
 use thiserror::Error;
+use ts_table::TableFault;
 use ts_text::TextFault;
 
 /// Why a tree can't be read, written or changed.
@@ -69,6 +70,20 @@ impl From<TextFault> for TreeFault {
             TextFault::OutOfMemory => TreeFault::OutOfMemory,
             TextFault::Failed => TreeFault::Failed,
             TextFault::NotCanonical => TreeFault::NotCanonical,
+        }
+    }
+}
+
+impl From<TableFault> for TreeFault {
+    ghost use Rattle.std.specs.Prelude.{◌≡◌};
+    ghost use Rattle.ts_tree.specs.Faults.{fault_of_table};
+
+    ghost from_gives = { λ t e. e ≡ fault_of_table t };
+
+    fn from(e: TableFault) -> TreeFault {
+        match e {
+            TableFault::OutOfMemory => TreeFault::OutOfMemory,
+            TableFault::TooLong => TreeFault::TooLong,
         }
     }
 }

@@ -1,11 +1,15 @@
 //! Trees.
-ghost use Rattle.std.specs.Prelude.{◌≡◌, ◌≢◌, ◌++◌, ◌∷◌, [], List, ℕ, true, false, is_ok, if◌then◌else◌, IfErr, IfOk, IsTrue};
+ghost use Rattle.std.specs.List.{AllByRecursion};
+ghost use Rattle.std.specs.Prelude.{◌≡◌, ◌≢◌, ◌⊎◌, ◌++◌, ◌∷◌, [], List, ℕ, true, false, is_ok, if◌then◌else◌, IfErr, IfOk, IsErrOf, IsTrue, MatchResult, OnErr, OnOk};
 ghost use Rattle.ts_model.specs.Texts.{FileFits, IsTreeBody};
-ghost use Rattle.ts_model.specs.Trees.{IsListing, at};
+ghost use Rattle.ts_model.specs.Trees.{IsListing, at, listed, sub};
 ghost use Rattle.ts_model.specs.declared.row.Content.{Content};
 ghost use Rattle.ts_model.specs.declared.row.Content.TheVariants.{Absent};
 ghost use Rattle.ts_table.specs.Tables.{rows_below};
-ghost use Rattle.ts_tree.specs.Trees.{node_of};
+ghost use Rattle.ts_name.specs.Paths.{IsPath};
+ghost use Rattle.ts_table.specs.Splices.{ArePaths, ArePlaces, AreInOrder, grafted};
+ghost use Rattle.ts_table.specs.Tables.{placed};
+ghost use Rattle.ts_tree.specs.Trees.{EditFits, node_of};
 
 use crate::fault::TreeFault;
 use std::alloc::Global;
@@ -13,7 +17,7 @@ use std::marker::Model;
 use ts_model::items::Items;
 use ts_model::row::{Content, Row};
 use ts_name::Path;
-use ts_table::Table;
+use ts_table::{Edit, SubTable, Table};
 
 /// What is at a path of a tree: nothing, a directory, or a file with its bytes.
 pub type Node<'a> = Content<&'a [u8]>;
@@ -96,5 +100,44 @@ impl Tree {
             Ok(()) => Ok(Tree { table }),
             Err(_) => Err(TreeFault::OutOfMemory),
         }
+    }
+
+    /// The same tree once more.
+    pub fn copy(&self, alloc: Global) -> Result<Tree, TreeFault>
+        ensures { MatchResult result (λ tree. tree ≡ self.now) (λ e. e ≡ TreeFault.OutOfMemory) }
+    {
+        let table = self.table.copy(alloc)?;
+        Ok(Tree { table })
+    }
+
+    /// What is at a path and below it, by paths relative to it.
+    pub fn sub_table(&self, alloc: Global, path: &Path) -> Result<SubTable<Items<u8>>, TreeFault>
+        ensures part { IfOk result (λ part. listed part ≡ sub (at self.now) path.now) }
+        ensures files { IfOk result (λ part. AllByRecursion (λ row. FileFits row.content) part) }
+        ensures paths { IfOk result (λ part. AllByRecursion (λ row. IsPath row.path) (placed path.now part)) }
+        ensures fault { IfErr result (λ e. e ≡ TreeFault.OutOfMemory) }
+    {
+        let part = self.table.sub_table(alloc, path)?;
+        let _part_rows = part.rows();
+        Ok(part)
+    }
+
+    /// Makes many edits in one pass, each after the one before it: the paths ascend, and an edit may stand below an
+    /// earlier one, where that one's rows all come before it, as those of a bare directory do.
+    ///
+    /// `TooLong` where a path would be past the limits. After a fault nothing has changed, and the edits are dropped.
+    pub fn splice(&mut self, alloc: Global, edits: Vec<Edit<Items<u8>>>) -> Result<(), TreeFault>
+        requires places { ArePlaces (at self.old) edits.items }
+        requires order { AreInOrder edits.items }
+        requires files { AllByRecursion EditFits edits.items }
+        ensures ok { OnOk result (at self.new ≡ grafted (at self.old) edits.items) }
+        ensures paths { OnOk result (ArePaths edits.items) }
+        ensures too_long { IsErrOf result TreeFault.TooLong → ¬ ArePaths edits.items }
+        ensures fault { IfErr result (λ e. (e ≡ TreeFault.OutOfMemory) ⊎ (e ≡ TreeFault.TooLong)) }
+        ensures err { OnErr result (self.new ≡ self.old) }
+    {
+        self.table.splice(alloc, edits)?;
+        let _rows = self.table.rows();
+        Ok(())
     }
 }

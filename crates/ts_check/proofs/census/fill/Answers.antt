@@ -9,12 +9,13 @@ use Rattle.ts_check.proofs.census.fill.Goals.{in-Some+else-not-is_unmet, in_defa
 pub returns-then-not-is_unmet-clause-wrong : goal.returns-then-not-is_unmet-clause-wrong
 returns-then-not-is_unmet-clause-wrong c =
     let plan = c.args.plan.now in
-    let at = item_at c.as_slice-action-items.result.now plan.actions c.loop-i.i c.action-item.result c.as_slice-action-items.ensures c.loop-i-test.true c.action-item.is in
-    (
+    let at = item_at c.as_slice-action-items.result.now plan.actions c.loop-i.i c.action-item.result c.as_slice-action-items.ensures c.loop-i-test.true c.action-item.is in (
       slice_get_within plan.actions c.loop-i.i c.action-item.result at,
-      (wrong_here plan c.args.role c.loop-i.i c.in-Some.entry c.loop-i.numbers.items c.action-item.result c.loop-i.invariant at c.in-Some.ensures.some
-      (λ unmet. false≢true (sym c.if-not-is_unmet.true ∙ c.is_unmet.ensures.1 (rw (c.as_slice-entries.ensures, c.deref.ensures.value) unmet))),
-      c.loop-i.invariant.right),
+      (
+        wrong_here plan c.args.role c.loop-i.i c.in-Some.entry c.loop-i.numbers.items c.action-item.result c.loop-i.invariant at c.in-Some.ensures.some
+            (λ unmet. false≢true (sym c.if-not-is_unmet.true ∙ c.is_unmet.ensures.1 (rw (c.as_slice-entries.ensures, c.deref.ensures.value) unmet))),
+        c.loop-i.invariant.right,
+      ),
     )
 
 pub loop-i-preserved : goal.loop-i-preserved

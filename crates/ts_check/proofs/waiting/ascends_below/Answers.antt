@@ -11,10 +11,13 @@ loop-number-preserved c =
     (λ rest. c.loop-number.invariant.0 (h.1 (omega arith, omega arith, rest)), λ whole. (h.0 (c.loop-number.invariant.1 whole)).2)
 
 pub returns-then-number-low : goal.returns-then-number-low
-returns-then-number-low c = (λ e. absurd (false≢true e), λ ascends. absurd (
-    let h = from_at c.loop-number.low c.args.n c.args.numbers.now c.loop-number.number-index c.loop-number-test.true in
-    let at = h.0 (c.loop-number.invariant.1 (from_below 0 c.args.n c.args.numbers.now ascends (λ x ys e. omega arith))) in
-    elim c.then-number-low.either [ inl low ↦ omega arith | inr high ↦ omega arith ]))
+returns-then-number-low c = (
+  λ e. absurd (false≢true e),
+  λ ascends. absurd (
+      let h = from_at c.loop-number.low c.args.n c.args.numbers.now c.loop-number.number-index c.loop-number-test.true in
+      let at = h.0 (c.loop-number.invariant.1 (from_below 0 c.args.n c.args.numbers.now ascends (λ x ys e. omega arith))) in
+      elim c.then-number-low.either [ inl low ↦ omega arith | inr high ↦ omega arith ]),
+)
 
 pub returns : goal.returns
 returns c = (λ e. below_from 0 c.args.n c.args.numbers.now (c.loop-number.invariant.0 (from_step c.loop-number.low c.args.n c.args.numbers.now c.loop-number.number-index c.loop-number-test.false)), λ ascends. refl)

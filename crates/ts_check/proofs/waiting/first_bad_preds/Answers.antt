@@ -10,7 +10,7 @@ pub loop-i-preserved : goal.loop-i-preserved
 loop-i-preserved c =
     let at = item_at c.as_slice-action-items.result.now c.args.plan.now.actions c.loop-i.i c.action-item.result c.as_slice-action-items.ensures c.loop-i-test.true c.action-item.is in
     below_more _ _ c.loop-i.invariant (λ bad. bad.2 (subst (λ (a : Action). AscendBelow c.loop-i.i a.preds) (same_Some c.action-item.result bad.0 (sym at ∙ bad.1))
-      (rw c.as_slice.ensures at (c.ascends_below.ensures.0 c.if-not-ascends_below.false))))
+    (rw c.as_slice.ensures at (c.ascends_below.ensures.0 c.if-not-ascends_below.false))))
 
 pub returns : goal.returns
 returns c = λ k bad. c.loop-i.invariant k (let h = slice_get_within c.args.plan.now.actions k bad.0 bad.1 in let e = ap length c.as_slice-action-items.ensures in omega arith) bad

@@ -18,7 +18,7 @@ loop-i-preserved c =
     ])
 
 pub returns-then-lacks_dir : goal.returns-then-lacks_dir
-returns-then-lacks_dir c = 
+returns-then-lacks_dir c =
     let plan = c.args.plan.now in
     let at = item_at c.as_slice-action-items.result.now plan.actions c.loop-i.i c.action-item.result c.as_slice-action-items.ensures c.loop-i-test.true c.action-item.is in
     IsFirst-LacksDir plan c.requires.order c.requires.entries c.args.nearest.now c.args.marks.now c.requires.actions c.requires.dirs.0 c.requires.dirs.1 c.requires.index (Some c.loop-i.i)

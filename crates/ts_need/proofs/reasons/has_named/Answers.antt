@@ -23,6 +23,9 @@ loop-row-preserved c = λ k row less is named.
     ]
 
 pub returns : goal.returns
-returns c = (λ e. absurd (false≢true e), λ h. absurd (
-    let found = Any-at (λ (row : Row Stamp). Names c.args.holds.now row.path) c.args.rows.now h in
-    c.loop-row.invariant found.0 found.1 (let w = slice_get_within c.args.rows.now found.0 found.1 found.2 in let g = c.loop-row-test.false in omega arith) found.2 found.3))
+returns c = (
+  λ e. absurd (false≢true e),
+  λ h. absurd (
+      let found = Any-at (λ (row : Row Stamp). Names c.args.holds.now row.path) c.args.rows.now h in
+      c.loop-row.invariant found.0 found.1 (let w = slice_get_within c.args.rows.now found.0 found.1 found.2 in let g = c.loop-row-test.false in omega arith) found.2 found.3),
+)

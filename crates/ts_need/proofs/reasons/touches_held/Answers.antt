@@ -10,8 +10,7 @@ returns-then-branch c =
 
 pub returns : goal.returns
 returns c =
-    let s = c.args.state.now in
-    (
+    let s = c.args.state.now in (
       λ e. elim (c.has_named_below.ensures.0 e) [
         | inl h ↦ touches_first s.archive.now s.first.now s.second.now s.holds.now c.requires.listing.archive c.requires.listing.first c.requires.listing.second c.args.path.now c.requires.below h
         | inr (inl h) ↦ touches_second s.archive.now s.first.now s.second.now s.holds.now c.requires.listing.archive c.requires.listing.first c.requires.listing.second c.args.path.now c.requires.below h

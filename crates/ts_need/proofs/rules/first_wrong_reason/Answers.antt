@@ -11,9 +11,15 @@ use Rattle.ts_need.proofs.rules.first_wrong_reason.Goals as goal
 
 pub returns-then-not-is_reason : goal.returns-then-not-is_reason
 returns-then-not-is_reason c =
-    let here = item_at c.args.entries.now c.loop-k.k c.index-entries-k.result c.loop-k-test.true c.index-entries-k.is in
-    ((c.index-entries-k.result, here, wrong_reason (snapshot_of c.args.state.now) c.index-entries-k.result.path c.in_ok-found.found c.index-entries-k.result.reason c.in_ok-found.ensures
-      (λ same. false≢true (sym c.if-not-is_reason.true ∙ c.is_reason.ensures.1 same))), c.loop-k.invariant)
+    let here = item_at c.args.entries.now c.loop-k.k c.index-entries-k.result c.loop-k-test.true c.index-entries-k.is in (
+      (
+        c.index-entries-k.result,
+        here,
+        wrong_reason (snapshot_of c.args.state.now) c.index-entries-k.result.path c.in_ok-found.found c.index-entries-k.result.reason c.in_ok-found.ensures
+            (λ same. false≢true (sym c.if-not-is_reason.true ∙ c.is_reason.ensures.1 same)),
+      ),
+      c.loop-k.invariant,
+    )
 
 pub loop-k-preserved : goal.loop-k-preserved
 loop-k-preserved c =

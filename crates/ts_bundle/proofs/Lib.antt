@@ -1,0 +1,6 @@
+pub mod Titles
+pub mod Refusals
+pub mod Growth
+pub mod Lines
+pub mod NoBundle
+pub mod Sent

@@ -1,0 +1,12 @@
+use Rattle.std.proofs.Common.{◌∷◌, []}
+use Rattle.std.proofs.lemmas.Result.{err_from_is_err_and}
+use Rattle.ts_model.specs.Texts.{text}
+use Rattle.ts_model.specs.Trial.{total_line}
+use Rattle.ts_bundle.proofs.Sent.{nothing_sent}
+use Rattle.ts_bundle.proofs.results.write_total.Goals as goal
+
+-- Nothing went out yet.
+pub returns-in_err-push_total : goal.returns-in_err-push_total
+returns-in_err-push_total g c =
+    let p = err_from_is_err_and c.from_residual.result c.from_residual.ensures.1 in
+    rw p.1 (record { written = nothing_sent (g.W.Sink.holds c.args.sink.now) (text (total_line c.args.entries.now ∷ [])) })

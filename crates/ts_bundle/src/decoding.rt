@@ -1,0 +1,35 @@
+//! Reading a bundle from a text.
+ghost use Rattle.std.specs.Prelude.{IfOk, IfErr};
+ghost use Rattle.ts_bundle.specs.Decoding.{DecodesBundle, FindsNoBundle, IsSpelled, SpellsNone};
+
+use crate::bundle::Bundle;
+use crate::fault::BundleFault;
+use crate::reader::BundleReader;
+use std::alloc::Global;
+use ts_text::{Lines, Source};
+
+/// The bundle that the lines spell, all of them.
+///
+/// More than 2^64 - 2 lines are answered as want of memory, since no memory holds their bundle.
+pub fn decode<S: Source>(alloc: Global, lines: &mut Lines<S>) -> Result<Bundle, BundleFault>
+    ensures found { IfOk result (DecodesBundle lines.old) }
+    ensures refused { IfErr result (FindsNoBundle lines.old lines.new) }
+{
+    let mut reader = BundleReader::new();
+    for _ in 0..u64::MAX {
+        if !lines.advance()? {
+            return reader.finish();
+        }
+        reader = reader.line(alloc, lines.line())?;
+    }
+    Err(BundleFault::OutOfMemory)
+}
+
+/// The bundle that the bytes of the source spell, all of them.
+pub fn read<S: Source + Drop>(alloc: Global, source: S) -> Result<Bundle, BundleFault>
+    ensures found { IfOk result (IsSpelled (S.holds source)) }
+    ensures refused { IfErr result (SpellsNone (S.holds source)) }
+{
+    let mut lines = Lines::new(alloc, source)?;
+    decode(alloc, &mut lines)
+}
