@@ -1,0 +1,79 @@
+//! Runs `trial` on the worked bundles of the folder `data`, and says of each whether its answer and its status are
+//! those that stand beside it. Bundles that are kept packed are left to `tests/worked_bundles.sh`.
+#![tactic(auto)]
+
+use anyhow::{Context, Result, bail};
+use std::alloc::Global;
+use std::fs;
+use std::rt::Files;
+use ts_text::Counted;
+use ts_trial::trial;
+
+/// The versions of texts that the program knows. Bundles of others are malformed to it.
+const KNOWN: &str = "plan_1";
+
+/// What a bundle is answered with.
+#[derive(Drop)]
+struct Answer {
+    text: Vec<u8>,
+    status: u8,
+}
+
+/// The answer that stands beside a bundle.
+fn wanted<R: Files + AllocGlobal>(rt: &R, name: &str, level: &str, status: &str) -> Result<Answer> {
+    let alloc = rt.alloc();
+    if level != KNOWN {
+        let text = Vec::from_slice(alloc, b"malformed\n".as_slice())?;
+        return Ok(Answer { text, status: 3 });
+    }
+    let file = format!(in alloc; "{name}.out")?;
+    let text = fs::read(rt, file.as_str())?;
+    let status = status.parse::<u8>().context("reading a status")?;
+    Ok(Answer { text, status })
+}
+
+/// The answer of `trial`.
+fn answered(alloc: Global, bundle: &[u8]) -> Result<Answer> {
+    let mut writer = Counted::new(Vec::new(alloc));
+    let status = trial(alloc, Counted::new(bundle), &mut writer)?;
+    let text = writer.into_inner();
+    Ok(Answer { text, status })
+}
+
+/// Whether the program answers a bundle as it should.
+fn is_as_wanted<R: Files + AllocGlobal>(
+    rt: &R,
+    name: &str,
+    level: &str,
+    status: &str,
+) -> Result<bool> {
+    let file = format!(in rt.alloc(); "{name}.in")?;
+    let bundle = fs::read(rt, file.as_str())?;
+    let got = answered(rt.alloc(), bundle.as_slice())?;
+    let want = wanted(rt, name, level, status)?;
+    Ok(got.status == want.status && got.text.as_slice() == want.text.as_slice())
+}
+
+fn main(rt: HostRuntime) -> Result<()> {
+    let index = fs::read_to_string(&rt, "index.tsv")?;
+    for line in index.as_str().lines() {
+        let mut fields = line.split('\t');
+        let (Some(name), Some(level), Some(status), Some(size)) = (
+            fields.next(),
+            fields.next(),
+            fields.next(),
+            fields.next(),
+        ) else {
+            bail!("a line of the index lacks a field");
+        };
+        if size == "small" {
+            let verdict = if is_as_wanted(&rt, name, level, status)? {
+                "as wanted"
+            } else {
+                "WRONG"
+            };
+            println!(rt; "{name}: {verdict}")?;
+        }
+    }
+    Ok(())
+}
