@@ -12,3 +12,6 @@ pub use decoding::{decode, read};
 pub use fault::BundleFault;
 pub use reader::BundleReader;
 pub use results::{count_skipped, write_result};
+
+#[cfg(test)]
+mod tests;

@@ -31,9 +31,9 @@ before_front ps p ascending i j d le l h = elim (cases_lt i j) [
 pub place_parts : (ps : List Path) (p : Path) (at : ℕ) → IsPartitionPoint (λ y. is_lt (path_cmp y p) ≡ true) (λ y. is_lt (path_cmp y p) ≡ false) ps at
     → IsPartitionPoint (λ q. IsBefore q p) (λ q. ¬ IsBefore q p) ps at
 place_parts ps p at parts = (
-    λ k d l h. Less-from_test _ (parts.0 k d l h),
-    λ k d l h before. let e : path_cmp (get_or ps k d) p ≡ Less = before in let f : is_lt (path_cmp (get_or ps k d) p) ≡ true = rw e refl in true_not_false (sym f ∙ parts.1 k d l h),
-  )
+  λ k d l h. Less-from_test _ (parts.0 k d l h),
+  λ k d l h before. let e : path_cmp (get_or ps k d) p ≡ Less = before in let f : is_lt (path_cmp (get_or ps k d) p) ≡ true = rw e refl in true_not_false (sym f ∙ parts.1 k d l h),
+)
   where
     true_not_false : true ≢ false
     true_not_false e = cc
@@ -99,9 +99,9 @@ false_not_true false e f = cc
 -- a test of the path at the place tells whether one is at or below p
 pub below_tested : (ps : List Path) (p : Path) (at : ℕ) (x : Path) (b : Bool) → AreAscending ps → IsPlace ps p at → at < length ps → x ≡ get_or ps at x → (IsTrue b ↔ IsAbove p x) → IsTrue b ↔ HasBelow ps p
 below_tested ps p at x b ascending parts l is test = (
-    λ h. below_found ps p at x l is (test.0 h),
-    λ found. true_from b (λ e. below_none ps p at ascending parts (λ _. at_read ps (λ y. ¬ IsAbove p y) at x l is (λ above. false_not_true b e (test.1 above))) found),
-  )
+  λ h. below_found ps p at x l is (test.0 h),
+  λ found. true_from b (λ e. below_none ps p at ascending parts (λ _. at_read ps (λ y. ¬ IsAbove p y) at x l is (λ above. false_not_true b e (test.1 above))) found),
+)
 
 -- past the end none is
 pub below_past : (ps : List Path) (p : Path) (at : ℕ) → AreAscending ps → IsPlace ps p at → length ps ≤ at → IsTrue false ↔ HasBelow ps p
@@ -111,9 +111,9 @@ below_past ps p at ascending parts l = (λ e. absurd (false_not_true false refl 
 pub above_tested : (ps : List Path) (p : Path) (at : ℕ) (x : Path) (b : Bool) → AreAscending ps → AreTopmost ps → IsPlace ps p at → ¬ HasBelow ps p → 0 < at → at ≤ length ps → x ≡ get_or ps (at - 1) x → (IsTrue b ↔ IsAbove x p)
     → IsTrue b ↔ HasAbove ps p
 above_tested ps p at x b ascending topmost parts none some bound is test = (
-    λ h. above_found ps p at x some bound is (test.0 h),
-    λ found. true_from b (λ e. above_none ps p at bound ascending topmost parts (λ _. let l : at - 1 < length ps = omega arith in at_read ps (λ y. ¬ IsAbove y p) (at - 1) x l is (λ above. false_not_true b e (test.1 above))) none found),
-  )
+  λ h. above_found ps p at x some bound is (test.0 h),
+  λ found. true_from b (λ e. above_none ps p at bound ascending topmost parts (λ _. let l : at - 1 < length ps = omega arith in at_read ps (λ y. ¬ IsAbove y p) (at - 1) x l is (λ above. false_not_true b e (test.1 above))) none found),
+)
 
 -- before the first none is
 pub above_first : (ps : List Path) (p : Path) (at : ℕ) → AreAscending ps → AreTopmost ps → IsPlace ps p at → ¬ HasBelow ps p → at ≤ 0 → IsTrue false ↔ HasAbove ps p
@@ -163,9 +163,9 @@ same_content (File x) Dir = no (λ e. cc)
 -- paths where two prints differ tell whether they differ below a path
 pub differ_below : (t u : Path → Content Stamp) (ps : List Path) (p : Path) → ((q : Path) → Contains ps q ↔ (t q ≢ u q)) → HasBelow ps p ↔ ((rest : Path) × (sub t p rest ≢ sub u p rest))
 differ_below t u ps p all = (
-    λ h. (h.2.0, λ e. (all h.0).0 h.1 (ap t h.2.1 ∙ e ∙ sym (ap u h.2.1))),
-    λ h. (p ++ h.0, (all (p ++ h.0)).1 h.1, (h.0, refl)),
-  )
+  λ h. (h.2.0, λ e. (all h.0).0 h.1 (ap t h.2.1 ∙ e ∙ sym (ap u h.2.1))),
+  λ h. (p ++ h.0, (all (p ++ h.0)).1 h.1, (h.0, refl)),
+)
 
 -- the replicas agree where they don't differ below
 pub says_agree : (s : Snapshot) (m : Found) (p : Path) → IsFoundOf s m → (b : Bool) → (IsTrue b ↔ HasBelow m.apart p) → IsTrue (not b) ↔ Agree s p

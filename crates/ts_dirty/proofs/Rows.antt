@@ -173,8 +173,11 @@ pub step_first : {F : Type 0} (rows : Listing F) (row : Row F) (p : Path) → Ar
     → IsStep p row.content rows (take (length rows - 1) (drop 1 rows)) × ArePlain (take (length rows - 1) (drop 1 rows))
 step_first [] row p plain l is e = absurd (omega arith)
 step_first {F} (first ∷ rows) row p plain l is e =
-    rw (rest_is first rows) (subst (λ (x : Row F). path_cmp x.path p ≡ Equal → IsStep p x.content (first ∷ rows) rows) (sym is)
-      (λ (same : path_cmp first.path p ≡ Equal). subst (λ q. IsStep q first.content (first ∷ rows) rows) (tied_paths first.path p same) (step_taken first rows plain)) e, plain_rest first rows plain)
+    rw (rest_is first rows) (
+      subst (λ (x : Row F). path_cmp x.path p ≡ Equal → IsStep p x.content (first ∷ rows) rows) (sym is)
+          (λ (same : path_cmp first.path p ≡ Equal). subst (λ q. IsStep q first.content (first ∷ rows) rows) (tied_paths first.path p same) (step_taken first rows plain)) e,
+      plain_rest first rows plain,
+    )
 
 -- a list has one first element
 pub same_first : {F : Type 0} (rows : Listing F) (x y : Row F) → 1 ≤ length rows → x ≡ get_or rows 0 x → y ≡ get_or rows 0 y → x ≡ y
@@ -248,10 +251,10 @@ none_before_upto rows b p none n q less = none q (before_upto q p b less n)
 pub least_path : (x y z : Option (Bor Path)) (archive first second : Listing Stamp) → IsEarlierOf x None archive → IsEarlierOf y x first → IsEarlierOf z y second
     → MatchOption z ((archive ≡ []) × (first ≡ []) × (second ≡ [])) (λ path. IsLeastPath path.now archive first second)
 least_path x y None archive first second in_x in_y in_z = (
-    x_rows.1,
-    y_none.1,
-    in_z.1,
-  )
+  x_rows.1,
+  y_none.1,
+  in_z.1,
+)
   where
     y_none : (x ≡ None) × (first ≡ [])
     y_none = subst (λ (o : Option (Bor Path)). IsEarlierOf o x first) in_z.0 in_y

@@ -126,9 +126,9 @@ upto_none P n = record {
 -- at the end all
 pub upto_end : (P : Path → Type 0) (b : Path) (ps : List Path) → IsUpto P b ps → ((q : Path) → IsBefore b q → ¬ P q) → (q : Path) → Contains ps q ↔ P q
 upto_end P b ps h none q = (
-    λ c. (h.each q c).0,
-    λ is. elim (decide_before b q) [ yes later ↦ absurd (none q later is) | no n ↦ h.all q is n ],
-  )
+  λ c. (h.each q c).0,
+  λ is. elim (decide_before b q) [ yes later ↦ absurd (none q later is) | no n ↦ h.all q is n ],
+)
 
 -- ---- the topmost
 

@@ -17,14 +17,26 @@ use ts_print::Print;
 /// # Errors
 ///
 /// Want of memory.
-pub fn detect(alloc: Global, archive: &Print, first: &Print, second: &Print, holds: &Holds) -> Result<Marks, DirtyFault>
+pub fn detect(
+    alloc: Global,
+    archive: &Print,
+    first: &Print,
+    second: &Print,
+    holds: &Holds,
+) -> Result<Marks, DirtyFault>
     ensures { IfOk result (λ marks. IsFoundOf (listed_snapshot archive.now first.now second.now holds.now) marks) }
 {
     compare(alloc, archive.rows(), first.rows(), second.rows(), holds)
 }
 
 /// The same of the prints' rows.
-fn compare(alloc: Global, archive: &[Row<Stamp>], first: &[Row<Stamp>], second: &[Row<Stamp>], holds: &Holds) -> Result<Marks, DirtyFault>
+fn compare(
+    alloc: Global,
+    archive: &[Row<Stamp>],
+    first: &[Row<Stamp>],
+    second: &[Row<Stamp>],
+    holds: &Holds,
+) -> Result<Marks, DirtyFault>
     requires archive { IsListing archive.now }
     requires first { IsListing first.now }
     requires second { IsListing second.now }
@@ -37,9 +49,24 @@ fn compare(alloc: Global, archive: &[Row<Stamp>], first: &[Row<Stamp>], second: 
     let mut held = Vec::new(alloc);
     let mut walk = Walk::new(archive, first, second);
     while let Some(seen) = walk.next() {
-        note(alloc, &mut changed_first, seen.path, differ(&seen.first, &seen.archive))?;
-        note(alloc, &mut changed_second, seen.path, differ(&seen.second, &seen.archive))?;
-        note(alloc, &mut apart, seen.path, differ(&seen.first, &seen.second))?;
+        note(
+            alloc,
+            &mut changed_first,
+            seen.path,
+            differ(&seen.first, &seen.archive),
+        )?;
+        note(
+            alloc,
+            &mut changed_second,
+            seen.path,
+            differ(&seen.second, &seen.archive),
+        )?;
+        note(
+            alloc,
+            &mut apart,
+            seen.path,
+            differ(&seen.first, &seen.second),
+        )?;
         let is_held = holds.holds(seen.path);
         let is_covered = last_is_above(held.as_slice(), seen.path);
         note(alloc, &mut held, seen.path, and_not(is_held, is_covered))?;
@@ -65,7 +92,12 @@ fn last_is_above(paths: &[Path], path: &Path) -> bool
 }
 
 /// Puts the path at the end of the paths, where it is wanted.
-fn note(alloc: Global, paths: &mut Vec<Path>, path: &Path, is_wanted: bool) -> Result<(), AllocError>
+fn note(
+    alloc: Global,
+    paths: &mut Vec<Path>,
+    path: &Path,
+    is_wanted: bool,
+) -> Result<(), AllocError>
     ensures { IfOk result (λ _. paths.new.items ≡ cond is_wanted (paths.old.items ++ path.now ∷ []) paths.old.items) }
 {
     if is_wanted {
@@ -93,7 +125,11 @@ mod tests {
     #[test]
     fn nothing_differs(rt: HostRuntime) -> Result<(), Fail> {
         let alloc = rt.alloc();
-        let (archive, first, second) = (Print::empty(alloc), Print::empty(alloc), Print::empty(alloc));
+        let (archive, first, second) = (
+            Print::empty(alloc),
+            Print::empty(alloc),
+            Print::empty(alloc),
+        );
         let marks = detect(alloc, &archive, &first, &second, &Holds::none(alloc))?;
         let path = Path::parse_text(alloc, b"/a")?;
         for side in [Side::First, Side::Second] {
@@ -108,10 +144,29 @@ mod tests {
     #[test]
     fn differing_contents_are_noted(rt: HostRuntime) -> Result<(), Fail> {
         let alloc = rt.alloc();
-        let stamp = Stamp { size: 1, digest: [7; 32] };
+        let stamp = Stamp {
+            size: 1,
+            digest: [7; 32],
+        };
         assert!(rt; differ(&Content::Dir, &Content::Absent));
-        assert!(rt; differ(&Content::File(stamp), &Content::File(Stamp { size: 2, digest: [7; 32] })));
-        assert!(rt; differ(&Content::File(stamp), &Content::File(Stamp { size: 1, digest: [8; 32] })));
+        assert!(rt;
+            differ(
+                &Content::File(stamp),
+                &Content::File(Stamp {
+                    size: 2,
+                    digest: [7; 32]
+                })
+            )
+        );
+        assert!(rt;
+            differ(
+                &Content::File(stamp),
+                &Content::File(Stamp {
+                    size: 1,
+                    digest: [8; 32]
+                })
+            )
+        );
         assert!(rt; !differ(&Content::File(stamp), &Content::File(stamp)));
         let mut paths = Vec::new(alloc);
         note(alloc, &mut paths, &Path::parse_text(alloc, b"/a")?, true)?;

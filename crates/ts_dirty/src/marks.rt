@@ -29,7 +29,12 @@ impl Model for Marks {
 
 impl Marks {
     /// Marks of what was found.
-    pub(crate) fn new(first: Vec<Path>, second: Vec<Path>, apart: Vec<Path>, held: Vec<Path>) -> Self
+    pub(crate) fn new(
+        first: Vec<Path>,
+        second: Vec<Path>,
+        apart: Vec<Path>,
+        held: Vec<Path>,
+    ) -> Self
         requires first { AreAscending first.items }
         requires second { AreAscending second.items }
         requires apart { AreAscending apart.items }
@@ -92,7 +97,11 @@ fn any_below(paths: &[Path], path: &Path) -> bool
     ensures { IsTrue result ↔ HasBelow paths.now path.now }
 {
     let at = place(paths, path);
-    if at < paths.len() { path.is_prefix(&paths[at]) } else { false }
+    if at < paths.len() {
+        path.is_prefix(&paths[at])
+    } else {
+        false
+    }
 }
 
 /// Whether one of the paths is above this one, below it or the same.
@@ -101,7 +110,11 @@ fn touches(paths: &[Path], path: &Path) -> bool
     requires topmost { AreTopmost paths.now }
     ensures { IsTrue result ↔ (HasAbove paths.now path.now ⊎ HasBelow paths.now path.now) }
 {
-    if any_below(paths, path) { true } else { any_above(paths, path) }
+    if any_below(paths, path) {
+        true
+    } else {
+        any_above(paths, path)
+    }
 }
 
 /// Whether one of the paths is above this one, where none is at it or below it.
@@ -112,5 +125,9 @@ fn any_above(paths: &[Path], path: &Path) -> bool
     ensures { IsTrue result ↔ HasAbove paths.now path.now }
 {
     let at = place(paths, path);
-    if at > 0 { paths[at - 1].is_prefix(path) } else { false }
+    if at > 0 {
+        paths[at - 1].is_prefix(path)
+    } else {
+        false
+    }
 }

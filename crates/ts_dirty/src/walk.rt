@@ -79,7 +79,11 @@ impl<'a> Walk<'a> {
 }
 
 /// The least path of the rows, None where there are none.
-fn first_path<'a>(archive: &'a [Row<Stamp>], first: &'a [Row<Stamp>], second: &'a [Row<Stamp>]) -> Option<&'a Path>
+fn first_path<'a>(
+    archive: &'a [Row<Stamp>],
+    first: &'a [Row<Stamp>],
+    second: &'a [Row<Stamp>],
+) -> Option<&'a Path>
     requires archive { ArePlain archive.now }
     requires first { ArePlain first.now }
     requires second { ArePlain second.now }

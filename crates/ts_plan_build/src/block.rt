@@ -18,7 +18,15 @@ const PIECE_SIZE: u64 = 1_048_576;
 
 /// Adds the actions of an entry: its pieces, its commit and its mark, as far as it has them. `above` is the mark of the
 /// nearest new directory above its path.
-pub(crate) fn add_entry(alloc: Global, actions: &mut Vec<Action>, number: u32, entry: &Entry, above: Option<u32>, first: &Print, second: &Print) -> Result<(), PlanFault>
+pub(crate) fn add_entry(
+    alloc: Global,
+    actions: &mut Vec<Action>,
+    number: u32,
+    entry: &Entry,
+    above: Option<u32>,
+    first: &Print,
+    second: &Print,
+) -> Result<(), PlanFault>
     requires { length actions.old.items ≤ action_limit }
     ensures { IfOk result (λ _. (actions.new.items ≡ actions.old.items ++ block first.now second.now number entry.now.path entry.now.reason above (length actions.old.items)) × (length actions.new.items ≤ action_limit)) }
 {
@@ -31,7 +39,13 @@ pub(crate) fn add_entry(alloc: Global, actions: &mut Vec<Action>, number: u32, e
 }
 
 /// Adds the actions of an entry that is copied, of the rows at its path and below it.
-fn add_copy(alloc: Global, actions: &mut Vec<Action>, entry: u32, rows: &[Row<Stamp>], above: Option<u32>) -> Result<(), PlanFault>
+fn add_copy(
+    alloc: Global,
+    actions: &mut Vec<Action>,
+    entry: u32,
+    rows: &[Row<Stamp>],
+    above: Option<u32>,
+) -> Result<(), PlanFault>
     requires { length actions.old.items ≤ action_limit }
     ensures { IfOk result (λ _. (actions.new.items ≡ actions.old.items ++ copy_block entry rows.now above (length actions.old.items)) × (length actions.new.items ≤ action_limit)) }
 {
@@ -48,7 +62,13 @@ fn add_copy(alloc: Global, actions: &mut Vec<Action>, entry: u32, rows: &[Row<St
 }
 
 /// Adds the pieces of a file.
-fn add_file(alloc: Global, actions: &mut Vec<Action>, entry: u32, path: &Path, size: u64) -> Result<(), PlanFault>
+fn add_file(
+    alloc: Global,
+    actions: &mut Vec<Action>,
+    entry: u32,
+    path: &Path,
+    size: u64,
+) -> Result<(), PlanFault>
     requires { length actions.old.items ≤ action_limit }
     ensures { IfOk result (λ _. (actions.new.items ≡ actions.old.items ++ each_below (piece_of entry path.now size) (piece_count size)) × (length actions.new.items ≤ action_limit)) }
 {
@@ -73,11 +93,21 @@ fn add_file(alloc: Global, actions: &mut Vec<Action>, entry: u32, path: &Path, s
 fn count_pieces(size: u64) -> u64
     ensures { result ≡ piece_count size }
 {
-    if size == 0 { 0 } else { (size - 1) / PIECE_SIZE + 1 }
+    if size == 0 {
+        0
+    } else {
+        (size - 1) / PIECE_SIZE + 1
+    }
 }
 
 /// Adds the mark of an entry, which waits for these two.
-fn add_mark(alloc: Global, actions: &mut Vec<Action>, entry: u32, above: Option<u32>, commit: Option<u32>) -> Result<(), PlanFault>
+fn add_mark(
+    alloc: Global,
+    actions: &mut Vec<Action>,
+    entry: u32,
+    above: Option<u32>,
+    commit: Option<u32>,
+) -> Result<(), PlanFault>
     requires { length actions.old.items ≤ action_limit }
     ensures { IfOk result (λ _. (actions.new.items ≡ actions.old.items ++ mark_of entry above commit ∷ []) × (length actions.new.items ≤ action_limit)) }
 {
@@ -114,4 +144,57 @@ fn numbers(alloc: Global, from: u32, to: u32) -> Result<Vec<u32>, AllocError>
         found.push(number)?;
     }
     Ok(found)
+}
+
+#[cfg(test)]
+mod tests {
+    use super::*;
+    use std::test::Fail;
+
+    #[test]
+    fn pieces_are_of_a_mebibyte(rt: HostRuntime) -> Result<(), Fail> {
+        let alloc = rt.alloc();
+        let path = Path::parse_text(alloc, b"/g")?;
+        let mut actions = Vec::new(alloc);
+        add_file(alloc, &mut actions, 2, &path, 1_048_577)?;
+        assert_eq!(rt; actions.len(), 2);
+        assert!(rt;
+            matches!(
+                &actions[0].kind,
+                Kind::Piece {
+                    entry: 2,
+                    offset: 0,
+                    length: 1_048_576,
+                    ..
+                }
+            )
+        );
+        assert!(rt;
+            matches!(
+                &actions[1].kind,
+                Kind::Piece {
+                    entry: 2,
+                    offset: 1_048_576,
+                    length: 1,
+                    ..
+                }
+            )
+        );
+        let mut actions = Vec::new(alloc);
+        add_file(alloc, &mut actions, 0, &path, 0)?;
+        assert_eq!(rt; actions.len(), 0);
+        add_file(alloc, &mut actions, 0, &path, 1_048_576)?;
+        assert_eq!(rt; actions.len(), 1);
+        Ok(())
+    }
+
+    #[test]
+    fn a_file_past_the_limit_is_refused(rt: HostRuntime) -> Result<(), Fail> {
+        let alloc = rt.alloc();
+        let path = Path::parse_text(alloc, b"/g")?;
+        let mut actions = Vec::new(alloc);
+        let refused = add_file(alloc, &mut actions, 0, &path, u64::MAX);
+        assert!(rt; matches!(refused, Err(PlanFault::PastLimit)));
+        Ok(())
+    }
 }

@@ -1,5 +1,11 @@
-ghost use Rattle.std.specs.Prelude.{◌≤◌, length};
-ghost use Rattle.ts_model.specs.Plans.{entry_limit};
+ghost use Rattle.std.specs.Prelude.{◌≡◌, ◌-◌, ◌<◌, ◌≤◌, IfOk, List, MatchOption, length, slice_get};
+ghost use Rattle.ts_model.specs.Plans.{Valid};
+ghost use Rattle.ts_model.specs.Sync.{listed_snapshot};
+ghost use Rattle.ts_model.specs.declared.hold.Rule.{Rule};
+ghost use Rattle.ts_recon.specs.Reasons.{AreReasons};
+ghost use Rattle.ts_model.specs.Plans.{action_limit, entry_limit};
+ghost use Rattle.ts_plan_build.specs.Built.{AreLeft, AreOrdered, IsBuilt, IsKept};
+ghost use Rattle.ts_plan_build.specs.declared.builder.NewDir.{NewDir};
 
 use crate::block::add_entry;
 use crate::fault::PlanFault;
@@ -12,10 +18,10 @@ use ts_print::Print;
 /// The most entries that a plan may have.
 const ENTRY_LIMIT: usize = 1_048_576;
 
-/// A new directory above the path that the builder is at.
+/// A new directory above the path that the builder is at, and the number of its mark.
 #[derive(Clone, Copy)]
-struct NewDir {
-    entry: usize,
+struct NewDir<'a> {
+    path: &'a Path,
     mark: u32,
 }
 
@@ -25,11 +31,25 @@ struct NewDir {
 /// # Errors
 ///
 /// `PastLimit` where the plan would have too many entries or actions, and want of memory.
-pub fn build(alloc: Global, archive: &Print, first: &Print, second: &Print, entries: Vec<Entry>) -> Result<Plan, PlanFault> {
+pub fn build(
+    alloc: Global,
+    archive: &Print,
+    first: &Print,
+    second: &Print,
+    entries: Vec<Entry>,
+) -> Result<Plan, PlanFault>
+    requires { AreOrdered entries.items }
+    ensures entries { IfOk result (λ plan. plan.entries ≡ entries.items) }
+    ensures valid { (rules : List Rule) → AreReasons (listed_snapshot archive.now first.now second.now rules) entries.items
+        → IfOk result (λ plan. Valid (listed_snapshot archive.now first.now second.now rules) plan) }
+{
+    // reasons and actions are told by the entries and the replicas
     let _ = archive;
     if entries.len() > ENTRY_LIMIT {
         return Err(PlanFault::PastLimit);
     }
+    let _first = first.rows();
+    let _second = second.rows();
     let actions = actions_of(alloc, first, second, entries.as_slice())?;
     Ok(Plan {
         entries: Items::new(entries),
@@ -37,30 +57,59 @@ pub fn build(alloc: Global, archive: &Print, first: &Print, second: &Print, entr
     })
 }
 
-/// The actions of the entries.
-fn actions_of(alloc: Global, first: &Print, second: &Print, entries: &[Entry]) -> Result<Vec<Action>, PlanFault>
-    requires { length entries.now ≤ entry_limit }
+/// The actions of the entries, which ascend by path.
+fn actions_of(
+    alloc: Global,
+    first: &Print,
+    second: &Print,
+    entries: &[Entry],
+) -> Result<Vec<Action>, PlanFault>
+    requires limit { length entries.now ≤ entry_limit }
+    requires ascending { AreOrdered entries.now }
+    ensures built { IfOk result (λ actions. IsBuilt first.now second.now entries.now actions.items (length entries.now)) }
+    ensures limit { IfOk result (λ actions. length actions.items ≤ action_limit) }
 {
     let mut actions = Vec::new(alloc);
     // the new directories above the path, the nearest one last
     let mut dirs = Vec::new(alloc);
     for number in 0..entries.len() {
         let entry = &entries[number];
-        leave(&mut dirs, entries, &entry.path);
+        leave(&mut dirs, &entry.path);
         let above = nearest(dirs.as_slice());
         let mark = actions.len() as u32;
-        add_entry(alloc, &mut actions, number as u32, entry, above, first, second)?;
-        if entry.reason == Reason::Dir {
-            dirs.push(NewDir { entry: number, mark })?;
-        }
+        add_entry(
+            alloc,
+            &mut actions,
+            number as u32,
+            entry,
+            above,
+            first,
+            second,
+        )?;
+        keep(&mut dirs, entry, mark)?;
     }
     Ok(actions)
 }
 
+/// Puts the entry at the end of the directories, where it is a new one.
+fn keep<'a>(dirs: &mut Vec<NewDir<'a>>, entry: &'a Entry, mark: u32) -> Result<(), PlanFault>
+    ensures { IfOk result (λ _. IsKept entry.now mark dirs.old.items dirs.new.items) }
+{
+    if entry.reason == Reason::Dir {
+        dirs.push(NewDir {
+            path: &entry.path,
+            mark,
+        })?;
+    }
+    Ok(())
+}
+
 /// Takes off the directories that aren't above the path.
-fn leave(dirs: &mut Vec<NewDir>, entries: &[Entry], path: &Path) {
+fn leave(dirs: &mut Vec<NewDir>, path: &Path)
+    ensures { AreLeft path.now dirs.old.items dirs.new.items }
+{
     while let Some(dir) = dirs.as_slice().last() {
-        if dir.entry < entries.len() && entries[dir.entry].path.is_prefix(path) {
+        if dir.path.is_prefix(path) {
             break;
         }
         dirs.pop();
@@ -68,9 +117,31 @@ fn leave(dirs: &mut Vec<NewDir>, entries: &[Entry], path: &Path) {
 }
 
 /// The mark of the nearest directory.
-fn nearest(dirs: &[NewDir]) -> Option<u32> {
+fn nearest(dirs: &[NewDir]) -> Option<u32>
+    ensures { MatchOption result (length dirs.now ≡ 0) (λ m. (d : NewDir) × (0 < length dirs.now) × (slice_get dirs.now (length dirs.now - 1) ≡ Some d) × (d.mark ≡ m)) }
+{
     match dirs {
         [.., dir] => Some(dir.mark),
         [] => None,
+    }
+}
+
+#[cfg(test)]
+mod tests {
+    use super::*;
+    use std::test::Fail;
+
+    #[test]
+    fn no_entries_need_no_actions(rt: HostRuntime) -> Result<(), Fail> {
+        let alloc = rt.alloc();
+        let (archive, first, second) = (
+            Print::empty(alloc),
+            Print::empty(alloc),
+            Print::empty(alloc),
+        );
+        let plan = build(alloc, &archive, &first, &second, Vec::new(alloc))?;
+        assert_eq!(rt; plan.entries.as_slice().len(), 0);
+        assert_eq!(rt; plan.actions.as_slice().len(), 0);
+        Ok(())
     }
 }

@@ -26,7 +26,11 @@ pub fn encode<W: Sink>(alloc: Global, print: &Print, sink: &mut W) -> Result<(),
 }
 
 /// Writes the line of a row. `line` is room for it.
-pub fn write_row<W: Sink>(row: &Row<Stamp>, line: &mut Vec<u8>, sink: &mut W) -> Result<(), PrintFault>
+pub fn write_row<W: Sink>(
+    row: &Row<Stamp>,
+    line: &mut Vec<u8>,
+    sink: &mut W,
+) -> Result<(), PrintFault>
     ensures written { Writes (W.holds sink.old) (W.holds sink.new) (text (print_row_lines row.now.path row.now.content)) result }
 {
     match &row.content {

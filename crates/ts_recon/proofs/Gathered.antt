@@ -206,15 +206,15 @@ module _ (A F S : Listing Stamp) (rules : List Rule) (lists_a : IsListing A) (li
   -- a step's path is relevant by its length
   pub step_relevant : (b p : Path) (shared : ℕ) (ca cf cs : Content Stamp) → AtStep b p shared ca cf cs → IsBelowDirs (at F) (at S) p ↔ (length p - 1 ≤ shared)
   step_relevant b p shared ca cf cs h = (
-      λ below.
+    λ below.
         let same : below.0 ≡ h.parent = same_parent below.0 h.parent below.1 h.name (sym below.2 ∙ h.is_child) in
         let le : length h.parent ≤ shared = (h.leads h.parent h.parent_above).0 (subst (λ (z : Path). AreBothDirs (at F) (at S) z) same below.3) in
         let n : length p ≡ length h.parent + 1 = child_length p h.parent h.name h.is_child in omega arith,
-      λ le.
+    λ le.
         let n : length p ≡ length h.parent + 1 = child_length p h.parent h.name h.is_child in
         let le' : length h.parent ≤ shared = omega arith in
         (h.parent, h.name, h.is_child, (h.leads h.parent h.parent_above).1 le'),
-    )
+  )
 
   -- how far it leads down
   pub step_leads : (b p : Path) (shared : ℕ) (ca cf cs : Content Stamp) (is_shared : Bool) → AtStep b p shared ca cf cs → (IsTrue is_shared ↔ ((cf ≡ Dir) × (cs ≡ Dir))) → (q : Path) → IsAbove q p
@@ -240,9 +240,10 @@ module _ (A F S : Listing Stamp) (rules : List Rule) (lists_a : IsListing A) (li
           let both = is.0 refl in
           (λ _. let l : length q ≤ length h.parent = above_length q h.parent up in omega (arith, n), λ _. (down F lists_f (h.first_here ∙ both.0) up, down S lists_s (h.second_here ∙ both.1) up))
       go false is (inl e) =
-          let same : q ≡ p = e ∙ sym h.is_child in
-          (λ dirs. absurd (false_true (is.1 (sym h.first_here ∙ ap (at F) (sym same) ∙ dirs.0, sym h.second_here ∙ ap (at S) (sym same) ∙ dirs.1))),
-          λ le. absurd (let l : length q ≡ length p = ap length same in omega (arith, n)))
+          let same : q ≡ p = e ∙ sym h.is_child in (
+            λ dirs. absurd (false_true (is.1 (sym h.first_here ∙ ap (at F) (sym same) ∙ dirs.0, sym h.second_here ∙ ap (at S) (sym same) ∙ dirs.1))),
+            λ le. absurd (let l : length q ≡ length p = ap length same in omega (arith, n)),
+          )
         where
           false_true : false ≢ true
           false_true g = cc

@@ -26,7 +26,11 @@ fn reason_below_dirs(marks: &Marks, seen: &Seen) -> Option<Reason>
     ensures { (s : Snapshot) → IsFoundOf s marks.now → IsSeen s seen.now.path.now seen.now.archive seen.now.first seen.now.second → IsBecause s seen.now.path.now result }
 {
     if is_shared(seen) {
-        return if is_dir(&seen.archive) { None } else { Some(Reason::Dir) };
+        return if is_dir(&seen.archive) {
+            None
+        } else {
+            Some(Reason::Dir)
+        };
     }
     let first = marks.changed(Side::First, seen.path);
     if marks.agree(seen.path) {

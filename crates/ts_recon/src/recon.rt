@@ -19,7 +19,13 @@ use ts_print::Print;
 /// # Errors
 ///
 /// Want of memory.
-pub fn reasons(alloc: Global, archive: &Print, first: &Print, second: &Print, marks: &Marks) -> Result<Vec<Entry>, ReconFault>
+pub fn reasons(
+    alloc: Global,
+    archive: &Print,
+    first: &Print,
+    second: &Print,
+    marks: &Marks,
+) -> Result<Vec<Entry>, ReconFault>
     ensures { (rules : List Rule) → IsFoundOf (listed_snapshot archive.now first.now second.now rules) marks.now
         → IfOk result (λ entries. AreReasons (listed_snapshot archive.now first.now second.now rules) entries.items) }
 {
@@ -27,7 +33,13 @@ pub fn reasons(alloc: Global, archive: &Print, first: &Print, second: &Print, ma
 }
 
 /// The same of the prints' rows.
-fn gather(alloc: Global, archive: &[Row<Stamp>], first: &[Row<Stamp>], second: &[Row<Stamp>], marks: &Marks) -> Result<Vec<Entry>, ReconFault>
+fn gather(
+    alloc: Global,
+    archive: &[Row<Stamp>],
+    first: &[Row<Stamp>],
+    second: &[Row<Stamp>],
+    marks: &Marks,
+) -> Result<Vec<Entry>, ReconFault>
     requires archive { IsListing archive.now }
     requires first { IsListing first.now }
     requires second { IsListing second.now }
@@ -39,14 +51,24 @@ fn gather(alloc: Global, archive: &[Row<Stamp>], first: &[Row<Stamp>], second: &
     // how many names of the path that the walk is at lead down directories of both replicas
     let mut shared = 0;
     while let Some(seen) = walk.next() {
-        add(alloc, &mut entries, seen.path, reason_at(marks, &seen, shared))?;
+        add(
+            alloc,
+            &mut entries,
+            seen.path,
+            reason_at(marks, &seen, shared),
+        )?;
         shared = shared_after(shared, seen.path.depth(), is_shared(&seen));
     }
     Ok(entries)
 }
 
 /// Puts the path with its reason at the end of the entries, where it has one.
-fn add(alloc: Global, entries: &mut Vec<Entry>, path: &Path, reason: Option<Reason>) -> Result<(), AllocError>
+fn add(
+    alloc: Global,
+    entries: &mut Vec<Entry>,
+    path: &Path,
+    reason: Option<Reason>,
+) -> Result<(), AllocError>
     ensures { IfOk result (λ _. entries.new.items ≡ with_reason entries.old.items path.now reason) }
 {
     if let Some(reason) = reason {
@@ -62,7 +84,11 @@ fn add(alloc: Global, entries: &mut Vec<Entry>, path: &Path, reason: Option<Reas
 fn shared_after(shared: usize, depth: usize, is_shared: bool) -> usize
     ensures { result ≡ cond is_shared depth (min shared (depth - 1)) }
 {
-    if is_shared { depth } else { shared.min(depth.saturating_sub(1)) }
+    if is_shared {
+        depth
+    } else {
+        shared.min(depth.saturating_sub(1))
+    }
 }
 
 #[cfg(test)]
@@ -75,7 +101,11 @@ mod tests {
     #[test]
     fn nothing_needs_attention(rt: HostRuntime) -> Result<(), Fail> {
         let alloc = rt.alloc();
-        let (archive, first, second) = (Print::empty(alloc), Print::empty(alloc), Print::empty(alloc));
+        let (archive, first, second) = (
+            Print::empty(alloc),
+            Print::empty(alloc),
+            Print::empty(alloc),
+        );
         let marks = detect(alloc, &archive, &first, &second, &Holds::none(alloc))?;
         let entries = reasons(alloc, &archive, &first, &second, &marks)?;
         assert_eq!(rt; entries.len(), 0);

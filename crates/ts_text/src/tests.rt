@@ -63,11 +63,11 @@ fn transcript<S: Source + Drop>(alloc: Global, source: S) -> Result<Vec<u8>, Fai
             }
             Ok(None) => {
                 out.push(b'.')?;
-                ends += 1;
+                ends = if ends == 0 { 1 } else { 2 };
             }
             Err(fault) => {
                 push_decimal(&mut out, u64::from(fault.number()))?;
-                ends += 1;
+                ends = if ends == 0 { 1 } else { 2 };
             }
         }
     }

@@ -22,10 +22,12 @@ use Rattle.ts_tree.specs.Trees.{EditFits}
 -- each row says what is listed at its path
 pub lists_each : {F : Type 0} (rows : Listing F) → Ascend rows → AllByRecursion (λ row. listed rows row.path ≡ row.content) rows
 lists_each [] up = tt
-lists_each {F} (row ∷ rows) up =
-    (listed_here row rows, weaker (λ (r : Row F). IsBefore row.path r.path × (listed rows r.path ≡ r.content)) (λ r. listed (row ∷ rows) r.path ≡ r.content)
-        (λ r h. listed_after (row ∷ []) rows r.path ((λ e. before_itself r.path (subst (λ z. IsBefore z r.path) e h.0)), tt) ∙ h.1)
-        rows (all_both (λ (r : Row F). IsBefore row.path r.path) (λ r. listed rows r.path ≡ r.content) rows (ascend_first row rows up) (lists_each rows (ascend_rest row rows up))))
+lists_each {F} (row ∷ rows) up = (
+  listed_here row rows,
+  weaker (λ (r : Row F). IsBefore row.path r.path × (listed rows r.path ≡ r.content)) (λ r. listed (row ∷ rows) r.path ≡ r.content)
+      (λ r h. listed_after (row ∷ []) rows r.path ((λ e. before_itself r.path (subst (λ z. IsBefore z r.path) e h.0)), tt) ∙ h.1)
+      rows (all_both (λ (r : Row F). IsBefore row.path r.path) (λ r. listed rows r.path ≡ r.content) rows (ascend_first row rows up) (lists_each rows (ascend_rest row rows up))),
+)
 
 -- what is there in a listing is at a path
 pub at_path : {F : Type 0} (rows : Listing F) → IsListing rows → (q : Path) → at rows q ≢ Absent → IsPath q
@@ -39,8 +41,8 @@ pub part_paths : {F : Type 0} (rows part : Listing F) (p : Path) → IsListing r
 part_paths {F} rows part p lists is same =
     all_map (λ (row : Row F). IsPath row.path) (λ row. record { path = p ++ row.path; content = row.content }) part
     (weaker (λ (row : Row F). (IsPath row.path × (row.content ≢ Absent)) × (listed part row.path ≡ row.content)) (λ row. IsPath (p ++ row.path))
-        (λ row h. at_path rows lists (p ++ row.path) (λ gone. h.0.1 (sym h.1 ∙ at_each same row.path ∙ gone)))
-        part (all_both (λ (row : Row F). IsPath row.path × (row.content ≢ Absent)) (λ row. listed part row.path ≡ row.content) part is.rows_are (lists_each part is.ascending)))
+    (λ row h. at_path rows lists (p ++ row.path) (λ gone. h.0.1 (sym h.1 ∙ at_each same row.path ∙ gone)))
+    part (all_both (λ (row : Row F). IsPath row.path × (row.content ≢ Absent)) (λ row. listed part row.path ≡ row.content) part is.rows_are (lists_each part is.ascending)))
 
 -- ---- files
 

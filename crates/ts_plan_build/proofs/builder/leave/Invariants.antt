@@ -1,5 +1,10 @@
-use Rattle.std.proofs.Common.{vec_len}
+use Rattle.std.proofs.Common.{◌≡◌, ℕ, List, ◌++◌, Some, slice_get, vec_len}
+use Rattle.ts_name.specs.Paths.{IsAbove}
+use Rattle.ts_plan_build.specs.Built.{AreOff}
 use Rattle.ts_plan_build.proofs.builder.leave.Given as goal
+
+abbrev pub invariant-loop-dir : goal.invariant-loop-dir
+invariant-loop-dir l = AreOff l.fn.path l.initial.dirs.items l.dirs.items
 
 abbrev pub decreases-loop-dir : goal.decreases-loop-dir
 decreases-loop-dir l = vec_len l.dirs

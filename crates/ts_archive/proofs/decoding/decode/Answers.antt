@@ -1,0 +1,73 @@
+use Rattle.std.proofs.Common.{◌≡◌, ◌∷◌, [], ◌++◌, length, refl, sym, ap, ◌∙◌, subst, inl, inr}
+use Rattle.std.proofs.lemmas.Bool.{false≢true}
+use Rattle.sha2.specs.Hashers.{Holds256}
+use Rattle.ts_model.specs.Texts.{text}
+use Rattle.ts_tree.proofs.Taken.{Taken, taken_more, taken_none}
+use Rattle.ts_archive.specs.Endings.{header}
+use Rattle.ts_archive.proofs.Archives.{counted_more, hashed_more, right_end, wrong_end}
+use Rattle.ts_archive.proofs.decoding.decode.Goals as goal
+
+pub loop-count-init : goal.loop-count-init
+loop-count-init g c =
+    let gives = rw c.if-not-branch.false at c.in_ok-advance.ensures.answers in
+    let first = taken_more c.args.lines.now c.args.lines.now c.advance.new.self [] (taken_none c.args.lines.now) gives in
+    let is_line = sym c.line.ensures ∙ c.is_header.ensures.0 c.if-not-is_header.false in
+    rw c.new-reader.ensures (record {
+      taken = subst (λ z. Taken c.args.lines.now c.advance.new.self (z ∷ [])) is_line first;
+      hashed = subst (λ z. Holds256 c.update.new.self z) c.as_slice.ensures (c.update.ensures [] c.new-hasher.ensures);
+      counted = refl;
+    })
+
+pub loop-count-preserved : goal.loop-count-preserved
+loop-count-preserved g c =
+    let fed = c.loop-count.reader in
+    let gives = rw c.if-not-branch-2.false at c.in_ok-advance-2.ensures.answers in
+    let more = taken_more c.args.lines.now c.loop-count.lines c.advance-in-loop-count.new.self (header ∷ fed) c.loop-count.invariant.taken gives in
+    let line = c.line-line.result.now in
+    rw c.in_default-line.ensures.taken (record {
+      taken = subst (λ z. Taken c.args.lines.now c.advance-in-loop-count.new.self (header ∷ (fed ++ z ∷ []))) (sym c.line-line.ensures) more;
+      hashed = subst (λ z. Holds256 c.update-in-loop-count-2.new.self z) (hashed_more fed line)
+          (subst (λ z. Holds256 c.update-in-loop-count-2.new.self ((text (header ∷ fed) ++ line) ++ z)) c.as_slice-in-loop-count.ensures (c.update-in-loop-count-2.ensures (text (header ∷ fed) ++ line) (c.update-in-loop-count.ensures (text (header ∷ fed)) c.loop-count.invariant.hashed)));
+      counted = counted_more fed line c.loop-count.count c.loop-count.invariant.counted;
+    })
+
+-- The count is wrong.
+pub returns-then-told-count-clause-refused : goal.returns-then-told-count-clause-refused
+returns-then-told-count-clause-refused g c =
+    let fed = c.loop-count.reader in
+    let line = c.line-line.result.now in
+    let told = c.in-Some.ensures.found in
+    let gives = rw c.if-not-branch-2.false at c.in_ok-advance-2.ensures.answers in
+    let more = taken_more c.args.lines.now c.loop-count.lines c.advance-in-loop-count.new.self (header ∷ fed) c.loop-count.invariant.taken gives in
+    let taken = subst (λ z. Taken c.args.lines.now c.advance-in-loop-count.new.self (header ∷ (fed ++ z ∷ []))) (sym c.line-line.ensures) more in
+    let ends = rw c.if-branch.false at c.in_ok-advance-3.ensures.answers in
+    wrong_end c.args.lines.now c.advance-in-loop-count.new.self c.advance-in-Some.new.self fed line c.reader.inside.print c.in-Some.told.0 c.in-Some.told.1 taken ends told.1 told.0
+    (inl (λ e. c.if-told-count.true (e ∙ sym c.loop-count.invariant.counted))) c.reader.invariant c.reader.view_is
+
+-- The digest is wrong.
+pub returns-then-not-is_same-clause-refused : goal.returns-then-not-is_same-clause-refused
+returns-then-not-is_same-clause-refused g c =
+    let fed = c.loop-count.reader in
+    let line = c.line-line.result.now in
+    let told = c.in-Some.ensures.found in
+    let gives = rw c.if-not-branch-2.false at c.in_ok-advance-2.ensures.answers in
+    let more = taken_more c.args.lines.now c.loop-count.lines c.advance-in-loop-count.new.self (header ∷ fed) c.loop-count.invariant.taken gives in
+    let taken = subst (λ z. Taken c.args.lines.now c.advance-in-loop-count.new.self (header ∷ (fed ++ z ∷ []))) (sym c.line-line.ensures) more in
+    let ends = rw c.if-branch.false at c.in_ok-advance-3.ensures.answers in
+    let sum = c.finalize-sum.ensures (text (header ∷ fed)) c.loop-count.invariant.hashed in
+    wrong_end c.args.lines.now c.advance-in-loop-count.new.self c.advance-in-Some.new.self fed line c.reader.inside.print c.in-Some.told.0 c.in-Some.told.1 taken ends told.1 told.0
+    (inr (λ e. false≢true (sym c.if-not-is_same.true ∙ c.is_same.ensures.1 (e ∙ sym sum)))) c.reader.invariant c.reader.view_is
+
+-- Both are right.
+pub returns-in-Ok-clause-found : goal.returns-in-Ok-clause-found
+returns-in-Ok-clause-found g c =
+    let fed = c.loop-count.reader in
+    let line = c.line-line.result.now in
+    let told = c.in-Some.ensures.found in
+    let gives = rw c.if-not-branch-2.false at c.in_ok-advance-2.ensures.answers in
+    let more = taken_more c.args.lines.now c.loop-count.lines c.advance-in-loop-count.new.self (header ∷ fed) c.loop-count.invariant.taken gives in
+    let taken = subst (λ z. Taken c.args.lines.now c.advance-in-loop-count.new.self (header ∷ (fed ++ z ∷ []))) (sym c.line-line.ensures) more in
+    let ends = rw c.if-branch.false at c.in_ok-advance-3.ensures.answers in
+    let sum = c.finalize-sum.ensures (text (header ∷ fed)) c.loop-count.invariant.hashed in
+    right_end c.args.lines.now c.advance-in-loop-count.new.self c.advance-in-Some.new.self fed line c.in-Ok.print c.in-Some.told.0 c.in-Some.told.1 taken ends told.1
+    (c.if-told-count.false ∙ c.loop-count.invariant.counted) (c.is_same.ensures.0 c.if-not-is_same.false ∙ sum) c.in-Ok.ensures.found.0 c.in-Ok.ensures.found.1

@@ -1,0 +1,28 @@
+-- The faults of archive files.
+use Rattle.std.specs.Prelude.{ℕ}
+use Rattle.ts_text.specs.declared.fault.TextFault.{TextFault}
+use Rattle.ts_text.specs.declared.fault.TextFault.TheVariants as text
+use Rattle.ts_print.specs.declared.fault.PrintFault.{PrintFault}
+use Rattle.ts_print.specs.declared.fault.PrintFault.TheVariants as print
+use Rattle.ts_archive.specs.declared.fault.ArchiveFault.{ArchiveFault}
+use Rattle.ts_archive.specs.declared.fault.ArchiveFault.TheVariants as fault
+
+-- the number by which the program tells the fault
+abbrev pub fault_number : ArchiveFault → ℕ
+fault_number fault.OutOfMemory = 1
+fault_number fault.Failed = 5
+fault_number fault.NotCanonical = 6
+fault_number fault.WrongEnd = 7
+
+-- the fault of a text as one of an archive file
+abbrev pub fault_of_text : TextFault → ArchiveFault
+fault_of_text text.OutOfMemory = fault.OutOfMemory
+fault_of_text text.Failed = fault.Failed
+fault_of_text text.NotCanonical = fault.NotCanonical
+
+-- the fault of a print's reader
+abbrev pub fault_of_reader : PrintFault → ArchiveFault
+fault_of_reader print.OutOfMemory = fault.OutOfMemory
+fault_of_reader print.TooLong = fault.OutOfMemory
+fault_of_reader print.Failed = fault.OutOfMemory
+fault_of_reader print.NotCanonical = fault.NotCanonical

@@ -1,0 +1,13 @@
+//! The archive file: a print, with its count of lines and its digest at the end.
+#![tactic(auto)]
+
+pub mod decoding;
+pub mod encoding;
+pub mod ending;
+pub mod fault;
+#[cfg(test)]
+mod tests;
+
+pub use decoding::decode;
+pub use encoding::encode;
+pub use fault::ArchiveFault;

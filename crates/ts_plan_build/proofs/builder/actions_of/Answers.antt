@@ -1,0 +1,16 @@
+use Rattle.std.proofs.Common.{◌≡◌, ◌-◌, ◌<◌, List, MatchOption, length, Some, ℕ, slice_get, arith, refl, subst}
+use Rattle.std.proofs.lemmas.Option.{slice_get_read}
+use Rattle.ts_plan_build.specs.declared.builder.NewDir.{NewDir}
+use Rattle.ts_plan_build.proofs.Dirs.{built_turn}
+use Rattle.ts_plan_build.proofs.builder.actions_of.Goals as goal
+
+pub loop-number-preserved : goal.loop-number-preserved
+loop-number-preserved c =
+    let at : c.len-mark.result ≡ length c.loop-number.actions.items = omega (arith, c.len-mark.ensures, c.loop-number.actions.ok) in
+    let turn = built_turn c.args.first.now c.args.second.now c.args.entries.now c.requires.ascending c.loop-number.actions.items c.add_entry.new.actions.items c.loop-number.number c.len-mark.result
+    c.index-entries-number.result c.nearest-above.result c.loop-number.dirs.items c.leave.new.dirs.items c.keep.new.dirs.items
+    c.loop-number.invariant.built c.loop-number.invariant.dirs (slice_get_read c.args.entries.now (length c.args.entries.now) c.loop-number.number c.index-entries-number.result refl c.loop-number-test.true c.index-entries-number.is)
+    c.leave.ensures
+    (subst (λ (z : List NewDir). MatchOption c.nearest-above.result (length z ≡ 0) (λ m. (d : NewDir) × (0 < length z) × (slice_get z (length z - 1) ≡ Some d) × (d.mark ≡ m))) c.as_slice.ensures.value c.nearest-above.ensures)
+    at c.in_ok-add_entry.ensures.0 c.in_ok-keep.ensures in
+    record { limit = c.in_ok-add_entry.ensures.1; built = turn.0; dirs = turn.1 }
