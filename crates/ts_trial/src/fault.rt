@@ -3,10 +3,10 @@ ghost use Rattle.ts_trial.specs.Faults.{fault_number};
 
 use std::alloc::{AllocError, AllocFailed};
 use thiserror::Error;
-use ts_name::PathFault;
+use ts_bundle::BundleFault;
+use ts_carry::CarryFault;
 use ts_print::PrintFault;
 use ts_text::TextFault;
-use ts_tree::TreeFault;
 
 /// Why `trial` ended without an answer.
 #[derive(Clone, Copy, Debug, PartialEq, Eq, Error)]
@@ -51,14 +51,26 @@ impl<T: Drop> From<AllocFailed<T>> for TrialFault {
     }
 }
 
-/// A path that is copied meets want of memory alone.
-impl From<PathFault> for TrialFault {
+/// A plan that is carried out meets want of memory alone.
+impl From<CarryFault> for TrialFault {
     ghost use Rattle.std.specs.Prelude.{◌≡◌};
     ghost use Rattle.ts_trial.specs.declared.fault.TrialFault.TheVariants.{OutOfMemory};
 
     ghost from_gives = { λ _ e. e ≡ OutOfMemory };
 
-    fn from(_fault: PathFault) -> TrialFault {
+    fn from(_fault: CarryFault) -> TrialFault {
+        TrialFault::OutOfMemory
+    }
+}
+
+/// The print of a tree meets want of memory alone.
+impl From<PrintFault> for TrialFault {
+    ghost use Rattle.std.specs.Prelude.{◌≡◌};
+    ghost use Rattle.ts_trial.specs.declared.fault.TrialFault.TheVariants.{OutOfMemory};
+
+    ghost from_gives = { λ _ e. e ≡ OutOfMemory };
+
+    fn from(_fault: PrintFault) -> TrialFault {
         TrialFault::OutOfMemory
     }
 }
@@ -72,20 +84,11 @@ impl From<TextFault> for TrialFault {
     }
 }
 
-impl From<TreeFault> for TrialFault {
-    fn from(fault: TreeFault) -> TrialFault {
+impl From<BundleFault> for TrialFault {
+    fn from(fault: BundleFault) -> TrialFault {
         match fault {
-            TreeFault::OutOfMemory => TrialFault::OutOfMemory,
-            _ => TrialFault::Failed,
-        }
-    }
-}
-
-impl From<PrintFault> for TrialFault {
-    fn from(fault: PrintFault) -> TrialFault {
-        match fault {
-            PrintFault::OutOfMemory => TrialFault::OutOfMemory,
-            _ => TrialFault::Failed,
+            BundleFault::OutOfMemory => TrialFault::OutOfMemory,
+            BundleFault::Failed | BundleFault::Malformed => TrialFault::Failed,
         }
     }
 }

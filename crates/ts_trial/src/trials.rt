@@ -1,10 +1,20 @@
-use crate::carry::carry_out;
+ghost use Rattle.std.specs.Prelude.{◌≡◌, ◌≢◌, ◌∷◌, ◌++◌, ℕ, [], IfOk, IfSome, OnOk, min};
+ghost use Rattle.ts_bundle.specs.Bundles.{values};
+ghost use Rattle.ts_model.specs.Headline.{Meets};
+ghost use Rattle.ts_model.specs.Plans.{Valid};
+ghost use Rattle.ts_model.specs.Sync.{listed_snapshot};
+ghost use Rattle.ts_model.specs.Texts.{IsBundle, text};
+ghost use Rattle.ts_model.specs.Trees.{AreApart, at, print_of};
+ghost use Rattle.ts_model.specs.Trial.{HasContentsApart, Trial, skipped_count};
+ghost use Rattle.ts_text.specs.Sources.{Writes};
+ghost use Rattle.ts_trial.specs.Answers.{AnswersBundle, WritesOne, refusal};
+
 use crate::fault::TrialFault;
-use crate::outcome::{skipped_count, write_result};
 use std::alloc::Global;
-use ts_bundle::{Bundle, BundleFault, read};
+use ts_bundle::{Bundle, BundleFault, count_skipped, read, write_result};
+use ts_carry::carry_out;
 use ts_check::{CheckFault, check};
-use ts_model::plan::PlanRule;
+use ts_model::plan::{Entry, PlanRule};
 use ts_print::Print;
 use ts_text::{Sink, Source, push_decimal, write_line};
 
@@ -19,20 +29,22 @@ pub fn trial<R: Source + Drop, W: Sink>(
     alloc: Global,
     reader: R,
     writer: &mut W,
-) -> Result<u8, TrialFault> {
+) -> Result<u8, TrialFault>
+    ensures answered { IfSome (R.holds reader) (λ bytes. HasContentsApart bytes → WritesOne (Trial bytes) (W.holds writer.old) (W.holds writer.new) result) }
+{
     match read(alloc, reader) {
         Ok(bundle) => answer(alloc, &bundle, writer),
-        Err(BundleFault::Malformed) => {
-            write_line(writer, b"malformed")?;
-            Ok(REFUSED)
-        }
+        Err(BundleFault::Malformed) => refuse(b"malformed", writer),
         Err(BundleFault::OutOfMemory) => Err(TrialFault::OutOfMemory),
         Err(BundleFault::Failed) => Err(TrialFault::Failed),
     }
 }
 
 /// Checks a bundle's plan, carries it out, and writes the result.
-fn answer<W: Sink>(alloc: Global, bundle: &Bundle, writer: &mut W) -> Result<u8, TrialFault> {
+fn answer<W: Sink>(alloc: Global, bundle: &Bundle, writer: &mut W) -> Result<u8, TrialFault>
+    requires { IsBundle (values bundle.now) }
+    ensures answered { AreApart (Meets (at bundle.now.first) (at bundle.now.second) []) → WritesOne (AnswersBundle (values bundle.now)) (W.holds writer.old) (W.holds writer.new) result }
+{
     let first = Print::of_tree(alloc, &bundle.first)?;
     let second = Print::of_tree(alloc, &bundle.second)?;
     match check(
@@ -43,34 +55,85 @@ fn answer<W: Sink>(alloc: Global, bundle: &Bundle, writer: &mut W) -> Result<u8,
         &second,
         &bundle.holds,
     ) {
-        Ok(_) => {}
-        Err(CheckFault::Broken { rule, place }) => return refuse(alloc, rule, place, writer),
-        Err(CheckFault::OutOfMemory) => return Err(TrialFault::OutOfMemory),
+        Ok(_) => settle(alloc, bundle, &first, &second, writer),
+        Err(CheckFault::Broken { rule, place }) => refuse_plan(alloc, rule, place, writer),
+        Err(CheckFault::OutOfMemory) => Err(TrialFault::OutOfMemory),
     }
-    let entries = bundle.plan.entries.as_slice();
+}
+
+/// Carries out a valid plan, and writes the result.
+fn settle<W: Sink>(
+    alloc: Global,
+    bundle: &Bundle,
+    first: &Print,
+    second: &Print,
+    writer: &mut W,
+) -> Result<u8, TrialFault>
+    requires bundle { IsBundle (values bundle.now) }
+    requires first { at first.now ≡ print_of (at bundle.now.first) }
+    requires second { at second.now ≡ print_of (at bundle.now.second) }
+    requires valid { Valid (listed_snapshot bundle.now.archive first.now second.now bundle.now.holds) bundle.now.plan }
+    ensures answered { AreApart (Meets (at bundle.now.first) (at bundle.now.second) []) → WritesOne (AnswersBundle (values bundle.now)) (W.holds writer.old) (W.holds writer.new) result }
+{
     let outcome = carry_out(
         alloc,
-        entries,
-        (&bundle.first, &bundle.second),
+        &bundle.plan,
         &bundle.archive,
-        (&first, &second),
+        &bundle.first,
+        &bundle.second,
+        first,
+        second,
     )?;
-    write_result(alloc, &outcome, entries, writer)?;
-    Ok(if skipped_count(entries) == 0 { 0 } else { 1 })
+    let entries = bundle.plan.entries.as_slice();
+    write_result(
+        alloc,
+        outcome.first.rows(),
+        outcome.second.rows(),
+        outcome.archive.rows(),
+        entries,
+        writer,
+    )?;
+    Ok(exit_status(entries))
+}
+
+/// The exit status of a plan that was carried out.
+fn exit_status(entries: &[Entry]) -> u8
+    ensures { result ≡ min 1 (skipped_count entries.now) }
+{
+    if count_skipped(entries) == 0 { 0 } else { 1 }
 }
 
 /// Tells which rule a plan breaks first, and where.
-fn refuse<W: Sink>(
+fn refuse_plan<W: Sink>(
     alloc: Global,
     rule: PlanRule,
     place: u64,
     writer: &mut W,
-) -> Result<u8, TrialFault> {
+) -> Result<u8, TrialFault>
+    ensures written { Writes (W.holds writer.old) (W.holds writer.new) (text (refusal rule place ∷ [])) result }
+    ensures status { IfOk result (λ status. status ≡ 3) }
+{
     let mut line = Vec::new(alloc);
+    push_refusal(rule, place, &mut line)?;
+    refuse(&line, writer)
+}
+
+/// Appends the line that refuses a plan.
+fn push_refusal(rule: PlanRule, place: u64, line: &mut Vec<u8>) -> Result<(), TrialFault>
+    ensures { OnOk result (line.new.items ≡ line.old.items ++ refusal rule place) }
+{
     line.extend_from_slice(b"refused ")?;
-    push_decimal(&mut line, u64::from(rule.number()))?;
+    push_decimal(line, u64::from(rule.number()))?;
     line.push(b' ')?;
-    push_decimal(&mut line, place)?;
-    write_line(writer, &line)?;
+    push_decimal(line, place)?;
+    Ok(())
+}
+
+/// Writes a refusal's only line.
+fn refuse<W: Sink>(line: &[u8], writer: &mut W) -> Result<u8, TrialFault>
+    ensures written { Writes (W.holds writer.old) (W.holds writer.new) (text (line.now ∷ [])) result }
+    ensures status { IfOk result (λ status. status ≡ 3) }
+{
+    write_line(writer, line)?;
     Ok(REFUSED)
 }

@@ -2,6 +2,9 @@
 //! on standard error.
 #![tactic(auto)]
 
+ghost use Rattle.std.specs.Prelude.{◌≡◌};
+ghost use Rattle.twosync.specs.Faults.{fault_number};
+
 use std::env;
 use std::io::{self, BufWriter, Input, Write};
 use std::process::ExitCode;
@@ -18,7 +21,10 @@ enum Fault {
 }
 
 impl Fault {
-    fn number(self) -> u8 {
+    /// 1 for memory, 5 for a reader or writer, 16 for words that are no command.
+    fn number(self) -> u8
+        ensures { result ≡ fault_number self }
+    {
         match self {
             Fault::OutOfMemory => 1,
             Fault::Failed => 5,

@@ -2,6 +2,8 @@
 //! those that stand beside it. Bundles that are kept packed are left to `tests/worked_bundles.sh`.
 #![tactic(auto)]
 
+ghost use Rattle.std.specs.Prelude.{◌≡◌, ◌↔◌, IsTrue};
+
 use anyhow::{Context, Result, bail};
 use std::alloc::Global;
 use std::fs;
@@ -17,6 +19,13 @@ const KNOWN: &str = "plan_1";
 struct Answer {
     text: Vec<u8>,
     status: u8,
+}
+
+/// Whether two answers have the same text and the same status.
+fn is_same(got: &Answer, want: &Answer) -> bool
+    ensures { IsTrue result ↔ (got.now.text.items ≡ want.now.text.items) × (got.now.status ≡ want.now.status) }
+{
+    got.status == want.status && got.text.as_slice() == want.text.as_slice()
 }
 
 /// The answer that stands beside a bundle.
@@ -51,7 +60,7 @@ fn is_as_wanted<R: Files + AllocGlobal>(
     let bundle = fs::read(rt, file.as_str())?;
     let got = answered(rt.alloc(), bundle.as_slice())?;
     let want = wanted(rt, name, level, status)?;
-    Ok(got.status == want.status && got.text.as_slice() == want.text.as_slice())
+    Ok(is_same(&got, &want))
 }
 
 fn main(rt: HostRuntime) -> Result<()> {
