@@ -9,6 +9,8 @@ bundles=crates/worked_bundles/data
 known=plan_1
 passed=0
 failed=0
+# After `rt ci` the program stands there; else it is built.
+[ -x "$program" ] || (cd crates/twosync && rt run -- trial <stdin >/dev/null)
 work=$(mktemp -d)
 trap 'rm -rf "$work"' EXIT
 
