@@ -23,9 +23,19 @@ EndFits count digest = (count < 2 ^ 64) × IsBytes digest × (length digest ≡ 
 abbrev pub DecodesArchive : Reading → Listing Stamp → Type 0
 DecodesArchive old rows = IsPrintBody rows × IfSome old.left (λ bytes. IsArchiveText bytes rows)
 
+-- no print's archive file, and not one but for its end line either
+pub record IsNoArchive (bytes : List ℕ) : Type 0 where
+  pub none : (rows : Listing Stamp) → ¬ IsArchiveText bytes rows
+  pub other_end : ¬ HasWrongEnd bytes
+
+-- the archive file of a print but for its end line, and of none with it
+pub record EndsWrong (bytes : List ℕ) : Type 0 where
+  pub wrong : HasWrongEnd bytes
+  pub none : (rows : Listing Stamp) → ¬ IsArchiveText bytes rows
+
 -- why no print is answered
 abbrev pub FindsNoArchive : Reading → Reading → ArchiveFault → Type 0
 FindsNoArchive old new fault.OutOfMemory = Unit {0}
 FindsNoArchive old new fault.Failed = SourceFailed old new
-FindsNoArchive old new fault.NotCanonical = Unit {0}
-FindsNoArchive old new fault.WrongEnd = IfSome old.left HasWrongEnd
+FindsNoArchive old new fault.NotCanonical = IfSome old.left IsNoArchive
+FindsNoArchive old new fault.WrongEnd = IfSome old.left EndsWrong

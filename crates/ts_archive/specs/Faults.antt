@@ -1,5 +1,5 @@
 -- The faults of archive files.
-use Rattle.std.specs.Prelude.{ℕ}
+use Rattle.std.specs.Prelude.{◌≡◌, ◌≢◌, ℕ, Result, Ok, Err}
 use Rattle.ts_text.specs.declared.fault.TextFault.{TextFault}
 use Rattle.ts_text.specs.declared.fault.TextFault.TheVariants as text
 use Rattle.ts_print.specs.declared.fault.PrintFault.{PrintFault}
@@ -26,3 +26,11 @@ fault_of_reader print.OutOfMemory = fault.OutOfMemory
 fault_of_reader print.TooLong = fault.OutOfMemory
 fault_of_reader print.Failed = fault.OutOfMemory
 fault_of_reader print.NotCanonical = fault.NotCanonical
+
+-- a writer's fault: its sink's count of failures changes where the sink failed, and only there; else memory ran out
+abbrev pub FailuresFit : {A : Type 0} → ℕ → ℕ → Result A ArchiveFault → Type 0
+FailuresFit old new (Ok x) = new ≡ old
+FailuresFit old new (Err fault.OutOfMemory) = new ≡ old
+FailuresFit old new (Err fault.Failed) = new ≢ old
+FailuresFit old new (Err fault.NotCanonical) = ⊥
+FailuresFit old new (Err fault.WrongEnd) = ⊥

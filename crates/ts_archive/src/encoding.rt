@@ -3,6 +3,7 @@ ghost use Rattle.std.specs.Prelude.{◌≡◌, IfErr, IfOk};
 ghost use Rattle.ts_model.specs.Texts.{archive_front, archive_text};
 ghost use Rattle.sha2.specs.Sha256.{sha256};
 ghost use Rattle.ts_archive.specs.Endings.{end_line};
+ghost use Rattle.ts_archive.specs.Faults.{FailuresFit};
 ghost use Rattle.ts_text.specs.Sources.{Writes};
 
 use crate::fault::ArchiveFault;
@@ -16,6 +17,7 @@ use ts_text::{Counted, Sink};
 /// Writes the archive file of the print. After a fault a beginning of it was written.
 pub fn encode<W: Sink>(alloc: Global, print: &Print, sink: &mut W) -> Result<(), ArchiveFault>
     ensures written { Writes (W.holds sink.old) (W.holds sink.new) (archive_text print.now) result }
+    ensures failures { FailuresFit (W.failures sink.old) (W.failures sink.new) result }
 {
     let front = front_of(alloc, print)?;
     let end = end_after(alloc, print.rows().len() as u64, &front)?;

@@ -10,7 +10,7 @@ use Rattle.ts_tree.proofs.Lines.{AreTextLines, one_text}
 use Rattle.ts_tree.proofs.NoTree.{known_weaker}
 use Rattle.ts_tree.proofs.Taken.{Taken, taken_all, taken_failed, taken_first, taken_refused}
 use Rattle.ts_bundle.specs.Bundles.{BeginsNoBundle, SpellsBundle, SpellsNoBundle, values}
-use Rattle.ts_bundle.specs.Decoding.{DecodesBundle, FindsNoBundle, SpellsNone}
+use Rattle.ts_bundle.specs.Decoding.{DecodesBundle, FindsNoBundle}
 use Rattle.ts_bundle.specs.Faults.{Refuses, fault_of_text}
 use Rattle.ts_bundle.specs.declared.bundle.Bundle.{Bundle as Held}
 use Rattle.ts_bundle.specs.declared.fault.BundleFault.{BundleFault}
@@ -48,9 +48,3 @@ bundle_ended old now next fed b taken ends is = record {
   spelled = known_weaker old.left (λ bytes. bytes ≡ text fed) (λ bytes. IsBundleText bytes (values b))
       (λ bytes all. record { bundle = is.bundle; spelled = all ∙ ap text (sym is.spelled) }) (taken_all old now next fed taken ends);
 }
-
--- a line reader that begins has the source's bytes
-pub none_at_start : (known : Option (List ℕ)) (old new : Reading) (e : BundleFault) → old.left ≡ known → FindsNoBundle old new e → SpellsNone known e
-none_at_start known old new fault.OutOfMemory begins finds = tt
-none_at_start known old new fault.Failed begins finds = tt
-none_at_start known old new fault.Malformed begins finds = subst (λ z. IfSome z IsNoBundle) begins finds

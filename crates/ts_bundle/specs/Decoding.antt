@@ -1,6 +1,5 @@
 -- What is answered for the bytes of a bundle.
 --     DecodesBundle, FindsNoBundle    by a decoder, for what its line reader has left
---     SpellsNone known e              by a whole reading, where the source tells its bytes
 use Rattle.std.specs.Prelude.{ℕ, List, Option, IfSome}
 use Rattle.ts_text.specs.Lines.{Reading}
 use Rattle.ts_model.specs.Texts.{IsBundle, IsBundleText}
@@ -24,9 +23,3 @@ abbrev pub FindsNoBundle : Reading → Reading → BundleFault → Type 0
 FindsNoBundle old new OutOfMemory = Unit {0}
 FindsNoBundle old new Failed = SourceFailed old new
 FindsNoBundle old new Malformed = IfSome old.left IsNoBundle
-
--- the same, once the source is gone
-abbrev pub SpellsNone : Option (List ℕ) → BundleFault → Type 0
-SpellsNone known OutOfMemory = Unit {0}
-SpellsNone known Failed = Unit {0}
-SpellsNone known Malformed = IfSome known IsNoBundle

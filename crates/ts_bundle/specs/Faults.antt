@@ -1,5 +1,5 @@
 -- The faults of bundles.
-use Rattle.std.specs.Prelude.{ℕ}
+use Rattle.std.specs.Prelude.{◌≡◌, ◌≢◌, ℕ, Result, Ok, Err}
 use Rattle.ts_text.specs.declared.fault.TextFault.{TextFault}
 use Rattle.ts_text.specs.declared.fault.TextFault.TheVariants as text
 use Rattle.ts_tree.specs.declared.fault.TreeFault.{TreeFault}
@@ -52,3 +52,10 @@ abbrev pub Refuses : Type 0 → BundleFault → Type 0
 Refuses reason OutOfMemory = Unit {0}
 Refuses reason Failed = ⊥
 Refuses reason Malformed = reason
+
+-- a writer's fault: its sink's count of failures changes where the sink failed, and only there; else memory ran out
+abbrev pub FailuresFit : {A : Type 0} → ℕ → ℕ → Result A BundleFault → Type 0
+FailuresFit old new (Ok x) = new ≡ old
+FailuresFit old new (Err OutOfMemory) = new ≡ old
+FailuresFit old new (Err Failed) = new ≢ old
+FailuresFit old new (Err Malformed) = ⊥

@@ -1,6 +1,6 @@
 //! Reading a bundle from a text.
 ghost use Rattle.std.specs.Prelude.{IfOk, IfErr};
-ghost use Rattle.ts_bundle.specs.Decoding.{DecodesBundle, FindsNoBundle, IsSpelled, SpellsNone};
+ghost use Rattle.ts_bundle.specs.Decoding.{DecodesBundle, FindsNoBundle};
 
 use crate::bundle::Bundle;
 use crate::fault::BundleFault;
@@ -23,13 +23,4 @@ pub fn decode<S: Source>(alloc: Global, lines: &mut Lines<S>) -> Result<Bundle, 
         reader = reader.line(alloc, lines.line())?;
     }
     Err(BundleFault::OutOfMemory)
-}
-
-/// The bundle that the bytes of the source spell, all of them.
-pub fn read<S: Source + Drop>(alloc: Global, source: S) -> Result<Bundle, BundleFault>
-    ensures found { IfOk result (IsSpelled (S.holds source)) }
-    ensures refused { IfErr result (SpellsNone (S.holds source)) }
-{
-    let mut lines = Lines::new(alloc, source)?;
-    decode(alloc, &mut lines)
 }

@@ -8,7 +8,7 @@ pub mod reader;
 pub mod results;
 
 pub use bundle::Bundle;
-pub use decoding::{decode, read};
+pub use decoding::decode;
 pub use fault::BundleFault;
 pub use reader::BundleReader;
 pub use results::{count_skipped, write_result};

@@ -1,8 +1,9 @@
 //! Writing what is left of a plan that was carried out.
-ghost use Rattle.std.specs.Prelude.{◌≡◌, ◌∷◌, ◌++◌, [], codes, cond, false, true, OnOk};
+ghost use Rattle.std.specs.Prelude.{◌≡◌, ◌∷◌, ◌++◌, [], codes, cond, false, true, IfErr, OnOk};
 ghost use Rattle.ts_model.specs.Texts.{text, tree_lines, print_lines, reason_text};
 ghost use Rattle.ts_model.specs.Trial.{done_count, is_skipped, report_line, result_lines, skipped_count, total_line};
 ghost use Rattle.ts_text.specs.Sources.{Writes};
+ghost use Rattle.ts_bundle.specs.Faults.{FailuresFit};
 ghost use Rattle.ts_bundle.specs.Results.{report_lines};
 
 use crate::fault::BundleFault;
@@ -40,6 +41,7 @@ pub fn write_result<W: Sink>(
     sink: &mut W,
 ) -> Result<(), BundleFault>
     ensures written { Writes (W.holds sink.old) (W.holds sink.new) (text (result_lines first.now second.now archive.now entries.now)) result }
+    ensures failures { FailuresFit (W.failures sink.old) (W.failures sink.new) result }
 {
     write_tree(alloc, b"first", first, sink)?;
     write_tree(alloc, b"second", second, sink)?;
@@ -56,6 +58,7 @@ fn write_tree<W: Sink>(
     sink: &mut W,
 ) -> Result<(), BundleFault>
     ensures written { Writes (W.holds sink.old) (W.holds sink.new) (text (title.now ∷ tree_lines rows.now)) result }
+    ensures failures { FailuresFit (W.failures sink.old) (W.failures sink.new) result }
 {
     put_line(title, sink)?;
     let mut line = Vec::new(alloc);
@@ -73,6 +76,7 @@ fn write_print<W: Sink>(
     sink: &mut W,
 ) -> Result<(), BundleFault>
     ensures written { Writes (W.holds sink.old) (W.holds sink.new) (text (title.now ∷ print_lines rows.now)) result }
+    ensures failures { FailuresFit (W.failures sink.old) (W.failures sink.new) result }
 {
     put_line(title, sink)?;
     let mut line = Vec::new(alloc);
@@ -85,6 +89,7 @@ fn write_print<W: Sink>(
 /// Writes the report's title, and a line for each entry.
 fn write_report<W: Sink>(alloc: Global, entries: &[Entry], sink: &mut W) -> Result<(), BundleFault>
     ensures written { Writes (W.holds sink.old) (W.holds sink.new) (text (codes "report" ∷ report_lines entries.now)) result }
+    ensures failures { FailuresFit (W.failures sink.old) (W.failures sink.new) result }
 {
     put_line(b"report", sink)?;
     let mut line = Vec::new(alloc);
@@ -97,6 +102,7 @@ fn write_report<W: Sink>(alloc: Global, entries: &[Entry], sink: &mut W) -> Resu
 /// Writes the report's line of an entry. `line` is room for it.
 fn write_entry<W: Sink>(entry: &Entry, line: &mut Vec<u8>, sink: &mut W) -> Result<(), BundleFault>
     ensures written { Writes (W.holds sink.old) (W.holds sink.new) (text (report_line entry.now ∷ [])) result }
+    ensures failures { FailuresFit (W.failures sink.old) (W.failures sink.new) result }
 {
     line.clear();
     push_entry(entry, line)?;
@@ -106,6 +112,7 @@ fn write_entry<W: Sink>(entry: &Entry, line: &mut Vec<u8>, sink: &mut W) -> Resu
 /// Writes the report's last line.
 fn write_total<W: Sink>(alloc: Global, entries: &[Entry], sink: &mut W) -> Result<(), BundleFault>
     ensures written { Writes (W.holds sink.old) (W.holds sink.new) (text (total_line entries.now ∷ [])) result }
+    ensures failures { FailuresFit (W.failures sink.old) (W.failures sink.new) result }
 {
     let mut line = Vec::new(alloc);
     push_total(entries, &mut line)?;
@@ -115,6 +122,7 @@ fn write_total<W: Sink>(alloc: Global, entries: &[Entry], sink: &mut W) -> Resul
 /// Writes a line that is given without its line feed.
 fn put_line<W: Sink>(line: &[u8], sink: &mut W) -> Result<(), BundleFault>
     ensures written { Writes (W.holds sink.old) (W.holds sink.new) (text (line.now ∷ [])) result }
+    ensures failures { FailuresFit (W.failures sink.old) (W.failures sink.new) result }
 {
     write_line(sink, line)?;
     Ok(())
@@ -122,7 +130,8 @@ fn put_line<W: Sink>(line: &[u8], sink: &mut W) -> Result<(), BundleFault>
 
 /// Appends the report's line of an entry.
 fn push_entry(entry: &Entry, line: &mut Vec<u8>) -> Result<(), BundleFault>
-    ensures { OnOk result (line.new.items ≡ line.old.items ++ report_line entry.now) }
+    ensures line { OnOk result (line.new.items ≡ line.old.items ++ report_line entry.now) }
+    ensures fault { IfErr result (λ e. e ≡ BundleFault.OutOfMemory) }
 {
     line.extend_from_slice(outcome_word(entry.reason))?;
     push_word(line, reason_word(entry.reason))?;
@@ -133,7 +142,8 @@ fn push_entry(entry: &Entry, line: &mut Vec<u8>) -> Result<(), BundleFault>
 
 /// Appends the report's last line.
 fn push_total(entries: &[Entry], line: &mut Vec<u8>) -> Result<(), BundleFault>
-    ensures { OnOk result (line.new.items ≡ line.old.items ++ total_line entries.now) }
+    ensures line { OnOk result (line.new.items ≡ line.old.items ++ total_line entries.now) }
+    ensures fault { IfErr result (λ e. e ≡ BundleFault.OutOfMemory) }
 {
     line.extend_from_slice(b"total ")?;
     push_decimal(line, entries.len() as u64)?;

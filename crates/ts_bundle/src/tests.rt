@@ -1,8 +1,9 @@
-use crate::{Bundle, BundleFault, count_skipped, read, write_result};
+use crate::{Bundle, BundleFault, count_skipped, decode, write_result};
+use std::alloc::Global;
 use std::io;
 use std::io::{ErrorKind, Read, Write};
 use std::test::Fail;
-use ts_text::Counted;
+use ts_text::{Counted, Lines, Source};
 
 /// Trees and an archive in which three entries were carried out.
 const DONE: &[u8] = b"twosync-bundle 1
@@ -89,6 +90,11 @@ impl Write for Tight {
     fn flush(&mut self) -> io::Result<()> {
         Ok(())
     }
+}
+
+fn read<S: Source + Drop>(alloc: Global, source: S) -> Result<Bundle, BundleFault> {
+    let mut lines = Lines::new(alloc, source)?;
+    decode(alloc, &mut lines)
 }
 
 #[test]
@@ -199,6 +205,22 @@ fn tells_that_the_source_failed(rt: HostRuntime) -> Result<(), Fail> {
             Err(fault) => fault.number(),
         };
         assert_eq!(rt; got, 5, "{fails_at} bytes are lost");
+    }
+    Ok(())
+}
+
+#[test]
+fn a_plan_past_a_limit_is_no_part_of_a_bundle(rt: HostRuntime) -> Result<(), Fail> {
+    let mut text = Vec::from_slice(
+        rt.alloc(),
+        b"twosync-bundle 1\narchive\nfirst\nsecond\nholds\nplan\ntwosync-plan 1\n",
+    )?;
+    for _ in 0..1_048_577 {
+        text.extend_from_slice(b"entry dir /a\n")?;
+    }
+    match read(rt.alloc(), Counted::new(text.as_slice())) {
+        Ok(_) => assert!(rt; false, "it was read"),
+        Err(fault) => assert_eq!(rt; fault.number(), 17),
     }
     Ok(())
 }

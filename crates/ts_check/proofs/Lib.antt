@@ -4,6 +4,10 @@ pub mod Nearests
 pub mod Links
 pub mod Rowed
 pub mod Staging
+pub mod Gathering
+pub mod Succeeding
 pub mod Placing
+pub mod PieceLists
 pub mod Complete
 pub mod Verdicts
+pub mod Checking

@@ -20,10 +20,10 @@ use Rattle.ts_check.proofs.Staging.{IsPieceOf-from, one_source, source_lists, sa
 use Rattle.ts_check.specs.Pieces.{on_side, IsSourceOf, IsPieceIn, IsRowOf, IsUnlawful, IsAgain, NotEachOnce, IsPlaceOf, IsStagedMap, Place, place_cmp}
 
 -- places that compare equal are equal
-place_eq : (x y : Place) → place_cmp x y ≡ Equal → x ≡ y
+pub place_eq : (x y : Place) → place_cmp x y ≡ Equal → x ≡ y
 place_eq x y e = exact_pairs nat_cmp (λ (a b : ℕ × ℕ). ordering_then (nat_cmp a.0 b.0) (nat_cmp a.1 b.1)) exact_unsigned (exact_pairs nat_cmp nat_cmp exact_unsigned exact_unsigned) x y e
 
-is_eq_Equal : (o : Ordering) → is_eq o ≡ true → o ≡ Equal
+pub is_eq_Equal : (o : Ordering) → is_eq o ≡ true → o ≡ Equal
 is_eq_Equal Less e = cc
 is_eq_Equal Equal e = refl
 is_eq_Equal Greater e = cc
@@ -73,7 +73,7 @@ module _ (xs ys : Listing Stamp) (first : IsListing xs) (second : IsListing ys) 
 
   pub IsPlaced-none : (map : BTreeMap Place ℕ) → IsEmpty map → IsPlaced xs ys plan 0 map
   IsPlaced-none map empty = record {
-    map_is = record { found = λ z i e. absurd (none-some i (rw empty at e)); complete = λ z i kind less. absurd (omega arith) };
+    map_is = record { found = λ z i e. absurd (none-some i (rw empty at e)); complete = λ z i kind less. absurd (omega arith); each = λ i e offset len p less. absurd (omega arith) };
     fresh = λ k less. absurd (omega arith);
   }
 
@@ -86,6 +86,10 @@ module _ (xs ys : Listing Stamp) (first : IsListing xs) (second : IsListing ys) 
         | inl same ↦ absurd (none z (subst (λ k. IsPlaceOf xs ys plan k z) (sym (same_kind plan n action kind is (subst (λ k. KindIs plan k kind) same at))) of))
         | inr differ ↦ placed.map_is.complete z i kind (omega arith) at of
       ];
+      each = λ i e offset len p less at. elim (cases_eq i n) [
+        | inl same ↦ absurd (nowhere e offset len p (subst (λ k. KindIs plan k (Piece e offset len p)) same at))
+        | inr differ ↦ placed.map_is.each i e offset len p (omega arith) at
+      ];
     };
     fresh = λ k less again. elim (cases_eq k n) [
       | inl same ↦ here (subst (λ z. IsAgain plan z) same again)
@@ -93,22 +97,25 @@ module _ (xs ys : Listing Stamp) (first : IsListing xs) (second : IsListing ys) 
     ];
   }
     where
-      here : ¬ IsAgain plan n
-      here again = right n (
-        again.0,
-        again.1,
-        again.2,
-        again.3,
-        again.4,
+      nowhere : (e offset len : ℕ) (p : Path) → ¬ KindIs plan n (Piece e offset len p)
+      nowhere e offset len p at = right n (
+        e,
+        offset,
+        len,
+        p,
+        at,
         λ piece.
-            let found = has_place again.0 again.1 again.2 again.3 piece in
-            none found.0 (subst (λ k. IsPlaceOf xs ys plan k found.0) (sym (same_kind plan n action (Piece again.0 again.1 again.2 again.3) is again.4)) found.1),
+            let found = has_place e offset len p piece in
+            none found.0 (subst (λ k. IsPlaceOf xs ys plan k found.0) (sym (same_kind plan n action (Piece e offset len p) is at)) found.1),
       )
+
+      here : ¬ IsAgain plan n
+      here again = nowhere again.0 again.1 again.2 again.3 again.4
 
   -- a piece whose place was free is put in
   pub IsPlaced-put : (n : ℕ) (m map : BTreeMap Place ℕ) (z : Place) (action : Action) → ActionIs plan n action → IsPlaceOf xs ys plan action.kind z → get place_cmp m z ≡ None → Updates place_cmp m map z (Some n) → IsPlaced xs ys plan n m → IsPlaced xs ys plan (n + 1) map
   IsPlaced-put n m map z action is of free puts placed = record {
-    map_is = record { found = found; complete = complete };
+    map_is = record { found = found; complete = complete; each = each };
     fresh = λ k less again. elim (cases_eq k n) [
       | inl same ↦ here (subst (λ w. IsAgain plan w) same again)
       | inr differ ↦ placed.fresh k (omega arith) again
@@ -133,6 +140,17 @@ module _ (xs ys : Listing Stamp) (first : IsListing xs) (second : IsListing ys) 
               (n, subst (λ w. get place_cmp map w ≡ Some n) (sym one) puts.1))
           | inr differ ↦ (let h = placed.map_is.complete q i kind (omega arith) at of_q in (h.0, kept ∙ h.1))
         ]
+      ]
+
+      each : (i e offset len : ℕ) (p : Path) → i < n + 1 → KindIs plan i (Piece e offset len p) → (q : Place) × (get place_cmp map q ≡ Some i)
+      each i e offset len p less at = elim (cases_eq i n) [
+        | inl same ↦ (z, subst (λ k. get place_cmp map z ≡ Some k) (sym same) puts.1)
+        | inr differ ↦ (
+            let old = placed.map_is.each i e offset len p (omega arith) at in
+            elim (after_put m map z n puts old.0) [
+              | inl put ↦ absurd (none-some i (sym free ∙ subst (λ w. get place_cmp m w ≡ Some i) put.0 old.1))
+              | inr kept ↦ (old.0, kept ∙ old.1)
+            ])
       ]
 
       here : ¬ IsAgain plan n
@@ -179,6 +197,7 @@ finish_placing xs ys plan n map all placed = (
   record {
     found = λ z i e. let h = placed.map_is.found z i e in (slice_get_within plan.actions i h.1.1.0 h.1.1.1, h.1);
     complete = λ z i kind less at of. placed.map_is.complete z i kind (omega arith) at of;
+    each = λ i e offset len p less at. placed.map_is.each i e offset len p (omega arith) at;
   },
   λ k again. placed.fresh k (let h = slice_get_within plan.actions k again.4.0 again.4.1 in omega arith) again,
 )

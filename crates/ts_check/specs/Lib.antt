@@ -3,3 +3,6 @@ pub mod Places
 pub mod Waiting
 pub mod Pieces
 pub mod Verdict
+pub mod Lists
+pub mod Checkup
+pub mod Answers

@@ -3,11 +3,11 @@
 --     IsPieceIn a b plan ..          a lawful piece, by the prints of the two replicas
 --     IsStaged xs ys plan i place    action i is a piece of this entry, of the file in this row of the source, at this offset
 --     IsAgain plan i                 an earlier action is a piece of the same entry, path and offset
-use Rattle.std.specs.Prelude.{◌≡◌, ◌≢◌, ◌⊎◌, ℕ, ◌+◌, ◌<◌, List, [], length, Option, Some, None, slice_get}
+use Rattle.std.specs.Prelude.{◌≡◌, ◌≢◌, ◌⊎◌, ◌↔◌, ℕ, ◌+◌, ◌<◌, List, [], length, map, AllPairs, Contains, Option, Some, None, slice_get}
 use Rattle.std.specs.Ordering.{nat_cmp, ordering_then}
 use Rattle.std.specs.declared.cmp.Ordering.{Ordering}
 use Rattle.std.specs.BTreeMap.{BTreeMap, get}
-use Rattle.ts_name.specs.Paths.{Path, IsAbove}
+use Rattle.ts_name.specs.Paths.{Path, IsAbove, IsBefore}
 use Rattle.ts_model.specs.Trees.{Listing, Print, at}
 use Rattle.ts_model.specs.Plans.{EntryIs, KindIs, Copies, Earlier, IsRange, source}
 use Rattle.ts_model.specs.declared.row.Content.TheVariants.{File}
@@ -58,6 +58,7 @@ place_cmp x y = ordering_then (nat_cmp x.0 y.0) (ordering_then (nat_cmp x.1.0 y.
 pub record IsStagedMap (xs ys : Listing Stamp) (plan : Plan) (n : ℕ) (map : BTreeMap Place ℕ) : Type 0 where
   pub found : (place : Place) (i : ℕ) → get place_cmp map place ≡ Some i → (i < n) × ((kind : Kind) × KindIs plan i kind × IsPlaceOf xs ys plan kind place)
   pub complete : (place : Place) (i : ℕ) (kind : Kind) → i < n → KindIs plan i kind → IsPlaceOf xs ys plan kind place → (j : ℕ) × (get place_cmp map place ≡ Some j)
+  pub each : (i e offset len : ℕ) (p : Path) → i < n → KindIs plan i (Piece e offset len p) → (place : Place) × (get place_cmp map place ≡ Some i)
 
 abbrev pub IsAgain : Plan → ℕ → Type 0
 IsAgain plan i = (e offset len : ℕ) × (p : Path) × KindIs plan i (Piece e offset len p) × Earlier plan i (λ kind. (other : ℕ) × (kind ≡ Piece e offset other p))
@@ -90,3 +91,30 @@ LacksBelow top rows map e = (k : ℕ) × (row : Row Stamp) × (stamp : Stamp)
 -- no entry has the root as its path
 abbrev pub HasNoRoot : Plan → Type 0
 HasNoRoot plan = (e : ℕ) (entry : Entry) → EntryIs plan e entry → entry.path ≢ []
+
+-- ---- the pieces of each entry
+
+-- each piece's number beside its entry
+abbrev pub by_entry : List (Place × ℕ) → List (ℕ × ℕ)
+by_entry entries = map (λ x. (x.0.0, x.1)) entries
+
+-- action k is a piece of entry e
+abbrev pub IsPieceFor : Plan → ℕ → ℕ → Type 0
+IsPieceFor plan e k = (offset len : ℕ) × (p : Path) × KindIs plan k (Piece e offset len p)
+
+-- the file of piece k comes before that of piece l, or it is the same and k's offset is less
+pub record IsEarlierPiece (plan : Plan) (k l : ℕ) : Type 0 where
+  pub one : (e offset len : ℕ) × (p : Path) × KindIs plan k (Piece e offset len p)
+  pub other : (e offset len : ℕ) × (p : Path) × KindIs plan l (Piece e offset len p)
+  pub earlier : IsBefore one.3 other.3 ⊎ ((one.3 ≡ other.3) × (one.1 < other.1))
+
+-- the pieces of entry e, by path and then by offset, each once
+pub record ArePieces (plan : Plan) (e : ℕ) (numbers : List ℕ) : Type 0 where
+  pub each : (k : ℕ) → Contains numbers k ↔ IsPieceFor plan e k
+  pub order : AllPairs (IsEarlierPiece plan) numbers
+
+-- for each entry these are its pieces
+pub record AreAllPieces (plan : Plan) (lists : List (List ℕ)) : Type 0 where
+  pub size : length lists ≡ length plan.entries
+  pub each : (e : ℕ) (numbers : List ℕ) → slice_get lists e ≡ Some numbers → ArePieces plan e numbers
+  pub within : (e k : ℕ) → IsPieceFor plan e k → e < length plan.entries

@@ -3,6 +3,7 @@
 --     IsFirst wrong found    the least wrong place, or none where no place is wrong
 --     IsIndex plan kind n xs   the number of each entry's action of this kind, by entry, among the first n actions
 use Rattle.std.specs.Prelude.{◌≡◌, ◌≢◌, ℕ, ◌<◌, List, length, Option, Some, None, slice_get}
+pub use Rattle.ts_need.specs.Needs.{Never, IsFirst}
 use Rattle.ts_model.specs.Sync.{IsSkipped}
 use Rattle.ts_model.specs.Plans.{KindIs, IsCopied, IsMarked, EntryIs, source, NotOneEach}
 use Rattle.ts_model.specs.declared.plan.Side.{Side}
@@ -13,13 +14,6 @@ use Rattle.ts_model.specs.declared.plan.Kind.TheVariants.{Commit, Mark}
 use Rattle.ts_model.specs.declared.plan.Plan.{Plan}
 use Rattle.ts_check.specs.declared.census.Role.{Role}
 use Rattle.ts_check.specs.declared.census.Role.TheVariants.{Commits, Marks}
-
-abbrev pub Never : (ℕ → Type 0) → Type 0
-Never wrong = (k : ℕ) → ¬ wrong k
-
-abbrev pub IsFirst : (ℕ → Type 0) → Option ℕ → Type 0
-IsFirst wrong None = Never wrong
-IsFirst wrong (Some k) = wrong k × ((j : ℕ) → j < k → ¬ wrong j)
 
 -- the action of this role for entry e
 abbrev pub kind_of : Role → ℕ → Kind

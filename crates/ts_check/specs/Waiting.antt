@@ -1,5 +1,5 @@
 -- Words for the rules about what an action waits for.
-use Rattle.std.specs.Prelude.{◌≡◌, ◌≢◌, ℕ, ◌+◌, ◌<◌, ◌≤◌, min, List, [], ◌∷◌, Option, Some, None, slice_get}
+use Rattle.std.specs.Prelude.{◌≡◌, ◌≢◌, ◌↔◌, ℕ, ◌+◌, ◌<◌, ◌≤◌, min, List, [], ◌∷◌, ◌++◌, length, map, Contains, Option, Some, None, slice_get}
 use Rattle.ts_name.specs.Paths.{Path}
 use Rattle.ts_model.specs.Plans.{ActionIs, KindIs, Waits, AscendBelow, NearestDir}
 use Rattle.ts_model.specs.declared.plan.Action.{Action}
@@ -45,3 +45,19 @@ LacksLink plan links place = (e i : ℕ) × KindIs plan place (Mark e) × IsLink
 abbrev pub least : Option ℕ → ℕ → Option ℕ
 least None k = Some k
 least (Some j) k = Some (min j k)
+
+-- each predecessor beside the action that waits for it; the first action here has the number n
+abbrev pub waits_from : ℕ → List Action → List (ℕ × ℕ)
+waits_from n [] = []
+waits_from n (action ∷ actions) = map (λ j. (j, n)) action.preds ++ waits_from (n + 1) actions
+
+-- the actions that wait for action i, in ascending order
+pub record AreSuccessors (plan : Plan) (i : ℕ) (numbers : List ℕ) : Type 0 where
+  pub waiting : (j : ℕ) → Contains numbers j ↔ Waits plan j i
+  pub ascending : AscendBelow (length plan.actions) numbers
+
+-- for each action these are its successors
+pub record AreAllSuccessors (plan : Plan) (lists : List (List ℕ)) : Type 0 where
+  pub size : length lists ≡ length plan.actions
+  pub each : (i : ℕ) (numbers : List ℕ) → slice_get lists i ≡ Some numbers → AreSuccessors plan i numbers
+  pub preds_within : (j i : ℕ) → Waits plan j i → i < length plan.actions

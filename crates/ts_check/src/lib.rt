@@ -2,17 +2,23 @@
 #![tactic(auto)]
 
 mod census;
+mod checked;
 mod entries;
 mod fault;
+mod kinds;
 mod limits;
+mod lists;
 mod order;
+mod piece_lists;
 mod pieces;
 mod rules;
 mod safety;
+mod successors;
 mod waiting;
 
+pub use checked::Checked;
 pub use fault::CheckFault;
-pub use rules::{Checked, check};
+pub use rules::check;
 
 #[cfg(test)]
 mod tests;

@@ -8,11 +8,14 @@ ghost use Rattle.ts_model.specs.Sync.{listed_snapshot};
 ghost use Rattle.ts_need.specs.Needs.{AreListings, snapshot_of};
 
 use crate::census::{Role, one_each};
+use crate::checked::Checked;
 use crate::entries::{first_out_of_order, nearest_dirs};
 use crate::fault::CheckFault;
 use crate::limits;
+use crate::piece_lists::piece_lists;
 use crate::pieces::{Staged, each_once, first_unlawful};
 use crate::safety::valid_plans_are_safe;
+use crate::successors::successors;
 use crate::waiting::{
     first_bad_preds, first_without_commit, first_without_dir, first_without_piece,
 };
@@ -29,16 +32,6 @@ struct Index {
     commits: Vec<u32>,
     marks: Vec<u32>,
     staged: Staged,
-}
-
-/// A plan that is valid for what it was checked against.
-#[derive(Drop)]
-pub struct Checked<'a> {
-    pub plan: &'a Plan,
-    pub archive: &'a Print,
-    pub first: &'a Print,
-    pub second: &'a Print,
-    index: Index,
 }
 
 /// The rules about limits, entries and reasons.
@@ -168,13 +161,14 @@ pub fn check<'a>(
     second: &'a Print,
     holds: &'a Holds,
 ) -> Result<Checked<'a>, CheckFault>
+    ensures checked { IfOk result (λ checked. checked ≡ record { plan = plan.entry.now; archive = archive.entry.now; first = first.entry.now; second = second.entry.now; rules = holds.entry.now }) }
     ensures valid { OnOk result (Valid (listed_snapshot archive.entry.now first.entry.now second.entry.now holds.entry.now) plan.entry.now) }
     ensures safe { OnOk result (IsSafe (listed_snapshot archive.entry.now first.entry.now second.entry.now holds.entry.now) plan.entry.now) }
     ensures told { IfErr result (IsTold (listed_snapshot archive.entry.now first.entry.now second.entry.now holds.entry.now) plan.entry.now) }
 {
     let _archive = archive.rows();
-    let _first = first.rows();
-    let _second = second.rows();
+    let first_rows = first.rows();
+    let second_rows = second.rows();
     let state = State {
         archive,
         first,
@@ -184,12 +178,11 @@ pub fn check<'a>(
     check_entries(alloc, plan, &state)?;
     let index = check_actions(alloc, plan, &state)?;
     check_order(alloc, plan, &state, &index)?;
+    let pieces = piece_lists(alloc, plan, first_rows, second_rows, &index.staged)?;
+    let successors = successors(alloc, plan)?;
+    let commits = index.commits;
     valid_plans_are_safe();
-    Ok(Checked {
-        plan,
-        archive,
-        first,
-        second,
-        index,
-    })
+    Ok(Checked::new(
+        plan, archive, first, second, holds, commits, pieces, successors,
+    ))
 }

@@ -1,20 +1,21 @@
 -- What is found below and above a path by halving, and what it says of dirt.
-use Rattle.std.proofs.Common.{◌≡◌, ◌≢◌, ◌⊎◌, ◌↔◌, ℕ, ◌+◌, ◌-◌, ◌<◌, ◌≤◌, Bool, true, false, cond, List, [], ◌∷◌, ◌++◌, length, get_or, Contains, Ordering, Less, refl, sym, ap, ◌∙◌, subst, inl, inr, arith, append-nil, IsTrue, not}
+use Rattle.std.proofs.Common.{◌≡◌, ◌≢◌, ◌⊎◌, ◌↔◌, ℕ, ◌+◌, ◌-◌, ◌<◌, ◌≤◌, Bool, true, false, List, [], ◌∷◌, ◌++◌, length, get_or, Contains, Less, refl, sym, ap, ◌∙◌, subst, inl, inr, arith, IsTrue, not}
 use Rattle.std.proofs.lemmas.Bool.{cases_lt, cases_eq, cases_order}
-use Rattle.std.proofs.lemmas.List.Elements.{at_read, Contains-get_or, Contains-push_cases, Contains-push, Contains-append_left}
+use Rattle.std.proofs.lemmas.List.Elements.{at_read}
 use Rattle.std.specs.List.{HoldsAt}
 use Rattle.std.specs.List.Sorted.{IsPartitionedBy, IsPartitionPoint}
 use Rattle.std.specs.Ordering.{is_lt}
 use Rattle.ts_name.specs.Paths.{Path, IsAbove, IsBefore, path_cmp}
 use Rattle.ts_model.specs.Trees.{sub}
-use Rattle.ts_model.specs.Sync.{Snapshot, replica, Agree, IsChanged, IsDirty, TouchesHeld}
+use Rattle.ts_model.specs.Sync.{Snapshot, Agree, IsChanged, TouchesHeld}
 use Rattle.ts_model.specs.declared.row.Content.{Content}
 use Rattle.ts_model.specs.declared.row.Content.TheVariants.{Absent, Dir, File}
 use Rattle.ts_model.specs.declared.row.Stamp.{Stamp}
-use Rattle.ts_model.specs.declared.plan.Side.{Side}
 use Rattle.ts_model.specs.declared.plan.Side.TheVariants as side
-use Rattle.ts_dirty.specs.Found.{AreAscending, AreTopmost, HasBelow, HasAbove, LastIsAbove, Found, IsFoundOf}
-use Rattle.ts_dirty.proofs.Order.{path_total, before_itself, before_trans, before_cases, before_upto, not_after, above_upto, above_between, above_itself, above_trans, above_either}
+use Rattle.ts_dirty.specs.Found.{AreAscending, AreTopmost, HasBelow, HasAbove, Found, IsFoundOf}
+use Rattle.ts_name.proofs.Order.{before_trans, before_cases, before_turned}
+use Rattle.ts_name.proofs.Prefixes.{above_itself, above_trans, above_either}
+use Rattle.ts_dirty.proofs.Order.{above_upto, above_between}
 use Rattle.ts_dirty.proofs.Rows.{Less-from_test}
 
 -- ---- by halving
@@ -57,7 +58,7 @@ below_none ps p at ascending parts n found = go found.0 found.1.0 found.1.1 foun
     go q k l is above (inr (inr less)) =
         let in' : at < length ps = omega arith in
         let before : IsBefore (get_or ps at q) q = subst (λ (z : Path). IsBefore (get_or ps at q) z) is (ascending at k q less l) in
-        n in' q (above_between p (get_or ps at q) q above (parts.1 at q (omega arith) in') (not_after (get_or ps at q) q before))
+        n in' q (above_between p (get_or ps at q) q above (parts.1 at q (omega arith) in') (before_turned (get_or ps at q) q before))
 
 -- the path before the place, where it is above p
 pub above_found : (ps : List Path) (p : Path) (at : ℕ) (x : Path) → 0 < at → at ≤ length ps → x ≡ get_or ps (at - 1) x → IsAbove x p → HasAbove ps p
@@ -77,7 +78,7 @@ above_none ps p at bound ascending topmost parts n none found = go found.0 found
         let in' : at - 1 < length ps = omega arith in
         let later : IsBefore q (get_or ps (at - 1) q) = subst (λ (z : Path). IsBefore z (get_or ps (at - 1) q)) is (ascending k (at - 1) q k_last in') in
         let before : IsBefore (get_or ps (at - 1) q) p = parts.0 (at - 1) q (omega arith) (omega arith) in
-        topmost k (at - 1) q k_last in' (subst (λ (z : Path). IsAbove z (get_or ps (at - 1) q)) (sym is) (above_between q (get_or ps (at - 1) q) p above (not_after q _ later) (not_after _ p before)))
+        topmost k (at - 1) q k_last in' (subst (λ (z : Path). IsAbove z (get_or ps (at - 1) q)) (sym is) (above_between q (get_or ps (at - 1) q) p above (before_turned q _ later) (before_turned _ p before)))
     go q k l is above (inr (inr less)) =
         let later : ¬ IsBefore q p = subst (λ (z : Path). ¬ IsBefore z p) is (parts.1 k q (omega arith) l) in
         same_or q k l is above later (before_cases q p)

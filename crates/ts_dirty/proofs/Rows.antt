@@ -1,54 +1,21 @@
 -- Rows that ascend, one after another.
-use Rattle.std.proofs.Common.{◌≡◌, ◌≢◌, ◌⊎◌, Bool, true, false, cond, List, [], ◌∷◌, ◌∙◌, refl, sym, ap, subst, inl, inr}
-use Rattle.std.proofs.lemmas.Bool.{and_parts, and_from, cond-true, false_from_ne_true}
+use Rattle.std.proofs.Common.{◌≡◌, ◌≢◌, ◌⊎◌, true, false, [], ◌∷◌, ◌∙◌, refl, sym, ap, subst, inl, inr}
 use Rattle.std.specs.List.{AllByRecursion}
-use Rattle.std.proofs.Common.{◌==◌, eqb-true, eq-eqb, ◌++◌, ℕ, ◌≤◌, ◌-◌, length, take, drop, get_or, ◌<◌, arith, Ordering, Equal, Greater, Option, Some, None, Less, Bor, MatchOption, IfSome}
+use Rattle.std.proofs.Common.{◌≤◌, ◌-◌, length, take, drop, get_or, ◌<◌, arith, Ordering, Equal, Greater, Option, Some, None, Less, Bor, MatchOption, IfSome}
 use Rattle.std.specs.Option.{option_copied}
 use Rattle.std.specs.Ordering.{is_lt, is_eq}
 use Rattle.ts_model.specs.declared.row.Stamp.{Stamp}
 use Rattle.std.proofs.lemmas.Grind.{common_steps}
 use Rattle.std.proofs.lemmas.Cmp.{tied_itself}
-use Rattle.ts_name.specs.Paths.{Name, Path, IsPath, IsBefore, path_cmp, same_name, same_path}
+use Rattle.ts_name.specs.Paths.{Path, IsPath, IsBefore, path_cmp}
 use Rattle.ts_model.specs.Trees.{Listing, listed, at, Ascend, IsListing}
 use Rattle.ts_model.specs.declared.row.Content.{Content}
-use Rattle.ts_model.specs.declared.row.Content.TheVariants.{Absent, Dir, File}
+use Rattle.ts_model.specs.declared.row.Content.TheVariants.{Absent}
 use Rattle.ts_model.specs.declared.row.Row.{Row}
 use Rattle.ts_dirty.specs.Walks.{ArePlain, IsStep, HasNoneBefore, IsEarlier, IsLeastPath, Left, IsWalkStep, left_count}
-use Rattle.ts_dirty.proofs.Order.{path_total, tied_paths, before_itself, before_trans, before_cases, not_after, decide_before, before_upto, upto_before}
-
--- names that test equal are equal
-same_name_equal : (x y : Name) → same_name x y ≡ true → x ≡ y
-same_name_equal [] [] h = refl
-same_name_equal [] (y ∷ ys) h = cc
-same_name_equal (x ∷ xs) [] h = cc
-same_name_equal (x ∷ xs) (y ∷ ys) h =
-    let parts = and_parts (x == y) (same_name xs ys) h in
-    let e = eqb-true x y parts.0 in
-    let f = same_name_equal xs ys parts.1 in cc
-
--- a name tests equal to itself
-same_name_itself : (x : Name) → same_name x x ≡ true
-same_name_itself [] = refl
-same_name_itself (x ∷ xs) = and_from (x == x) (same_name xs xs) (eq-eqb x x refl) (same_name_itself xs)
-
--- paths that test equal are equal
-pub same_path_equal : (p q : Path) → same_path p q ≡ true → p ≡ q
-same_path_equal [] [] h = refl
-same_path_equal [] (y ∷ ys) h = cc
-same_path_equal (x ∷ xs) [] h = cc
-same_path_equal (x ∷ xs) (y ∷ ys) h =
-    let parts = and_parts (same_name x y) (same_path xs ys) h in
-    let e = same_name_equal x y parts.0 in
-    let f = same_path_equal xs ys parts.1 in cc
-
--- a path tests equal to itself
-pub same_path_itself : (p : Path) → same_path p p ≡ true
-same_path_itself [] = refl
-same_path_itself (x ∷ xs) = and_from (same_name x x) (same_path xs xs) (same_name_itself x) (same_path_itself xs)
-
--- paths that differ test so
-pub same_path_differ : (p q : Path) → p ≢ q → same_path p q ≡ false
-same_path_differ p q differ = false_from_ne_true _ (λ h. differ (same_path_equal p q h))
+use Rattle.ts_name.specs.Laws.{path_total, tied_paths, same_path_itself, same_path_differ}
+use Rattle.ts_name.proofs.Order.{before_itself, before_trans, before_cases, before_turned, decide_before}
+use Rattle.ts_dirty.proofs.Order.{before_upto, upto_before}
 
 pub listed_here : {F : Type 0} (row : Row F) (rows : Listing F) → listed (row ∷ rows) row.path ≡ row.content
 listed_here row rows = rw (same_path_itself row.path)
@@ -75,7 +42,7 @@ absent_upto row (next ∷ rows) h q n =
 pub absent_before : {F : Type 0} (row : Row F) (rows : Listing F) → Ascend (row ∷ rows) → (q : Path) → IsBefore q row.path → listed (row ∷ rows) q ≡ Absent
 absent_before row rows h q less =
     listed_there row rows q (λ e. before_itself q (subst (λ z. IsBefore q z) e less))
-    ∙ absent_upto row rows h q (not_after q row.path less)
+    ∙ absent_upto row rows h q (before_turned q row.path less)
 
 -- taking the first row off is a step to its path
 pub step_taken : {F : Type 0} (row : Row F) (rows : Listing F) → ArePlain (row ∷ rows) → IsStep row.path row.content (row ∷ rows) rows

@@ -1,6 +1,6 @@
 -- Paths that are gathered in path order, and what a walk over an archive and two replicas has found so far.
-use Rattle.std.proofs.Common.{◌≡◌, ◌≢◌, ◌⊎◌, ◌↔◌, ℕ, ◌+◌, ◌-◌, ◌<◌, ◌≤◌, Bool, true, false, cond, List, [], ◌∷◌, ◌++◌, length, length-append, get_or, Contains, refl, sym, ap, ◌∙◌, subst, inl, inr, arith, IsTrue}
-use Rattle.std.proofs.lemmas.Bool.{cases_lt, cases_order}
+use Rattle.std.proofs.Common.{◌≡◌, ◌≢◌, ◌⊎◌, ◌↔◌, ℕ, ◌-◌, ◌<◌, Bool, true, false, cond, List, [], ◌∷◌, ◌++◌, length, length-append, get_or, Contains, refl, sym, ap, ◌∙◌, subst, inl, inr, arith, IsTrue}
+use Rattle.std.proofs.lemmas.Bool.{cases_lt}
 use Rattle.std.proofs.lemmas.List.{get_or_append_left, get_or_push, get_or_default}
 use Rattle.std.proofs.lemmas.List.Elements.{All-from_recursion, Contains-get_or, Contains-push_cases, Contains-push, Contains-append_left}
 use Rattle.ts_name.specs.Paths.{Path, IsAbove, IsBefore}
@@ -9,18 +9,20 @@ use Rattle.std.specs.List.{AllByRecursion}
 use Rattle.std.specs.Prelude.{Any}
 use Rattle.ts_name.specs.Paths.{Name}
 use Rattle.ts_model.specs.Trees.{Listing, listed, at, IsListing}
-use Rattle.ts_model.specs.Holds.{Names, RuleNames, IsHeld}
+use Rattle.ts_model.specs.Holds.{Names, RuleNames}
 use Rattle.ts_model.specs.Texts.{IsRules, RuleFits}
 use Rattle.ts_model.specs.Sync.{Snapshot, listed_snapshot, IsHeldIn}
 use Rattle.ts_model.specs.declared.hold.Rule.{Rule}
 use Rattle.ts_model.specs.declared.hold.Rule.TheVariants.{OnePath, LastName}
 use Rattle.ts_model.specs.declared.row.Content.{Content}
-use Rattle.ts_model.specs.declared.row.Content.TheVariants.{Absent, Dir, File}
+use Rattle.ts_model.specs.declared.row.Content.TheVariants.{Absent}
 use Rattle.ts_model.specs.declared.row.Stamp.{Stamp}
-use Rattle.ts_dirty.specs.Walks.{Left, IsStep, IsWalkStep}
-use Rattle.ts_dirty.specs.Found.{Found, IsFoundOf}
+use Rattle.ts_dirty.specs.Walks.{Left, IsWalkStep}
+use Rattle.ts_dirty.specs.Found.{IsFoundOf}
 use Rattle.ts_dirty.proofs.Rows.{IsRest, rest_all, rest_step, rest_between, rest_here, rest_forward}
-use Rattle.ts_dirty.proofs.Order.{before_itself, before_trans, before_cases, decide_before, before_upto, upto_before, not_after, above_upto, above_between, above_itself, above_trans}
+use Rattle.ts_name.proofs.Order.{before_itself, before_trans, before_cases, decide_before, before_turned}
+use Rattle.ts_name.proofs.Prefixes.{above_itself}
+use Rattle.ts_dirty.proofs.Order.{upto_before, above_between}
 
 -- the paths up to b of which P holds
 pub record IsUpto (P : Path → Type 0) (b : Path) (ps : List Path) : Type 0 where
@@ -36,37 +38,37 @@ pub record IsTopUpto (P : Path → Type 0) (b : Path) (ps : List Path) : Type 0 
   pub all : (q : Path) → P q → ¬ IsBefore b q → HasAbove ps q
 
 -- what is in a list with one more at its end
-push_get : (ps : List Path) (p d : Path) (i : ℕ) → i < length (ps ++ p ∷ []) → ((i < length ps) × (get_or (ps ++ p ∷ []) i d ≡ get_or ps i d)) ⊎ ((i ≡ length ps) × (get_or (ps ++ p ∷ []) i d ≡ p))
-push_get ps p d i l = elim (cases_lt i (length ps)) [
-  | inl less ↦ inl (less, get_or_append_left ps (p ∷ []) d i less)
-  | inr more ↦ let same : i ≡ length ps = omega (arith, length-append ps (p ∷ [])) in
-      inr (same, get_or_push ps p d i (sym same))
+push_get : {A : Type 0} (xs : List A) (x d : A) (i : ℕ) → i < length (xs ++ x ∷ []) → ((i < length xs) × (get_or (xs ++ x ∷ []) i d ≡ get_or xs i d)) ⊎ ((i ≡ length xs) × (get_or (xs ++ x ∷ []) i d ≡ x))
+push_get xs x d i l = elim (cases_lt i (length xs)) [
+  | inl less ↦ inl (less, get_or_append_left xs (x ∷ []) d i less)
+  | inr more ↦ let same : i ≡ length xs = omega (arith, length-append xs (x ∷ [])) in
+      inr (same, get_or_push xs x d i (sym same))
 ]
 
 -- a relation of each with those after it, with one more at the end
-push_pairs : (R : Path → Path → Type 0) (ps : List Path) (p : Path) → ((i j : ℕ) (d : Path) → i < j → j < length ps → R (get_or ps i d) (get_or ps j d))
-    → ((i : ℕ) (d : Path) → i < length ps → R (get_or ps i d) p) → (i j : ℕ) (d : Path) → i < j → j < length (ps ++ p ∷ []) → R (get_or (ps ++ p ∷ []) i d) (get_or (ps ++ p ∷ []) j d)
-push_pairs R ps p old more i j d less l = go (push_get ps p d j l)
+pub push_pairs : {A : Type 0} (R : A → A → Type 0) (xs : List A) (x : A) → ((i j : ℕ) (d : A) → i < j → j < length xs → R (get_or xs i d) (get_or xs j d))
+    → ((i : ℕ) (d : A) → i < length xs → R (get_or xs i d) x) → (i j : ℕ) (d : A) → i < j → j < length (xs ++ x ∷ []) → R (get_or (xs ++ x ∷ []) i d) (get_or (xs ++ x ∷ []) j d)
+push_pairs {A} R xs x old more i j d less l = go (push_get xs x d j l)
   where
-    go : ((j < length ps) × (get_or (ps ++ p ∷ []) j d ≡ get_or ps j d)) ⊎ ((j ≡ length ps) × (get_or (ps ++ p ∷ []) j d ≡ p)) → R (get_or (ps ++ p ∷ []) i d) (get_or (ps ++ p ∷ []) j d)
+    go : ((j < length xs) × (get_or (xs ++ x ∷ []) j d ≡ get_or xs j d)) ⊎ ((j ≡ length xs) × (get_or (xs ++ x ∷ []) j d ≡ x)) → R (get_or (xs ++ x ∷ []) i d) (get_or (xs ++ x ∷ []) j d)
     go (inl h) =
-        let in' : i < length ps = omega (arith, h.0) in
-        subst (λ (x : Path). R x (get_or (ps ++ p ∷ []) j d)) (sym (get_or_append_left ps (p ∷ []) d i in')) (subst (λ (y : Path). R (get_or ps i d) y) (sym h.1) (old i j d less h.0))
+        let in' : i < length xs = omega (arith, h.0) in
+        subst (λ (y : A). R y (get_or (xs ++ x ∷ []) j d)) (sym (get_or_append_left xs (x ∷ []) d i in')) (subst (λ (y : A). R (get_or xs i d) y) (sym h.1) (old i j d less h.0))
     go (inr h) =
-        let in' : i < length ps = omega (arith, h.0) in
-        subst (λ (x : Path). R x (get_or (ps ++ p ∷ []) j d)) (sym (get_or_append_left ps (p ∷ []) d i in')) (subst (λ (y : Path). R (get_or ps i d) y) (sym h.1) (more i d in'))
+        let in' : i < length xs = omega (arith, h.0) in
+        subst (λ (y : A). R y (get_or (xs ++ x ∷ []) j d)) (sym (get_or_append_left xs (x ∷ []) d i in')) (subst (λ (y : A). R (get_or xs i d) y) (sym h.1) (more i d in'))
 
 -- up to b and not b: no later than any b after it
-upto_later : (b p q : Path) → IsBefore b p → ¬ IsBefore b q → ¬ IsBefore p q
+pub upto_later : (b p q : Path) → IsBefore b p → ¬ IsBefore b q → ¬ IsBefore p q
 upto_later b p q less n more = n (before_trans b p q less more)
 
 -- where q stands, of b and p after it
-data Stands (b p q : Path) : Type 0 where
+pub data Stands (b p q : Path) : Type 0 where
   upto : ¬ IsBefore b q → Stands b p q
   inside : IsBefore b q → IsBefore q p → Stands b p q
   same : q ≡ p → Stands b p q
 
-stands : (b p q : Path) → ¬ IsBefore p q → Stands b p q
+pub stands : (b p q : Path) → ¬ IsBefore p q → Stands b p q
 stands b p q n = elim (decide_before b q) [
   | no m ↦ upto m
   | yes less ↦ elim (before_cases q p) [
@@ -144,8 +146,8 @@ last_above ps p ascending topmost before i d l above = elim (cases_lt i (length 
       let in' : length ps - 1 < length ps = omega arith in
       absurd (topmost i (length ps - 1) d less in'
       (above_between (get_or ps i d) (get_or ps (length ps - 1) d) p above
-      (not_after (get_or ps i d) (get_or ps (length ps - 1) d) (ascending i (length ps - 1) d less in'))
-      (not_after (get_or ps (length ps - 1) d) p (before (get_or ps (length ps - 1) d) (Contains-get_or ps (length ps - 1) d in')))))
+      (before_turned (get_or ps i d) (get_or ps (length ps - 1) d) (ascending i (length ps - 1) d less in'))
+      (before_turned (get_or ps (length ps - 1) d) p (before (get_or ps (length ps - 1) d) (Contains-get_or ps (length ps - 1) d in')))))
 ]
 
 -- one more, below none of them

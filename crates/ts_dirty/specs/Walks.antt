@@ -1,7 +1,7 @@
 -- Going over rows in path order.
 --     ArePlain rows               the rows ascend, and something is at each
 --     IsStep p content old new    nothing stands before p, this content at p, and the rest is left
-use Rattle.std.specs.Prelude.{◌≡◌, ◌≢◌, ◌⊎◌, ℕ, ◌+◌, ◌<◌, ◌≤◌, List, length, Option, Some, IfSome}
+use Rattle.std.specs.Prelude.{◌≡◌, ◌≢◌, ◌⊎◌, ℕ, ◌+◌, ◌<◌, ◌≤◌, length, Option, Some, IfSome}
 use Rattle.std.specs.List.{AllByRecursion}
 use Rattle.ts_name.specs.Paths.{Path, IsBefore}
 use Rattle.ts_model.specs.Trees.{Listing, listed, Ascend}

@@ -1,11 +1,12 @@
 ghost use Rattle.std.specs.Prelude.{◌≡◌, ◌≢◌, ◌↔◌, ◌∷◌, ◌++◌, [], IfOk, IsTrue, cond, false, true};
 ghost use Rattle.ts_dirty.specs.Found.{IsFoundOf, LastIsAbove};
+ghost use Rattle.ts_model.specs.Holds.{Names};
 ghost use Rattle.ts_model.specs.Sync.{listed_snapshot};
 ghost use Rattle.ts_model.specs.Trees.{IsListing};
 
 use crate::fault::DirtyFault;
 use crate::marks::Marks;
-use crate::walk::Walk;
+use crate::walk::{Seen, Walk};
 use std::alloc::{AllocError, Global};
 use ts_hold::Holds;
 use ts_model::row::{Content, Row, Stamp};
@@ -67,9 +68,9 @@ fn compare(
             seen.path,
             differ(&seen.first, &seen.second),
         )?;
-        let is_held = holds.holds(seen.path);
+        let is_named = is_held(holds, &seen);
         let is_covered = last_is_above(held.as_slice(), seen.path);
-        note(alloc, &mut held, seen.path, and_not(is_held, is_covered))?;
+        note(alloc, &mut held, seen.path, and_not(is_named, is_covered))?;
     }
     Ok(Marks::new(changed_first, changed_second, apart, held))
 }
@@ -79,6 +80,13 @@ fn differ(one: &Content<Stamp>, other: &Content<Stamp>) -> bool
     ensures { IsTrue result ↔ (one.now ≢ other.now) }
 {
     one != other
+}
+
+/// Whether a rule names the path, wherever something is there: in the archive alone too.
+fn is_held(holds: &Holds, seen: &Seen) -> bool
+    ensures { IsTrue result ↔ Names holds.now seen.now.path.now }
+{
+    holds.holds(seen.path)
 }
 
 /// Whether the last one of the paths is above this one.

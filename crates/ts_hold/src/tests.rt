@@ -1,4 +1,4 @@
-use crate::{HoldFault, Holds};
+use crate::{HoldFault, Holds, RuleReader};
 use std::alloc::{AllocError, Global};
 use std::io;
 use std::io::Write;
@@ -47,6 +47,78 @@ fn rules_name_paths(rt: HostRuntime) -> Result<(), Fail> {
         let path = Path::parse_text(rt.alloc(), text.as_bytes())?;
         assert_eq!(rt; holds.holds(&path), want, "{rules} at {text}");
     }
+    Ok(())
+}
+
+#[test]
+fn patterns_go_back_where_they_must(rt: HostRuntime) -> Result<(), Fail> {
+    let cases: [(&str, &str, bool); 14] = [
+        ("name *a*b\n", "/ab", true),
+        ("name *a*b\n", "/abab", true),
+        ("name *a*b\n", "/bab", true),
+        ("name *a*b\n", "/ba", false),
+        ("name *a*b\n", "/abc", false),
+        ("name *a*b\n", "/acbcb", true),
+        ("name *ab*ab\n", "/abab", true),
+        ("name *ab*ab\n", "/aab", false),
+        ("name *aab\n", "/aaab", true),
+        ("name *aba*\n", "/ababa", true),
+        ("name a*a\n", "/a", false),
+        ("name a*a\n", "/aa", true),
+        ("name *a*a*\n", "/ba", false),
+        ("name *a*a*\n", "/bacad", true),
+    ];
+    for (rules, text, want) in cases {
+        let holds = Holds::parse(rt.alloc(), rules.as_bytes())?;
+        let path = Path::parse_text(rt.alloc(), text.as_bytes())?;
+        assert_eq!(rt; holds.holds(&path), want, "{rules} at {text}");
+    }
+    Ok(())
+}
+
+/// Trying every way to part the name among the stars would never end.
+#[test]
+fn many_stars_take_few_steps(rt: HostRuntime) -> Result<(), Fail> {
+    for (last, want) in [(b'b', false), (b'a', true), (b'*', true)] {
+        let mut text = repeated(rt.alloc(), b"name ", 1)?;
+        text.extend_from_slice(&repeated(rt.alloc(), b"*a", 127)?)?;
+        text.push(last)?;
+        text.push(b'\n')?;
+        let holds = Holds::parse(rt.alloc(), &text)?;
+        let mut name = repeated(rt.alloc(), b"/", 1)?;
+        name.extend_from_slice(&repeated(rt.alloc(), b"a", 255)?)?;
+        let path = Path::parse_text(rt.alloc(), &name)?;
+        assert_eq!(rt; holds.holds(&path), want);
+    }
+    let stars = Holds::parse(
+        rt.alloc(),
+        &repeated(
+            rt.alloc(),
+            b"name *aaaaaaaaaaaaaaaaaaaaaaaaaaaaaab*\n",
+            4096,
+        )?,
+    )?;
+    let mut name = repeated(rt.alloc(), b"/", 1)?;
+    name.extend_from_slice(&repeated(rt.alloc(), b"a", 255)?)?;
+    let path = Path::parse_text(rt.alloc(), &name)?;
+    assert!(rt; !stars.holds(&path));
+    Ok(())
+}
+
+#[test]
+fn rules_are_taken_line_by_line(rt: HostRuntime) -> Result<(), Fail> {
+    let mut reader = RuleReader::new(rt.alloc());
+    reader.line(b"path /a")?;
+    match reader.line(b"path a") {
+        Ok(()) => assert!(rt; false, "a bad line was taken"),
+        Err(fault) => assert_eq!(rt; told(&fault), (11, 2)),
+    }
+    reader.line(b"name *")?;
+    let holds = reader.finish();
+    assert_eq!(rt; holds.rules().len(), 2);
+    let none = RuleReader::new(rt.alloc()).finish();
+    assert_eq!(rt; none.rules().len(), 0);
+    assert!(rt; !none.holds(&Path::parse_text(rt.alloc(), b"/a")?));
     Ok(())
 }
 
@@ -157,7 +229,7 @@ impl Write for Short {
 fn rules_are_written(rt: HostRuntime) -> Result<(), Fail> {
     let text = b"path /a%20b\nname *.o\nname %2A%2A\nname \xff*%25\nname *.o\n";
     let holds = Holds::parse(rt.alloc(), text)?;
-    for room in [text.len(), 14] {
+    for room in 0..=text.len() {
         let writer = Short {
             room,
             taken: Vec::new(rt.alloc()),

@@ -23,35 +23,11 @@ fn is_dir(print: &Print, path: &Path) -> bool
     matches!(print.get(path), Content::Dir)
 }
 
-/// Whether two rows say the same.
-fn is_same_row(x: &Row<Stamp>, y: &Row<Stamp>) -> bool
-    ensures { IsTrue result ↔ (x.now ≡ y.now) }
-{
-    x.path == y.path && x.content == y.content
-}
-
-/// Whether these are the same rows.
-fn are_same_rows(xs: &[Row<Stamp>], ys: &[Row<Stamp>]) -> bool
-    ensures { IsTrue result ↔ (xs.now ≡ ys.now) }
-{
-    if xs.len() != ys.len() {
-        return false;
-    }
-    for i in 0..xs.len() {
-        if !is_same_row(&xs[i], &ys[i]) {
-            return false;
-        }
-    }
-    true
-}
-
 /// Whether two prints have the same at a path and below it.
 fn is_same_below(xs: &Print, ys: &Print, path: &Path) -> bool
-    requires first { IsListing xs.now }
-    requires second { IsListing ys.now }
     ensures { IsTrue result ↔ (sub (at xs.now) path.now ≡ sub (at ys.now) path.now) }
 {
-    are_same_rows(xs.sub(path), ys.sub(path))
+    xs.sub_eq(ys, path)
 }
 
 /// Whether a rule names the path of some row.

@@ -1,20 +1,20 @@
 -- What the decoder knows of a source's bytes.
-use Rattle.std.proofs.Common.{◌≡◌, ◌≢◌, ◌⊎◌, ℕ, List, [], ◌∷◌, ◌++◌, Option, Some, None, IfSome, Result, Ok, Err, refl, sym, ap, ◌∙◌, subst, inl, inr, append-nil}
+use Rattle.std.proofs.Common.{◌≡◌, ◌≢◌, ◌⊎◌, ℕ, List, [], ◌∷◌, ◌++◌, append_assoc, Option, Some, None, IfSome, Result, Ok, Err, refl, sym, ap, ap₂, ◌∙◌, subst, inl, inr, append-nil}
 use Rattle.std.specs.Io.KnownBytes.{Keeps, Consumes, IsAtEnd}
 use Rattle.std.proofs.KnownBytes.{Consumes-trans, Consumes-kept, Consumes-nil}
-use Rattle.ts_model.specs.Texts.{Line, text, plan_lines}
+use Rattle.ts_model.specs.Texts.{Line, text, plan_lines, IsPlan}
 use Rattle.ts_model.specs.declared.plan.Plan.{Plan}
 use Rattle.ts_text.specs.Lines.{Reading, IsLine, HasNoLine, Answers, GivesLine}
 use Rattle.ts_text.specs.declared.fault.TextFault.{TextFault}
 use Rattle.ts_text.specs.declared.fault.TextFault.TheVariants as text_fault
 use Rattle.ts_text.specs.declared.state.State.TheVariants.{Going, Refused}
 use Rattle.ts_plan.specs.Progress.{Progress, fed}
-use Rattle.ts_plan.specs.Reading.{IsLarge, Begins, ReadsNext, Finishes}
-use Rattle.ts_plan.specs.Decoding.{fault_of_text, Decodes}
+use Rattle.ts_plan.specs.Reading.{IsBegun, IsLarge, Begins, ReadsNext, Finishes}
+use Rattle.ts_plan.specs.Decoding.{fault_of_text, Decodes, IsNoPlan, IsPastLimit}
 use Rattle.ts_plan.specs.declared.fault.PlanFault.{PlanFault}
 use Rattle.ts_plan.specs.declared.fault.PlanFault.TheVariants.{OutOfMemory, Failed, NotCanonical, PastLimit}
 use Rattle.ts_plan.proofs.Grammar.{large}
-use Rattle.ts_plan.proofs.Texts.{AreTextLines, text_cons, text_push, text_front, no_lines, plan_are_lines}
+use Rattle.ts_plan.proofs.Texts.{AreTextLines, cut_line, text_cons, text_push, text_front, no_lines, plan_are_lines}
 
 -- lines were given, and nothing else happened
 pub record Given (old now : Reading) (lines : List Line) : Type 0 where
@@ -63,10 +63,67 @@ if_known : {Q : List ℕ → Type 0} (known : Option (List ℕ)) → ((bytes : L
 if_known None f = tt
 if_known (Some bytes) f = f bytes refl
 
+-- ---- a line past a limit comes behind the lines that were read
+
+-- of two fronts of the same bytes one begins with the other
+data Fronts (xs ys : List Line) (u v : List ℕ) : Type 0 where
+  longer : (more : List Line) → xs ≡ ys ++ more → Fronts xs ys u v
+  shorter : (m : Line) (more : List Line) → ys ≡ xs ++ m ∷ more → u ≡ m ++ 10 ∷ (text more ++ v) → IsLine m → Fronts xs ys u v
+
+fronts : (xs ys : List Line) (u v : List ℕ) → AreTextLines xs → AreTextLines ys → text xs ++ u ≡ text ys ++ v → Fronts xs ys u v
+fronts xs [] u v are_x are_y e = longer xs refl
+fronts [] (y ∷ ys) u v are_x are_y e = shorter y ys refl (e ∙ ap (λ z. z ++ v) (text_cons y ys) ∙ append_assoc y (10 ∷ text ys) v) are_y.0
+fronts (x ∷ xs) (y ∷ ys) u v are_x are_y e =
+    let cut = cut_line x y (text xs ++ u) (text ys ++ v) are_x.0.one are_y.0.one
+    (sym (append_assoc x (10 ∷ text xs) u) ∙ ap (λ z. z ++ u) (sym (text_cons x xs)) ∙ e ∙ ap (λ z. z ++ v) (text_cons y ys) ∙ append_assoc y (10 ∷ text ys) v) in
+    go cut.0 (fronts xs ys u v are_x.1 are_y.1 cut.1)
+  where
+    go : x ≡ y → Fronts xs ys u v → Fronts (x ∷ xs) (y ∷ ys) u v
+    go same (longer more e) = longer more (ap₂ ◌∷◌ same e)
+    go same (shorter m more e rest is) = shorter m more (ap₂ ◌∷◌ (sym same) e) rest is
+
+some_line : (x rest : List ℕ) → x ++ 10 ∷ rest ≢ []
+some_line [] rest e = cc
+some_line (b ∷ x) rest e = cc
+
+lines_before : (xs ys zs : List Line) → xs ≡ ys ++ zs → AreTextLines xs → AreTextLines ys
+lines_before xs [] zs e are = tt
+lines_before [] (y ∷ ys) zs e are = absurd cc
+lines_before (x ∷ xs) (y ∷ ys) zs e are =
+    let first : x ≡ y = cc in
+    let rest : xs ≡ ys ++ zs = cc in
+    (subst (λ z. IsLine z) first are.0, lines_before xs ys zs rest are.1)
+
+-- that line, and what is left with it
+record Behind (lines : List Line) (left : List ℕ) (q : Plan) : Type 0 where
+  line : Line
+  more : List Line
+  rest : List ℕ
+  is_line : IsLine line
+  begins : Begins q (lines ++ line ∷ [])
+  left_is : left ≡ line ++ 10 ∷ rest
+
+past_behind : (p : Progress) (bytes left : List ℕ) (past : IsPastLimit bytes) → AreTextLines (fed p) → IsBegun p → bytes ≡ text (fed p) ++ left → Behind (fed p) left past.begins.0
+past_behind p bytes left past are begun e =
+    let q = past.begins.0 in
+    let front_are = lines_before (plan_lines q) past.front past.begins.2.0 past.begins.2.1 (plan_are_lines q past.begins.1) in
+    go (fronts (fed p) past.front left past.rest are front_are (sym e ∙ past.split))
+  where
+    go : Fronts (fed p) past.front left past.rest → Behind (fed p) left past.begins.0
+    go (longer more same) = absurd (past.none begun.0 begun.1 (more ++ begun.2.0, begun.2.1 ∙ ap (λ z. z ++ begun.2.0) same ∙ append_assoc past.front more begun.2.0))
+    go (shorter m more same rest is) = record {
+      line = m;
+      more = more;
+      rest = text more ++ past.rest;
+      is_line = is;
+      begins = (more ++ past.begins.2.0, past.begins.2.1 ∙ ap (λ z. z ++ past.begins.2.0) (same ∙ sym (append_assoc (fed p) (m ∷ []) more)) ∙ append_assoc (fed p ++ m ∷ []) more past.begins.2.0);
+      left_is = rest;
+    }
+
 -- a line reader that answers a fault
-pub text_refused : (old now new : Reading) (lines : List Line) (f : TextFault) → Given old now lines → Answers now (Err f) new → Decodes old (Err (fault_of_text f)) new
-text_refused old now new lines text_fault.OutOfMemory given h = tt
-text_refused old now new lines text_fault.Failed given h = failed given.state h.failures
+pub text_refused : (old now new : Reading) (p : Progress) (f : TextFault) → Given old now (fed p) → IsBegun p → Answers now (Err f) new → Decodes old (Err (fault_of_text f)) new
+text_refused old now new p text_fault.OutOfMemory given begun h = tt
+text_refused old now new p text_fault.Failed given begun h = failed given.state h.failures
   where
     going_refused : Going ≡ Refused text_fault.Failed → ⊥
     going_refused e = cc
@@ -75,10 +132,18 @@ text_refused old now new lines text_fault.Failed given h = failed given.state h.
     failed s (inr changed) = inr (λ e. changed (e ∙ sym given.failures))
     failed (inl going) (inl was) = absurd (going_refused (sym going ∙ was))
     failed (inr same) (inl was) = inl (sym same ∙ was)
-text_refused old now new lines text_fault.NotCanonical given h = if_known old.left (λ bytes known q is same.
-    let consumed = Consumes-kept (Some bytes) now.left new.left (text lines) (subst (λ z. Consumes z now.left (text lines)) known given.bytes) h.kept in
-    let found = behind new.left bytes lines q given.are is consumed same in
-    no_more new.left found.0 (lines_behind (plan_lines q) lines found.0 found.1 (plan_are_lines q is)) found.2 h.none bytes (text lines) consumed)
+text_refused old now new p text_fault.NotCanonical given begun h = if_known old.left (λ bytes known.
+    let consumed = Consumes-kept (Some bytes) now.left new.left (text (fed p)) (subst (λ z. Consumes z now.left (text (fed p))) known given.bytes) h.kept in
+    record {
+      none = λ q is same.
+          let found = behind new.left bytes (fed p) q given.are is consumed same in
+          no_more new.left found.0 (lines_behind (plan_lines q) (fed p) found.0 found.1 (plan_are_lines q is)) found.2 h.none bytes (text (fed p)) consumed;
+      within = λ past. none_stands new.left bytes past consumed h.none;
+    })
+  where
+    none_stands : (left : Option (List ℕ)) (bytes : List ℕ) → IsPastLimit bytes → Consumes (Some bytes) left (text (fed p)) → IfSome left HasNoLine → ⊥
+    none_stands None bytes past consumed none = consumed
+    none_stands (Some left) bytes past consumed none = let found = past_behind p bytes left past given.are begun consumed in none.none found.line found.rest found.is_line found.left_is
 
 -- a plan that spells the bytes begins with the lines given
 begins : (left : Option (List ℕ)) (bytes : List ℕ) (lines : List Line) (q : Plan) → AreTextLines lines → IsLarge q → Consumes (Some bytes) left (text lines) → bytes ≡ text (plan_lines q) → Begins q lines
@@ -89,12 +154,25 @@ rest_of None bytes c consumed = absurd consumed
 rest_of (Some rest) bytes c consumed = (rest, consumed)
 
 -- a plan reader that answers a fault
-pub line_refused : (old now : Reading) (p next : Progress) (one : Line) (f : PlanFault) → Given old now (fed p ++ one ∷ []) → ReadsNext p one (Err f) next → Decodes old (Err f) now
-line_refused old now p next one OutOfMemory given h = tt
-line_refused old now p next one Failed given h = absurd h
-line_refused old now p next one NotCanonical given h = if_known old.left (λ bytes known q is same.
-    h.1 q is (begins now.left bytes (fed p ++ one ∷ []) q given.are is (subst (λ z. Consumes z now.left (text (fed p ++ one ∷ []))) known given.bytes) same))
-line_refused old now p next one PastLimit given h = if_known old.left (λ bytes known.
+pub line_refused : (old now : Reading) (p next : Progress) (one : Line) (f : PlanFault) → Given old now (fed p ++ one ∷ []) → IsBegun p → ReadsNext p one (Err f) next → Decodes old (Err f) now
+line_refused old now p next one OutOfMemory given begun h = tt
+line_refused old now p next one Failed given begun h = absurd h
+line_refused old now p next one NotCanonical given begun h = if_known old.left (λ bytes known.
+    let consumed = subst (λ z. Consumes z now.left (text (fed p ++ one ∷ []))) known given.bytes in
+    record {
+      none = λ q is same. h.1 q is (begins now.left bytes (fed p ++ one ∷ []) q given.are is consumed same);
+      within = λ past. other_line now.left bytes past consumed;
+    })
+  where
+    other_line : (left : Option (List ℕ)) (bytes : List ℕ) → IsPastLimit bytes → Consumes (Some bytes) left (text (fed p ++ one ∷ [])) → ⊥
+    other_line None bytes past consumed = consumed
+    other_line (Some left) bytes past consumed =
+        let split = consumed ∙ ap (λ z. z ++ left) (text_push (fed p) one) ∙ append_assoc (text (fed p)) (one ++ 10 ∷ []) left ∙ ap (λ z. text (fed p) ++ z) (append_assoc one (10 ∷ []) left) in
+        let found = past_behind p bytes (one ++ 10 ∷ left) past (lines_before (fed p ++ one ∷ []) (fed p) (one ∷ []) refl given.are) begun split in
+        let is_one = (lines_behind (fed p ++ one ∷ []) (fed p) (one ∷ []) refl given.are).0 in
+        let same = cut_line one found.line left found.rest is_one.one found.is_line.one found.left_is in
+        h.1 past.begins.0 past.begins.1 (subst (λ z. Begins past.begins.0 (fed p ++ z ∷ [])) (sym same.0) found.begins)
+line_refused old now p next one PastLimit given begun h = if_known old.left (λ bytes known.
     let consumed = subst (λ z. Consumes z now.left (text (fed p ++ one ∷ []))) known given.bytes in
     let rest = rest_of now.left bytes (text (fed p ++ one ∷ [])) consumed in
     record {
@@ -115,18 +193,26 @@ none_behind None more end same bytes c consumed = absurd consumed
 none_behind (Some rest) more end same bytes c consumed = sym same ∙ end
 
 -- the end of the source
-pub finished : (old now new : Reading) (p : Progress) (r : Result Plan PlanFault) → Given old now (fed p) → Keeps now.left new.left → IsAtEnd new.left → Finishes p r → Decodes old r new
-finished old now new p (Ok q) given kept end h = (
+pub finished : (old now new : Reading) (p : Progress) (r : Result Plan PlanFault) → Given old now (fed p) → IsBegun p → Keeps now.left new.left → IsAtEnd new.left → Finishes p r → Decodes old r new
+finished old now new p (Ok q) given begun kept end h = (
   h.0,
   if_known old.left (λ bytes known.
       let consumed = Consumes-kept (Some bytes) now.left new.left (text (fed p)) (subst (λ z. Consumes z now.left (text (fed p))) known given.bytes) kept in
       record { plan_fits = h.0; spelled = at_end new.left bytes (text (fed p)) consumed end ∙ ap text (sym h.1) }),
 )
-finished old now new p (Err OutOfMemory) given kept end h = tt
-finished old now new p (Err Failed) given kept end h = absurd h
-finished old now new p (Err NotCanonical) given kept end h = if_known old.left (λ bytes known q is same.
+finished old now new p (Err OutOfMemory) given begun kept end h = tt
+finished old now new p (Err Failed) given begun kept end h = absurd h
+finished old now new p (Err NotCanonical) given begun kept end h = if_known old.left (λ bytes known.
     let consumed = Consumes-kept (Some bytes) now.left new.left (text (fed p)) (subst (λ z. Consumes z now.left (text (fed p))) known given.bytes) kept in
-    let found = behind new.left bytes (fed p) q given.are is consumed same in
-    let none = no_lines found.0 (none_behind new.left found.0 end found.2 bytes (text (fed p)) consumed) in
-    h q is (found.1 ∙ ap (λ z. fed p ++ z) none ∙ append-nil (fed p)))
-finished old now new p (Err PastLimit) given kept end h = absurd h
+    record {
+      none = λ q is same.
+          let found = behind new.left bytes (fed p) q given.are is consumed same in
+          let none = no_lines found.0 (none_behind new.left found.0 end found.2 bytes (text (fed p)) consumed) in
+          h q is (found.1 ∙ ap (λ z. fed p ++ z) none ∙ append-nil (fed p));
+      within = λ past. nothing_left new.left bytes past consumed end;
+    })
+  where
+    nothing_left : (left : Option (List ℕ)) (bytes : List ℕ) → IsPastLimit bytes → Consumes (Some bytes) left (text (fed p)) → IsAtEnd left → ⊥
+    nothing_left None bytes past consumed end = consumed
+    nothing_left (Some left) bytes past consumed end = let found = past_behind p bytes left past given.are begun consumed in some_line found.line found.rest (sym found.left_is ∙ end)
+finished old now new p (Err PastLimit) given begun kept end h = absurd h

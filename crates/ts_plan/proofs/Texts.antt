@@ -31,7 +31,7 @@ AreTextLines lines = AllByRecursion IsLine lines
 abbrev IsOne : List ℕ → Type 0
 IsOne bytes = AllByRecursion (λ b. b ≢ 10) bytes
 
-cut_line : (x y u v : List ℕ) → IsOne x → IsOne y → x ++ 10 ∷ u ≡ y ++ 10 ∷ v → (x ≡ y) × (u ≡ v)
+pub cut_line : (x y u v : List ℕ) → IsOne x → IsOne y → x ++ 10 ∷ u ≡ y ++ 10 ∷ v → (x ≡ y) × (u ≡ v)
 cut_line [] [] u v one_x one_y e = (refl, cc)
 cut_line [] (b ∷ y) u v one_x one_y e = absurd (one_y.0 (let same : 10 ≡ b = cc in sym same))
 cut_line (b ∷ x) [] u v one_x one_y e = absurd (one_x.0 (let same : b ≡ 10 = cc in same))

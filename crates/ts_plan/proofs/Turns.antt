@@ -14,7 +14,7 @@ use Rattle.ts_model.specs.declared.plan.Plan.{Plan}
 use Rattle.ts_laws.proofs.Words.{all_append, all_parts}
 use Rattle.ts_plan.specs.PlanLines.{line_text, LineFits, ReadsLine}
 use Rattle.ts_plan.specs.Progress.{Progress, all_actions, plan_of, start, body_lines, fed_in, fed, step, step_in}
-use Rattle.ts_plan.specs.Reading.{IsLarge, IsProgress, Begins, Takes, ReadsNext}
+use Rattle.ts_plan.specs.Reading.{IsLarge, IsProgress, Begins, Takes, ReadsNext, IsBegun}
 use Rattle.ts_plan.specs.declared.fault.PlanFault.{PlanFault}
 use Rattle.ts_plan.specs.declared.fault.PlanFault.TheVariants.{OutOfMemory, Failed, NotCanonical, PastLimit}
 use Rattle.ts_plan.specs.declared.progress.Part.{Part}
@@ -177,6 +177,17 @@ begins_in Body es acts = (words (codes "end" ∷ decimal (length es) ∷ decimal
 begins_in Ended es acts = ([], sym (append-nil (plan_lines (record { entries = es; actions = acts }))))
 
 -- ---- the reader
+
+-- what was read is the beginning of a plan
+pub begun : (p : Progress) → IsProgress p → IsBegun p
+begun p is = (plan_of p, is.plan, begins_in p.part p.entries (all_actions p))
+
+pub begun_start : IsBegun start
+begun_start = (
+  plan_of start,
+  record { limits = record { entries = omega arith; actions = omega arith; preds = omega arith }; entries = tt; kinds = tt; preds = tt },
+  begins_in Start [] [],
+)
 
 -- a line that can't be read
 pub line_refused : (p : Progress) (one : Line) (f : PlanFault) → IsProgress p → ReadsLine one (Err f) → ReadsNext p one (Err f) p

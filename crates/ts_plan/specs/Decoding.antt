@@ -25,10 +25,15 @@ pub record IsPastLimit (bytes : List ℕ) : Type 0 where
   pub none : (plan : Plan) → IsPlan plan → ¬ Begins plan front
   pub no_plan : (plan : Plan) → ¬ IsPlanText bytes plan
 
+-- no plan's text, past a limit or not, and no line of it goes past one before what isn't canonical
+pub record IsNoPlan (bytes : List ℕ) : Type 0 where
+  pub none : (plan : Plan) → IsLarge plan → bytes ≢ text (plan_lines plan)
+  pub within : ¬ IsPastLimit bytes
+
 -- the plan that the bytes spell, or why they spell none
 abbrev pub Decodes : Reading → Result Plan PlanFault → Reading → Type 0
 Decodes old (Ok plan) new = IsPlan plan × IfSome old.left (λ bytes. IsPlanText bytes plan)
 Decodes old (Err OutOfMemory) new = Unit {0}
 Decodes old (Err Failed) new = (old.state ≡ Refused text_fault.Failed) ⊎ (new.failures ≢ old.failures)
-Decodes old (Err NotCanonical) new = IfSome old.left (λ bytes. (plan : Plan) → IsLarge plan → bytes ≢ text (plan_lines plan))
+Decodes old (Err NotCanonical) new = IfSome old.left IsNoPlan
 Decodes old (Err PastLimit) new = IfSome old.left IsPastLimit

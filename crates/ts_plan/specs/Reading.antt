@@ -27,6 +27,10 @@ pub record IsProgress (p : Progress) : Type 0 where
 abbrev pub Begins : Plan → List Line → Type 0
 Begins plan front = (rest : List Line) × (plan_lines plan ≡ front ++ rest)
 
+-- some plan's lines begin with those that were read
+abbrev pub IsBegun : Progress → Type 0
+IsBegun p = (plan : Plan) × IsPlan plan × Begins plan (fed p)
+
 -- the reader takes the line, or doesn't change
 abbrev pub Takes : Progress → PlanLine → Result (Unit {0}) PlanFault → Progress → Type 0
 Takes old l (Ok x) new = step old l ≡ Some new

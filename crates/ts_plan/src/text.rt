@@ -3,7 +3,7 @@ ghost use Rattle.std.specs.Prelude.{◌≡◌, ◌≢◌, ◌≤◌, ℕ, List, 
 ghost use Rattle.ts_model.specs.Texts.{PathFits, KindFits};
 ghost use Rattle.ts_plan.specs.PlanLines.{LineFits};
 ghost use Rattle.ts_plan.specs.Progress.{start, all_actions, fed};
-ghost use Rattle.ts_plan.specs.Reading.{Takes, ReadsNext, Finishes};
+ghost use Rattle.ts_plan.specs.Reading.{Takes, ReadsNext, Finishes, IsBegun};
 ghost use Rattle.ts_plan.specs.declared.progress.Part.TheVariants as part;
 ghost use Rattle.ts_plan.specs.declared.line.PlanLine.TheVariants as line;
 
@@ -73,6 +73,7 @@ impl PlanReader {
     pub fn line(&mut self, line: &[u8]) -> Result<(), PlanFault>
         ensures reads { ReadsNext self.old line.now result self.new }
         ensures short { length (fed self.new) ≤ 6291458 }
+        ensures begun { IsBegun self.new }
     {
         match PlanLine::read(self.alloc, line) {
             Ok(line) => {

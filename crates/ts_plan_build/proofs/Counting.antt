@@ -3,7 +3,7 @@ use Rattle.std.proofs.Common.{◌≡◌, ◌≢◌, ℕ, zero, suc, ◌+◌, ◌
 use Rattle.std.proofs.lemmas.Bool.{ne_eqb}
 use Rattle.std.proofs.lemmas.List.{take_all, take_more}
 use Rattle.std.proofs.lemmas.Grind.{flat_map-append}
-use Rattle.std.proofs.Common.{append-nil, Option, Some, Result, Ok, Err, IfOk}
+use Rattle.std.proofs.Common.{append-nil, Option, Some, Result, Ok, Err, IfOk, IfErr}
 use Rattle.ts_model.specs.declared.plan.Kind.TheVariants.{Commit}
 use Rattle.std.specs.Prelude.{flat_map}
 use Rattle.ts_name.specs.Paths.{Path}
@@ -59,6 +59,11 @@ pieces_more e rows i row before old new l is e_old e_new =
 pub IfOk-map : {T E : Type 0} {P Q : Type 0} (r : Result T E) → (P → Q) → IfOk r (λ _. P) → IfOk r (λ _. Q)
 IfOk-map (Ok x) f h = f h
 IfOk-map (Err e) f h = h
+
+-- and of an Err
+pub IfErr-map : {T E : Type 0} {P Q : E → Type 0} (r : Result T E) → ((e : E) → P e → Q e) → IfErr r P → IfErr r Q
+IfErr-map (Ok x) f h = h
+IfErr-map (Err e) f h = f e h
 
 -- the actions of a copied entry, one after another
 pub copy_made : (e : ℕ) (rows : List (Row Stamp)) (above : Option ℕ) (i from to : ℕ) (preds : List ℕ) (before with_pieces with_commit new : List Action)

@@ -10,7 +10,9 @@ use Rattle.ts_model.specs.declared.plan.Action.{Action}
 use Rattle.ts_model.specs.declared.plan.Reason.{Reason}
 use Rattle.ts_model.specs.declared.plan.Reason.TheVariants as reason
 use Rattle.ts_model.specs.declared.plan.Kind.TheVariants.{Piece, Commit, Mark}
-use Rattle.ts_dirty.proofs.Order.{before_itself, before_trans, not_after, above_upto, above_between, above_itself, above_trans}
+use Rattle.ts_name.proofs.Order.{before_itself, before_trans, before_turned}
+use Rattle.ts_name.proofs.Prefixes.{above_itself, above_trans}
+use Rattle.ts_dirty.proofs.Order.{above_upto, above_between}
 use Rattle.ts_plan_build.specs.declared.builder.NewDir.{NewDir}
 use Rattle.ts_plan_build.specs.Blocks.{block, mark_of}
 use Rattle.ts_plan_build.specs.Built.{IsNewDirAbove, IsNearestMark, IsAboveMark, IsBuilt, AreOff, AreLeft, IsKept, AreOrdered}
@@ -115,8 +117,8 @@ module _ (entries : List Entry) (ordered : AreOrdered entries) where
         above_last : IsAbove dir.path last.0.path
         above_last = elim (cases_lt x (k - 1)) [
           | inl before ↦ above_between dir.path last.0.path entry.path above
-              (not_after dir.path last.0.path (in_order x (k - 1) dir last.0 before there last.1))
-              (not_after last.0.path entry.path (in_order (k - 1) k last.0 entry (omega arith) last.1 is))
+              (before_turned dir.path last.0.path (in_order x (k - 1) dir last.0 before there last.1))
+              (before_turned last.0.path entry.path (in_order (k - 1) k last.0 entry (omega arith) last.1 is))
           | inr more ↦
               let same : x ≡ k - 1 = omega arith in
               let e : dir ≡ last.0 = same_at entries (k - 1) dir last.0 (subst (λ (n : ℕ). slice_get entries n ≡ Some dir) same there) last.1 in

@@ -15,8 +15,9 @@ use Rattle.ts_model.specs.declared.row.Stamp.{Stamp}
 use Rattle.ts_model.specs.declared.plan.Action.{Action}
 use Rattle.ts_model.specs.declared.plan.Kind.{Kind}
 use Rattle.ts_model.specs.declared.plan.Kind.TheVariants.{Piece, Commit, Mark}
-use Rattle.ts_dirty.proofs.Order.{before_itself, before_trans}
-use Rattle.ts_dirty.proofs.Rows.{same_path_equal, same_path_itself, listed_here, listed_there}
+use Rattle.ts_name.proofs.Order.{before_itself, before_trans}
+use Rattle.ts_name.specs.Laws.{same_path_equal, same_path_itself}
+use Rattle.ts_dirty.proofs.Rows.{listed_here, listed_there}
 use Rattle.ts_table.specs.Tables.{is_above, rows_below}
 use Rattle.ts_plan_build.specs.Blocks.{each_below, piece_count, piece_of, row_pieces, pieces_of}
 use Rattle.ts_plan_build.proofs.Places.{same_at, get_left, get_right, get_cases, each_below_at, at_each_below}
@@ -40,12 +41,12 @@ in_order_from (row ∷ next ∷ rows) h = let more = in_order_from (next ∷ row
     first (suc k) later f more = before_trans row.path next.path later.path h.0 (more.0 k later f)
 
 -- what is in a filtered list is in the list, and passes
-record IsKept (test : Row Stamp → Bool) (rows : List (Row Stamp)) (row : Row Stamp) : Type 0 where
-  place : ℕ
-  there : slice_get rows place ≡ Some row
-  passes : test row ≡ true
+pub record IsKept (test : Row Stamp → Bool) (rows : List (Row Stamp)) (row : Row Stamp) : Type 0 where
+  pub place : ℕ
+  pub there : slice_get rows place ≡ Some row
+  pub passes : test row ≡ true
 
-in_filter : (test : Row Stamp → Bool) (rows : List (Row Stamp)) (k : ℕ) (row : Row Stamp) → slice_get (filter test rows) k ≡ Some row → IsKept test rows row
+pub in_filter : (test : Row Stamp → Bool) (rows : List (Row Stamp)) (k : ℕ) (row : Row Stamp) → slice_get (filter test rows) k ≡ Some row → IsKept test rows row
 in_filter test [] k row h = absurd (none-some row h)
 in_filter test (x ∷ rows) k row h = go (test x) refl k h (λ i f. in_filter test rows i row f)
   where

@@ -19,7 +19,8 @@ use Rattle.ts_model.specs.declared.plan.Kind.TheVariants.{Piece, Commit, Mark}
 use Rattle.ts_model.specs.declared.plan.Reason.{Reason}
 use Rattle.ts_model.specs.declared.plan.Reason.TheVariants as reason
 use Rattle.ts_model.specs.declared.plan.Plan.{Plan}
-use Rattle.ts_dirty.proofs.Order.{before_itself, before_cases, above_upto}
+use Rattle.ts_name.proofs.Order.{before_itself}
+use Rattle.ts_name.proofs.Prefixes.{above_turned}
 use Rattle.ts_recon.specs.Reasons.{AreReasons}
 use Rattle.ts_table.specs.Tables.{rows_below}
 use Rattle.ts_plan_build.specs.Blocks.{each_below, piece_of, pieces_of, commit_of, mark_of, some_of, copy_block, block}
@@ -50,7 +51,7 @@ module _ (s : Snapshot) (plan : Plan) (found : AreReasons s plan.entries) where
   pub entries_ascend : (place : ℕ) → ¬ Wrong s plan rule.EntriesAscend place
   entries_ascend place h = h.6 (in_order plan.entries found.ascending h.0 place h.1 h.2 (let e : place ≡ h.0 + 1 = h.3 in omega arith) h.4 h.5)
 
-  contains_entry : (k : ℕ) (e : Entry) → slice_get plan.entries k ≡ Some e → Contains plan.entries e
+  pub contains_entry : (k : ℕ) (e : Entry) → slice_get plan.entries k ≡ Some e → Contains plan.entries e
   contains_entry k e h = (k, slice_get_within plan.entries k e h, get_or_from_slice_get plan.entries k e e h)
 
   pub reasons_hold : (place : ℕ) → ¬ Wrong s plan rule.ReasonsHold place
@@ -74,16 +75,16 @@ ascend_each base (suc m) n le = ascend_more (base + m) (base + m) n (each_below 
 
 -- ---- rules of the actions
 
-abbrev side_rows : Listing Stamp → Listing Stamp → Side → Listing Stamp
+abbrev pub side_rows : Listing Stamp → Listing Stamp → Side → Listing Stamp
 side_rows F S side.First = F
 side_rows F S side.Second = S
 
 module _ (F S : Listing Stamp) (plan : Plan) (w : IsBuilt F S plan.entries plan.actions (length plan.entries)) where
   -- the pieces of an entry that is copied from a side
-  abbrev pieces : ℕ → Entry → Side → List Action
+  abbrev pub pieces : ℕ → Entry → Side → List Action
   pieces e entry from = pieces_of e (rows_below entry.path (side_rows F S from))
 
-  located : (e : ℕ) (entry : Entry) → EntryIs plan e entry → IsLocated F S plan.entries plan.actions e entry
+  pub located : (e : ℕ) (entry : Entry) → EntryIs plan e entry → IsLocated F S plan.entries plan.actions e entry
   located e entry is = w.located e entry (slice_get_within plan.entries e entry is) is
 
   -- the number of the first action of an entry
@@ -117,7 +118,7 @@ module _ (F S : Listing Stamp) (plan : Plan) (w : IsBuilt F S plan.entries plan.
   not_skipped r m n (inr e) = n e
 
   -- each action of an entry is one of these
-  view : (e : ℕ) (entry : Entry) (l : IsLocated F S plan.entries plan.actions e entry) (i : ℕ) (a : Action) → ActionIs plan i a → entry_of a.kind ≡ e → View e entry l i a
+  pub view : (e : ℕ) (entry : Entry) (l : IsLocated F S plan.entries plan.actions e entry) (i : ℕ) (a : Action) → ActionIs plan i a → entry_of a.kind ≡ e → View e entry l i a
   view e entry l i a h of = go entry.reason refl (in_block e entry l i a h of)
     where
       copied : (from : Side) → source entry.reason ≡ Some from → (j : ℕ) → i ≡ length l.before + j → CopyAt e (rows_below entry.path (side_rows F S from)) l.above (length l.before) j a → View e entry l i a
@@ -167,7 +168,7 @@ module _ (F S : Listing Stamp) (plan : Plan) (w : IsBuilt F S plan.entries plan.
   commit_here e entry l from is = from_block e entry l (length (pieces e entry from)) _ (subst (λ (z : List Action). slice_get z (length (pieces e entry from)) ≡ Some (commit_of e (length l.before) (length (pieces e entry from)))) (sym (copied_block e entry from l.above (length l.before) is)) (commit_there e (rows_below entry.path (side_rows F S from)) l.above (length l.before)))
 
   -- an action has an entry
-  entry_here : (i : ℕ) (a : Action) → ActionIs plan i a → (entry : Entry) × EntryIs plan (entry_of a.kind) entry
+  pub entry_here : (i : ℕ) (a : Action) → ActionIs plan i a → (entry : Entry) × EntryIs plan (entry_of a.kind) entry
   entry_here i a h = element_at plan.entries (entry_of a.kind) (w.below i a h)
 
   mark_here : (e : ℕ) (entry : Entry) (l : IsLocated F S plan.entries plan.actions e entry) (from : Side) → source entry.reason ≡ Some from
@@ -175,7 +176,7 @@ module _ (F S : Listing Stamp) (plan : Plan) (w : IsBuilt F S plan.entries plan.
   mark_here e entry l from is = from_block e entry l (length (pieces e entry from) + 1) _ (subst (λ (z : List Action). slice_get z (length (pieces e entry from) + 1) ≡ Some (mark_of e l.above (Some (length l.before + length (pieces e entry from))))) (sym (copied_block e entry from l.above (length l.before) is)) (mark_there e (rows_below entry.path (side_rows F S from)) l.above (length l.before)))
 
   -- the kind of an action tells its entry
-  of_kind : (a : Action) (kind : Kind) (e : ℕ) → a.kind ≡ kind → entry_of kind ≡ e → entry_of a.kind ≡ e
+  pub of_kind : (a : Action) (kind : Kind) (e : ℕ) → a.kind ≡ kind → entry_of kind ≡ e → entry_of a.kind ≡ e
   of_kind a kind e is f = ap entry_of is ∙ f
 
   -- a commit is that of a copied entry
@@ -331,12 +332,12 @@ module _ (F S : Listing Stamp) (plan : Plan) (w : IsBuilt F S plan.entries plan.
       waits e entry l i a c k (is_copy_mark from is at f) commit_is = absurd (piece_mark _ _ _ _ _ (sym k ∙ ap (λ (z : Action). z.kind) f))
       waits e entry l i a c k (is_mark is plain at f) commit_is = absurd (piece_mark _ _ _ _ _ (sym k ∙ ap (λ (z : Action). z.kind) f))
 
-  -- predecessors ascend
-  pub preds_ascend : (s : Snapshot) (place : ℕ) → ¬ Wrong s plan rule.PredsAscend place
-  preds_ascend s place h =
-      let found = entry_here place h.0 h.1 in
-      let l = located (entry_of h.0.kind) found.0 found.1 in
-      h.2 (ascends (entry_of h.0.kind) found.0 l place h.0 (view (entry_of h.0.kind) found.0 l place h.0 h.1 refl))
+  -- the predecessors of an action ascend
+  pub ascends_at : (i : ℕ) (a : Action) → ActionIs plan i a → AscendBelow i a.preds
+  ascends_at i a h =
+      let found = entry_here i a h in
+      let l = located (entry_of a.kind) found.0 found.1 in
+      ascends (entry_of a.kind) found.0 l i a (view (entry_of a.kind) found.0 l i a h refl)
     where
       above_less : (o : Option ℕ) (entry : Entry) (before : List Action) (m : ℕ) → IsAboveMark plan.entries before entry o → o ≡ Some m → m < length before
       above_less None entry before m dir e = absurd (none-some m e)
@@ -365,6 +366,10 @@ module _ (F S : Listing Stamp) (plan : Plan) (w : IsBuilt F S plan.entries plan.
           (λ m g. absurd (none-some m g))
           (λ m k g g'. absurd (none-some k g')))
 
+  -- so no action breaks the rule
+  pub preds_ascend : (s : Snapshot) (place : ℕ) → ¬ Wrong s plan rule.PredsAscend place
+  preds_ascend s place h = h.2 (ascends_at place h.0 h.1)
+
   -- a mark waits for the mark of the nearest new directory above it
   pub dir_first : (s : Snapshot) → AreOrdered plan.entries → (place : ℕ) → ¬ Wrong s plan rule.DirFirst place
   dir_first s ordered place h =
@@ -372,12 +377,6 @@ module _ (F S : Listing Stamp) (plan : Plan) (w : IsBuilt F S plan.entries plan.
       let l = located h.0 mark_is.0 mark_is.1.0 in
       h.6 (h.3.0, h.3.1, go mark_is.0 l (h.3.0) mark_is.1.1.commit mark_is.1.1.is (same_at plan.entries h.0 h.4.below mark_is.0 h.4.is_below mark_is.1.0) l.above refl)
     where
-      antisym : (p q : Path) → IsAbove p q → IsAbove q p → p ≡ q
-      antisym p q x y = elim (before_cases p q) [
-        | inl less ↦ absurd (above_upto q p y less)
-        | inr more ↦ elim more [ inl f ↦ f | inr after ↦ absurd (above_upto p q x after) ]
-      ]
-
       same_number : (x y : ℕ) (a b : Entry) → EntryIs plan x a → EntryIs plan y b → a.path ≡ b.path → x ≡ y
       same_number x y a b is_a is_b same = elim (cases_order x y) [
         | inl f ↦ f
@@ -394,7 +393,7 @@ module _ (F S : Listing Stamp) (plan : Plan) (w : IsBuilt F S plan.entries plan.
           let near : IsNearestMark plan.entries l.before entry m = subst (λ (x : Option ℕ). IsAboveMark plan.entries l.before entry x) f l.dir in
           let up = near.nearest h.1 h.4.dir (h.4.is_dir, h.4.new_dir, subst (λ (z : Entry). IsAbove h.4.dir.path z.path) same h.4.above, subst (λ (z : Entry). h.4.dir.path ≢ z.path) same h.4.strictly) in
           let down = h.4.nearest near.number near.dir near.is_above.0 near.is_above.1 (subst (λ (z : Entry). IsAbove near.dir.path z.path) (sym same) near.is_above.2) (subst (λ (z : Entry). near.dir.path ≢ z.path) (sym same) near.is_above.3) in
-          let number : near.number ≡ h.1 = same_number near.number h.1 near.dir h.4.dir near.is_above.0 h.4.is_dir (antisym near.dir.path h.4.dir.path down up) in
+          let number : near.number ≡ h.1 = same_number near.number h.1 near.dir h.4.dir near.is_above.0 h.4.is_dir (above_turned near.dir.path h.4.dir.path down up) in
           let there : ActionIs plan m near.action = subst (λ (z : List Action). slice_get z m ≡ Some near.action) (sym l.here) (get_left l.before _ m near.action near.there) in
           let first = mark_found h.1 h.2 h.5.0 h.5.1 h.5.2 in
           let place_is : h.2 ≡ m = one_mark_place h.1 h.2 m h.5.0 near.action first.0 first.1.0 there (near.kind ∙ ap (λ (n : ℕ). Mark n) number) first.1.1 in

@@ -1,3 +1,4 @@
 pub mod Blocks
+pub mod Planned
 pub mod Faults
 pub mod Built

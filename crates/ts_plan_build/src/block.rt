@@ -1,6 +1,7 @@
-ghost use Rattle.std.specs.Prelude.{◌≡◌, ◌+◌, ◌-◌, ◌≤◌, ◌<◌, ◌++◌, ◌∷◌, [], IfOk, cond, length, min};
+ghost use Rattle.std.specs.Prelude.{◌≡◌, ◌+◌, ◌-◌, ◌≤◌, ◌<◌, ◌++◌, ◌∷◌, [], IfOk, IfErr, OnOk, cond, length, min, sum_by};
 ghost use Rattle.ts_model.specs.Plans.{action_limit};
 ghost use Rattle.ts_plan_build.specs.Blocks.{block, commit_of, copy_block, each_below, mark_of, piece_count, piece_of, pieces_of, some_of};
+ghost use Rattle.ts_plan_build.specs.Planned.{action_count, row_count};
 
 use crate::fault::PlanFault;
 use std::alloc::{AllocError, Global};
@@ -28,7 +29,9 @@ pub(crate) fn add_entry(
     second: &Print,
 ) -> Result<(), PlanFault>
     requires { length actions.old.items ≤ action_limit }
-    ensures { IfOk result (λ _. (actions.new.items ≡ actions.old.items ++ block first.now second.now number entry.now.path entry.now.reason above (length actions.old.items)) × (length actions.new.items ≤ action_limit)) }
+    ensures added { OnOk result (actions.new.items ≡ actions.old.items ++ block first.now second.now number entry.now.path entry.now.reason above (length actions.old.items)) }
+    ensures limit { OnOk result (length actions.new.items ≤ action_limit) }
+    ensures past { IfErr result (λ fault. fault ≡ PlanFault.PastLimit → action_limit < length actions.old.items + action_count first.now second.now entry.now.path entry.now.reason) }
 {
     match entry.reason {
         Reason::Same | Reason::Dir => add_mark(alloc, actions, number, above, None),
@@ -47,7 +50,9 @@ fn add_copy(
     above: Option<u32>,
 ) -> Result<(), PlanFault>
     requires { length actions.old.items ≤ action_limit }
-    ensures { IfOk result (λ _. (actions.new.items ≡ actions.old.items ++ copy_block entry rows.now above (length actions.old.items)) × (length actions.new.items ≤ action_limit)) }
+    ensures added { OnOk result (actions.new.items ≡ actions.old.items ++ copy_block entry rows.now above (length actions.old.items)) }
+    ensures limit { OnOk result (length actions.new.items ≤ action_limit) }
+    ensures past { IfErr result (λ fault. fault ≡ PlanFault.PastLimit → action_limit < length actions.old.items + (sum_by row_count rows.now + 2)) }
 {
     let from = actions.len() as u32;
     for row in rows {
@@ -70,7 +75,9 @@ fn add_file(
     size: u64,
 ) -> Result<(), PlanFault>
     requires { length actions.old.items ≤ action_limit }
-    ensures { IfOk result (λ _. (actions.new.items ≡ actions.old.items ++ each_below (piece_of entry path.now size) (piece_count size)) × (length actions.new.items ≤ action_limit)) }
+    ensures added { OnOk result (actions.new.items ≡ actions.old.items ++ each_below (piece_of entry path.now size) (piece_count size)) }
+    ensures limit { OnOk result (length actions.new.items ≤ action_limit) }
+    ensures past { IfErr result (λ fault. fault ≡ PlanFault.PastLimit → action_limit < length actions.old.items + piece_count size) }
 {
     let count = count_pieces(size);
     for piece in 0..count {
@@ -109,7 +116,9 @@ fn add_mark(
     commit: Option<u32>,
 ) -> Result<(), PlanFault>
     requires { length actions.old.items ≤ action_limit }
-    ensures { IfOk result (λ _. (actions.new.items ≡ actions.old.items ++ mark_of entry above commit ∷ []) × (length actions.new.items ≤ action_limit)) }
+    ensures added { OnOk result (actions.new.items ≡ actions.old.items ++ mark_of entry above commit ∷ []) }
+    ensures limit { OnOk result (length actions.new.items ≤ action_limit) }
+    ensures past { IfErr result (λ fault. fault ≡ PlanFault.PastLimit → action_limit < length actions.old.items + 1) }
 {
     let mut preds = Vec::new(alloc);
     if let Some(mark) = above {
@@ -124,7 +133,9 @@ fn add_mark(
 /// Adds an action, where there is room for one more.
 fn push(actions: &mut Vec<Action>, kind: Kind, preds: Vec<u32>) -> Result<(), PlanFault>
     requires { length actions.old.items ≤ action_limit }
-    ensures { IfOk result (λ _. (actions.new.items ≡ actions.old.items ++ record { kind = kind; preds = preds.items } ∷ []) × (length actions.new.items ≤ action_limit)) }
+    ensures added { OnOk result (actions.new.items ≡ actions.old.items ++ record { kind = kind; preds = preds.items } ∷ []) }
+    ensures limit { OnOk result (length actions.new.items ≤ action_limit) }
+    ensures past { IfErr result (λ fault. fault ≡ PlanFault.PastLimit → action_limit < length actions.old.items + 1) }
 {
     if actions.len() >= ACTION_LIMIT {
         return Err(PlanFault::PastLimit);

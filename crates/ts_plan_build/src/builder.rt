@@ -1,15 +1,17 @@
-ghost use Rattle.std.specs.Prelude.{◌≡◌, ◌-◌, ◌<◌, ◌≤◌, IfOk, List, MatchOption, length, slice_get};
+ghost use Rattle.std.specs.Prelude.{◌≡◌, ◌-◌, ◌<◌, ◌≤◌, IfOk, IfErr, List, MatchOption, OnOk, length, slice_get};
 ghost use Rattle.ts_model.specs.Plans.{Valid};
 ghost use Rattle.ts_model.specs.Sync.{listed_snapshot};
+ghost use Rattle.ts_model.specs.Texts.{IsPlan};
 ghost use Rattle.ts_model.specs.declared.hold.Rule.{Rule};
 ghost use Rattle.ts_recon.specs.Reasons.{AreReasons};
 ghost use Rattle.ts_model.specs.Plans.{action_limit, entry_limit};
 ghost use Rattle.ts_plan_build.specs.Built.{AreLeft, AreOrdered, IsBuilt, IsKept};
+ghost use Rattle.ts_plan_build.specs.Planned.{IsPastLimit, planned_actions};
 ghost use Rattle.ts_plan_build.specs.declared.builder.NewDir.{NewDir};
 
 use crate::block::add_entry;
 use crate::fault::PlanFault;
-use std::alloc::Global;
+use std::alloc::{AllocError, Global};
 use ts_model::items::Items;
 use ts_model::plan::{Action, Entry, Plan, Reason};
 use ts_name::Path;
@@ -26,11 +28,12 @@ struct NewDir<'a> {
 }
 
 /// The plan of these entries, which are the reasons of the prints: for each entry in order its pieces, its commit and its
-/// mark, as far as it has them.
+/// mark, as far as it has them. It is valid, and has a text.
 ///
 /// # Errors
 ///
-/// `PastLimit` where the plan would have too many entries or actions, and want of memory.
+/// `PastLimit` exactly where there are more than 1,048,576 entries, or their plan would have more than 1,048,576 actions;
+/// it then has no more predecessors than a plan may have. And want of memory.
 pub fn build(
     alloc: Global,
     archive: &Print,
@@ -42,9 +45,13 @@ pub fn build(
     ensures entries { IfOk result (λ plan. plan.entries ≡ entries.items) }
     ensures valid { (rules : List Rule) → AreReasons (listed_snapshot archive.now first.now second.now rules) entries.items
         → IfOk result (λ plan. Valid (listed_snapshot archive.now first.now second.now rules) plan) }
+    ensures fits { (rules : List Rule) → AreReasons (listed_snapshot archive.now first.now second.now rules) entries.items
+        → IfOk result (λ plan. IsPlan plan) }
+    ensures within { OnOk result (¬ IsPastLimit first.now second.now entries.items) }
+    ensures past { IfErr result (λ fault. fault ≡ PlanFault.PastLimit → IsPastLimit first.now second.now entries.items) }
 {
-    // reasons and actions are told by the entries and the replicas
-    let _ = archive;
+    // the entries and the replicas tell the actions; with the archive they tell that paths are lawful
+    let _archive = archive.rows();
     if entries.len() > ENTRY_LIMIT {
         return Err(PlanFault::PastLimit);
     }
@@ -68,6 +75,8 @@ fn actions_of(
     requires ascending { AreOrdered entries.now }
     ensures built { IfOk result (λ actions. IsBuilt first.now second.now entries.now actions.items (length entries.now)) }
     ensures limit { IfOk result (λ actions. length actions.items ≤ action_limit) }
+    ensures count { IfOk result (λ actions. length actions.items ≡ planned_actions first.now second.now entries.now) }
+    ensures past { IfErr result (λ fault. fault ≡ PlanFault.PastLimit → action_limit < planned_actions first.now second.now entries.now) }
 {
     let mut actions = Vec::new(alloc);
     // the new directories above the path, the nearest one last
@@ -92,7 +101,7 @@ fn actions_of(
 }
 
 /// Puts the entry at the end of the directories, where it is a new one.
-fn keep<'a>(dirs: &mut Vec<NewDir<'a>>, entry: &'a Entry, mark: u32) -> Result<(), PlanFault>
+fn keep<'a>(dirs: &mut Vec<NewDir<'a>>, entry: &'a Entry, mark: u32) -> Result<(), AllocError>
     ensures { IfOk result (λ _. IsKept entry.now mark dirs.old.items dirs.new.items) }
 {
     if entry.reason == Reason::Dir {

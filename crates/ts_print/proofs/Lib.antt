@@ -1,3 +1,4 @@
+pub mod Assembling
 pub mod NextRows
 pub mod NoPrint
 pub mod PrintTexts

@@ -1,5 +1,5 @@
 -- The numbers that faults are reported by.
-use Rattle.std.specs.Prelude.{ℕ}
+use Rattle.std.specs.Prelude.{◌≡◌, ◌≢◌, ℕ, Result, Ok, Err}
 use Rattle.ts_table.specs.declared.fault.TableFault.{TableFault}
 use Rattle.ts_table.specs.declared.fault.TableFault.TheVariants as table
 use Rattle.ts_print.specs.declared.fault.PrintFault.{PrintFault}
@@ -22,3 +22,11 @@ Refuses reason OutOfMemory = Unit {0}
 Refuses reason TooLong = ⊥
 Refuses reason Failed = ⊥
 Refuses reason NotCanonical = reason
+
+-- a writer's fault: its sink's count of failures changes where the sink failed, and only there; else memory ran out
+abbrev pub FailuresFit : {A : Type 0} → ℕ → ℕ → Result A PrintFault → Type 0
+FailuresFit old new (Ok x) = new ≡ old
+FailuresFit old new (Err OutOfMemory) = new ≡ old
+FailuresFit old new (Err TooLong) = ⊥
+FailuresFit old new (Err Failed) = new ≢ old
+FailuresFit old new (Err NotCanonical) = ⊥

@@ -1,5 +1,7 @@
+pub mod Assemblies
 pub mod Decoding
 pub mod Faults
 pub mod Fields
+pub mod Parts
 pub mod Prints
 pub mod Readers

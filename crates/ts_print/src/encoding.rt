@@ -2,6 +2,7 @@
 ghost use Rattle.std.specs.Prelude.{◌≡◌, ◌∷◌, []};
 ghost use Rattle.ts_model.specs.Texts.{print_lines, print_row_lines, text};
 ghost use Rattle.ts_model.specs.declared.row.Content.TheVariants.{File};
+ghost use Rattle.ts_print.specs.Faults.{FailuresFit};
 ghost use Rattle.ts_text.specs.Sources.{Writes};
 
 use crate::fault::PrintFault;
@@ -14,9 +15,11 @@ use ts_text::field::{push_decimal, push_digest};
 use ts_text::write::write_line;
 use ts_tree::encoding::write_dir;
 
-/// Writes the text of the print. After a fault a beginning of it was written.
+/// Writes the text of the print. After a fault a beginning of it was written; `Failed` comes only where the sink failed, and
+/// want of memory only where it didn't.
 pub fn encode<W: Sink>(alloc: Global, print: &Print, sink: &mut W) -> Result<(), PrintFault>
     ensures written { Writes (W.holds sink.old) (W.holds sink.new) (text (print_lines print.now)) result }
+    ensures failures { FailuresFit (W.failures sink.old) (W.failures sink.new) result }
 {
     let mut line = Vec::new(alloc);
     for row in print.rows() {
@@ -32,6 +35,7 @@ pub fn write_row<W: Sink>(
     sink: &mut W,
 ) -> Result<(), PrintFault>
     ensures written { Writes (W.holds sink.old) (W.holds sink.new) (text (print_row_lines row.now.path row.now.content)) result }
+    ensures failures { FailuresFit (W.failures sink.old) (W.failures sink.new) result }
 {
     match &row.content {
         Content::Absent => Ok(()),
@@ -48,6 +52,7 @@ fn write_file<W: Sink>(
     sink: &mut W,
 ) -> Result<(), PrintFault>
     ensures written { Writes (W.holds sink.old) (W.holds sink.new) (text (print_row_lines path.now (File stamp.now))) result }
+    ensures failures { FailuresFit (W.failures sink.old) (W.failures sink.new) result }
 {
     line.clear();
     line.extend_from_slice(b"f ")?;

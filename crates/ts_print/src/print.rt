@@ -1,17 +1,19 @@
 ghost use Rattle.std.specs.List.{AllByRecursion};
-ghost use Rattle.std.specs.Prelude.{◌≡◌, ◌≢◌, ◌⊎◌, true, false, ◌++◌, ◌∷◌, ◌↔◌, [], IfErr, IfOk, IsErrOf, IsTrue, MatchResult, OnErr, OnOk, is_ok, if◌then◌else◌};
+ghost use Rattle.std.specs.Prelude.{◌≡◌, ◌≢◌, ◌⊎◌, true, false, ◌++◌, ◌∷◌, ◌↔◌, [], IfErr, IfOk, IsErrOf, IsTrue, MatchResult, OnErr, OnOk, is_ok, if◌then◌else◌, map};
 ghost use Rattle.ts_model.specs.Runs.{bare_directory, graft};
+ghost use Rattle.ts_model.specs.Texts.{IsPrintBody};
 ghost use Rattle.ts_model.specs.Trees.{IsListing, at, listed, print_of, sub};
 ghost use Rattle.ts_model.specs.declared.row.Content.{Content};
 ghost use Rattle.ts_model.specs.declared.row.Content.TheVariants.{Absent};
 ghost use Rattle.ts_model.specs.declared.row.Stamp.{Stamp};
-ghost use Rattle.ts_name.specs.Paths.{IsPath};
+ghost use Rattle.ts_name.specs.Paths.{IsBefore, IsPath};
 ghost use Rattle.ts_print.specs.Prints.{stamped_rows};
 ghost use Rattle.ts_table.specs.Splices.{ArePaths, ArePlaces, AreInOrder, grafted};
 ghost use Rattle.ts_table.specs.Tables.{IsPlace, placed, rows_below};
 
 use crate::fault::PrintFault;
-use crate::stamps::stamped;
+use crate::stamps::{content_fits, stamped, stamps_fit};
+use crate::walk::Walk;
 use std::alloc::Global;
 use std::marker::Model;
 use ts_model::items::Items;
@@ -36,7 +38,11 @@ impl Model for Print {
 
     ghost Value = { List (Row Stamp) };
 
+    ghost use Rattle.ts_model.specs.Texts.{IsPrintBody};
+
     ghost view = { λ p. p.table };
+
+    ghost invariant = { λ p. IsPrintBody p.table };
 }
 
 impl Print {
@@ -49,12 +55,28 @@ impl Print {
         }
     }
 
+    /// The print of a table. It takes no memory.
+    pub fn from_table(table: Table<Stamp>) -> Self
+        ensures { result ≡ table }
+    {
+        stamps_fit(table.rows());
+        Print { table }
+    }
+
     /// What is at each path but the root, in path order. It takes no memory.
     pub fn rows(&self) -> &[Row<Stamp>]
         ensures rows { result.now ≡ self.now }
         ensures listing { IsListing self.now }
+        ensures lawful { IsPrintBody self.now }
     {
         self.table.rows()
+    }
+
+    /// All paths at which something is, in path order. The root, which is always there, is left out. It takes no memory.
+    pub fn walk(&self) -> Walk<'_>
+        ensures { result ≡ map (λ row. row.path) self.entry.now }
+    {
+        Walk { rows: self.rows() }
     }
 
     /// What is at a path. It takes no memory.
@@ -81,20 +103,40 @@ impl Print {
         ensures rows { self.new ≡ (if is_ok result then self.old ++ row ∷ [] else self.old) }
         ensures fault { IfErr result (λ e. e ≡ PrintFault.OutOfMemory) }
     {
+        content_fits(&row.content);
         self.table.push(row)?;
         Ok(())
     }
 
-    /// Whether a row at this path, with a directory or a file, may come next.
-    pub fn can_push(&self, alloc: Global, path: &Path) -> Result<bool, PrintFault>
-        ensures yes { result ≡ Ok true → (x : Content Stamp) → x ≢ Absent → IsListing (self.now ++ record { path = path.now; content = x } ∷ []) }
-        ensures no { result ≡ Ok false → (x : Content Stamp) → ¬ IsListing (self.now ++ record { path = path.now; content = x } ∷ []) }
+    /// Puts a directory or a file after all that are there. A refusal changes nothing.
+    pub fn add(&mut self, path: Path, seen: Seen) -> Result<(), PrintFault>
+        requires present { seen ≢ Absent }
+        requires after { AllByRecursion (λ row. IsBefore row.path path) self.old }
+        requires place { IsPlace (at self.old) path }
+        ensures rows { self.new ≡ (if is_ok result then self.old ++ record { path = path; content = seen } ∷ [] else self.old) }
         ensures fault { IfErr result (λ e. e ≡ PrintFault.OutOfMemory) }
     {
-        match self.table.can_push(alloc, path) {
-            Ok(answer) => Ok(answer),
-            Err(_) => Err(PrintFault::OutOfMemory),
-        }
+        let _rows = self.rows();
+        let _depth = path.depth();
+        self.push(Row {
+            path,
+            content: seen,
+        })
+    }
+
+    /// Whether something may stand at a path: it is not the root, and its parent is a directory. It takes no memory.
+    pub fn is_place(&self, path: &Path) -> bool
+        ensures { IsTrue result ↔ IsPlace (at self.now) path.now }
+    {
+        self.table.is_place(path)
+    }
+
+    /// Whether a row at this path, with a directory or a file, may come next. It takes no memory.
+    pub fn can_push(&self, path: &Path) -> bool
+        ensures yes { IsTrue result → (x : Content Stamp) → x ≢ Absent → IsListing (self.now ++ record { path = path.now; content = x } ∷ []) }
+        ensures no { result ≡ false → (x : Content Stamp) → ¬ IsListing (self.now ++ record { path = path.now; content = x } ∷ []) }
+    {
+        self.table.may_push(path)
     }
 
     /// Whether both prints have the same at a path and below it. It takes no memory.
@@ -108,7 +150,7 @@ impl Print {
         ensures { MatchResult result (λ print. print ≡ self.now) (λ e. e ≡ PrintFault.OutOfMemory) }
     {
         let table = self.table.copy(alloc)?;
-        Ok(Print { table })
+        Ok(Print::from_table(table))
     }
 
     /// What is at a path and below it, by paths relative to it.
@@ -138,6 +180,7 @@ impl Print {
         ensures err { OnErr result (self.new ≡ self.old) }
     {
         self.table.replace(alloc, path, part)?;
+        stamps_fit(self.table.rows());
         Ok(())
     }
 
@@ -149,6 +192,7 @@ impl Print {
         ensures err { OnErr result (self.new ≡ self.old) }
     {
         self.table.make_dir(alloc, path)?;
+        stamps_fit(self.table.rows());
         Ok(())
     }
 
@@ -166,6 +210,7 @@ impl Print {
         ensures err { OnErr result (self.new ≡ self.old) }
     {
         self.table.splice(alloc, edits)?;
+        stamps_fit(self.table.rows());
         Ok(())
     }
 
@@ -183,9 +228,7 @@ impl Print {
             let content = stamped(&row.content);
             made.push(Row { path, content })?;
         }
-        Ok(Print {
-            table: Table::from_rows(made),
-        })
+        Ok(Print::from_table(Table::from_rows(made)))
     }
 
     /// The print of a tree: its directories, and a stamp for each file.

@@ -55,7 +55,7 @@ impl PrintReader {
     {
         let PrintReader { mut print } = self;
         let row = row_of(alloc, line)?;
-        if !print.can_push(alloc, &row.path)? {
+        if !print.can_push(&row.path) {
             return Err(PrintFault::NotCanonical);
         }
         print.push(row)?;

@@ -15,27 +15,15 @@ use Rattle.ts_model.specs.declared.plan.Reason.{Reason}
 use Rattle.ts_model.specs.declared.plan.Reason.TheVariants as reason
 use Rattle.ts_dirty.specs.Walks.{Left, IsStep, IsWalkStep}
 use Rattle.ts_dirty.proofs.Rows.{IsRest, rest_all, rest_step, rest_between, rest_here, rest_forward}
-use Rattle.ts_dirty.proofs.Order.{before_itself, before_trans, before_cases, decide_before, upto_before, not_after, above_between, above_before, last_name}
+use Rattle.ts_name.proofs.Order.{before_itself, before_trans, before_cases, decide_before, before_turned, before_below}
+use Rattle.ts_name.proofs.Prefixes.{above_trans, last_name, push_not_empty, same_parent}
+use Rattle.ts_dirty.proofs.Order.{upto_before, above_between}
 use Rattle.ts_dirty.proofs.Dirt.{same_content}
+use Rattle.ts_dirty.proofs.Upto.{push_pairs, upto_later, stands, upto, inside, same}
 use Rattle.ts_recon.specs.Reasons.{AreReasons, IsReasonOf, IsSeen, with_reason}
 use Rattle.ts_recon.proofs.Why.{one_because}
 
 -- ---- paths
-
-append_same : (p x y : Path) → p ++ x ≡ p ++ y → x ≡ y
-append_same [] x y e = e
-append_same (n ∷ p) x y e = append_same p x y cc
-
-snoc_not_empty : (p : Path) (name : Name) → p ++ name ∷ [] ≢ []
-snoc_not_empty [] name e = cc
-snoc_not_empty (n ∷ p) name e = cc
-
--- one path has one parent
-same_parent : (p q : Path) (m n : Name) → p ++ m ∷ [] ≡ q ++ n ∷ [] → p ≡ q
-same_parent [] [] m n e = refl
-same_parent [] (y ∷ q) m n e = absurd (snoc_not_empty q n (let f : q ++ n ∷ [] ≡ [] = cc in f))
-same_parent (x ∷ p) [] m n e = absurd (snoc_not_empty p m (let f : p ++ m ∷ [] ≡ [] = cc in f))
-same_parent (x ∷ p) (y ∷ q) m n e = let f = same_parent p q m n cc in cc
 
 -- what is above a path is it or above its parent
 above_child : (q parent : Path) (name : Name) → IsAbove q (parent ++ name ∷ []) → (q ≡ parent ++ name ∷ []) ⊎ IsAbove q parent
@@ -79,40 +67,9 @@ pub record IsGathered (s : Snapshot) (b : Path) (entries : List Entry) : Type 0 
   pub each : (e : Entry) → Contains entries e → HasReason s e.path e.reason × (¬ IsBefore b e.path)
   pub all : (p : Path) (r : Reason) → HasReason s p r → ¬ IsBefore b p → Contains entries (record { path = p; reason = r })
 
-push_get : (es : List Entry) (e d : Entry) (i : ℕ) → i < length (es ++ e ∷ []) → ((i < length es) × (get_or (es ++ e ∷ []) i d ≡ get_or es i d)) ⊎ ((i ≡ length es) × (get_or (es ++ e ∷ []) i d ≡ e))
-push_get es e d i l = elim (cases_lt i (length es)) [
-  | inl less ↦ inl (less, get_or_append_left es (e ∷ []) d i less)
-  | inr more ↦ let same : i ≡ length es = omega (arith, length-append es (e ∷ [])) in inr (same, get_or_push es e d i (sym same))
-]
-
 ascending_more : (es : List Entry) (e : Entry) → ((i j : ℕ) (d : Entry) → i < j → j < length es → IsBefore (get_or es i d).path (get_or es j d).path) → ((x : Entry) → Contains es x → IsBefore x.path e.path)
     → (i j : ℕ) (d : Entry) → i < j → j < length (es ++ e ∷ []) → IsBefore (get_or (es ++ e ∷ []) i d).path (get_or (es ++ e ∷ []) j d).path
-ascending_more es e old earlier i j d less l = go (push_get es e d j l)
-  where
-    go : ((j < length es) × (get_or (es ++ e ∷ []) j d ≡ get_or es j d)) ⊎ ((j ≡ length es) × (get_or (es ++ e ∷ []) j d ≡ e)) → IsBefore (get_or (es ++ e ∷ []) i d).path (get_or (es ++ e ∷ []) j d).path
-    go (inl h) =
-        let in' : i < length es = omega (arith, h.0) in
-        subst (λ (x : Entry). IsBefore x.path (get_or (es ++ e ∷ []) j d).path) (sym (get_or_append_left es (e ∷ []) d i in')) (subst (λ (y : Entry). IsBefore (get_or es i d).path y.path) (sym h.1) (old i j d less h.0))
-    go (inr h) =
-        let in' : i < length es = omega (arith, h.0) in
-        subst (λ (x : Entry). IsBefore x.path (get_or (es ++ e ∷ []) j d).path) (sym (get_or_append_left es (e ∷ []) d i in')) (subst (λ (y : Entry). IsBefore (get_or es i d).path y.path) (sym h.1) (earlier (get_or es i d) (Contains-get_or es i d in')))
-
-upto_later : (b p q : Path) → IsBefore b p → ¬ IsBefore b q → ¬ IsBefore p q
-upto_later b p q less n more = n (before_trans b p q less more)
-
-data Stands (b p q : Path) : Type 0 where
-  upto : ¬ IsBefore b q → Stands b p q
-  inside : IsBefore b q → IsBefore q p → Stands b p q
-  same : q ≡ p → Stands b p q
-
-stands : (b p q : Path) → ¬ IsBefore p q → Stands b p q
-stands b p q n = elim (decide_before b q) [
-  | no m ↦ upto m
-  | yes less ↦ elim (before_cases q p) [
-    | inl before ↦ inside less before
-    | inr more ↦ elim more [ inl e ↦ same e | inr after ↦ absurd (n after) ]
-  ]
-]
+ascending_more es e old earlier = push_pairs (λ (x y : Entry). IsBefore x.path y.path) es e old (λ i d l. earlier (get_or es i d) (Contains-get_or es i d l))
 
 -- one more path, with what was found of it
 pub gathered_step : (s : Snapshot) (b p : Path) (entries : List Entry) (found : Option Reason) → ((x y : Reason) → HasReason s p x → HasReason s p y → x ≡ y) → IsGathered s b entries → IsBefore b p
@@ -155,7 +112,7 @@ module _ (A F S : Listing Stamp) (rules : List Rule) (lists_a : IsListing A) (li
   s = listed_snapshot A F S rules
 
   -- what is nowhere has no reason
-  no_reason : (p : Path) → at A p ≡ Absent → at F p ≡ Absent → at S p ≡ Absent → (r : Reason) → ¬ HasReason s p r
+  pub no_reason : (p : Path) → at A p ≡ Absent → at F p ≡ Absent → at S p ≡ Absent → (r : Reason) → ¬ HasReason s p r
   no_reason p a f e r has = why r has.1
     where
       agree : (t u : Path → Content Stamp) → ((rest : Path) → t (p ++ rest) ≡ Absent) → ((rest : Path) → u (p ++ rest) ≡ Absent) → sub t p ≡ sub u p
@@ -248,12 +205,9 @@ module _ (A F S : Listing Stamp) (rules : List Rule) (lists_a : IsListing A) (li
           false_true : false ≢ true
           false_true g = cc
       go false is (inr up) =
-          let old = h.leads q (trans up h.parent_above) in
+          let old = h.leads q (above_trans q h.parent b up h.parent_above) in
           let l : length q ≤ length h.parent = above_length q h.parent up in
           (λ dirs. let le : length q ≤ shared = old.0 dirs in omega (arith, n), λ le. old.1 (let le' : length q ≤ shared = omega arith in le'))
-        where
-          trans : IsAbove q h.parent → IsAbove h.parent b → IsAbove q b
-          trans x y = (x.0 ++ y.0, y.1 ∙ ap (λ (z : Path). z ++ y.0) x.1 ∙ append_assoc q x.0 y.0)
 
   -- a walk's step goes on from what was gathered
   pub at_step : (old new : Left) (shared : ℕ) (entries : List Entry) (p : Path) (ca cf cs : Content Stamp) (w : IsReasoned A F S rules old shared entries) → IsWalkStep p ca cf cs old new → AtStep w.b p shared ca cf cs
@@ -294,7 +248,7 @@ module _ (A F S : Listing Stamp) (rules : List Rule) (lists_a : IsListing A) (li
       ]
 
       child_before : IsBefore named.0 p
-      child_before = subst (λ (z : Path). IsBefore named.0 z) (sym named.2) (above_before named.0 named.1 [])
+      child_before = subst (λ (z : Path). IsBefore named.0 z) (sym named.2) (before_below named.0 named.1 [])
 
       -- in the tree where p is, the parent is a directory, so no step leaves it out
       not_between : (rows : Listing Stamp) → IsListing rows → (c : Content Stamp) → at rows p ≡ c → c ≢ Absent → (IsBefore w.b named.0 → at rows named.0 ≡ Absent) → ¬ IsBefore w.b named.0
@@ -311,7 +265,7 @@ module _ (A F S : Listing Stamp) (rules : List Rule) (lists_a : IsListing A) (li
       ]
 
       parent_above : IsAbove named.0 w.b
-      parent_above = above_between named.0 w.b p (named.1 ∷ [], named.2) none_between (not_after w.b p less)
+      parent_above = above_between named.0 w.b p (named.1 ∷ [], named.2) none_between (before_turned w.b p less)
 
   -- what the step sees
   pub step_seen : (b p : Path) (shared : ℕ) (ca cf cs : Content Stamp) → AtStep b p shared ca cf cs → IsSeen s p ca cf cs
@@ -355,7 +309,7 @@ module _ (A F S : Listing Stamp) (rules : List Rule) (lists_a : IsListing A) (li
           empty rest g = cc
 
       no_root : (q : Path) (r : Reason) → HasReason s q r → ¬ IsBefore [] q → ⊥
-      no_root [] r has n = snoc_not_empty has.0.0 has.0.1 (sym has.0.2)
+      no_root [] r has n = push_not_empty has.0.0 has.0.1 (sym has.0.2)
       no_root (x ∷ q) r has n = n refl
 
       begin : IsReasoned A F S rules (record { archive = A; first = F; second = S }) 0 []

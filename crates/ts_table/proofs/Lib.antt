@@ -2,11 +2,17 @@ pub mod Cuts
 pub mod Drained
 pub mod Exits
 pub mod Found
+pub mod Joining
 pub mod Last
 pub mod Listings
+pub mod Looked
 pub mod Paths
+pub mod Places
 pub mod Placing
+pub mod Putting
 pub mod Relative
 pub mod Rows
+pub mod Separate
 pub mod Splicing
+pub mod Taking
 pub mod Uses

@@ -49,17 +49,35 @@ pub(crate) fn copy_content<F: CopyFile>(
     })
 }
 
+/// The same rows once more.
+fn copy_rows<F: CopyFile + Drop>(alloc: Global, rows: &[Row<F>]) -> Result<Vec<Row<F>>, TableFault>
+    ensures { MatchResult result (λ copy. copy.items ≡ rows.now) (λ e. e ≡ TableFault.OutOfMemory) }
+{
+    let mut copies = Vec::new(alloc);
+    for row in rows {
+        let path = row.path.copy(alloc)?;
+        let content = copy_content(alloc, &row.content)?;
+        copies.push(Row { path, content })?;
+    }
+    Ok(copies)
+}
+
+impl<F: CopyFile + Drop> SubTable<F> {
+    /// The same part once more.
+    pub fn copy(&self, alloc: Global) -> Result<SubTable<F>, TableFault>
+        ensures { MatchResult result (λ part. part ≡ self.now) (λ e. e ≡ TableFault.OutOfMemory) }
+    {
+        let rows = copy_rows(alloc, self.rows())?;
+        Ok(SubTable { rows })
+    }
+}
+
 impl<F: CopyFile + Drop> Table<F> {
     /// The same table once more.
     pub fn copy(&self, alloc: Global) -> Result<Table<F>, TableFault>
         ensures { MatchResult result (λ table. table ≡ self.now) (λ e. e ≡ TableFault.OutOfMemory) }
     {
-        let mut rows = Vec::new(alloc);
-        for row in self.rows() {
-            let path = row.path.copy(alloc)?;
-            let content = copy_content(alloc, &row.content)?;
-            rows.push(Row { path, content })?;
-        }
+        let rows = copy_rows(alloc, self.rows())?;
         Ok(Table { rows })
     }
 

@@ -4,12 +4,15 @@
 mod copies;
 mod edits;
 mod fault;
+mod frame;
+mod join;
 mod splice;
 mod subtable;
 mod table;
 
 pub use copies::CopyFile;
 pub use fault::TableFault;
+pub use frame::Frame;
 pub use splice::Edit;
 pub use subtable::SubTable;
 pub use table::Table;

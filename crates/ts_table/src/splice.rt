@@ -23,9 +23,9 @@ pub struct Edit<F> {
 
 /// The rows that are put in the place of a path and what is below it.
 #[derive(Drop)]
-struct Put<F> {
-    path: Path,
-    rows: Items<Row<F>>,
+pub(crate) struct Put<F> {
+    pub(crate) path: Path,
+    pub(crate) rows: Items<Row<F>>,
 }
 
 impl<F: Drop> Table<F> {
@@ -61,7 +61,11 @@ impl<F: Drop> Table<F> {
 }
 
 /// The rows with those of each put at its path, gathered in `out`, which has room for all.
-fn merged<F: Drop>(rows: Vec<Row<F>>, puts: Vec<Put<F>>, mut out: Vec<Row<F>>) -> Vec<Row<F>>
+pub(crate) fn merged<F: Drop>(
+    rows: Vec<Row<F>>,
+    puts: Vec<Put<F>>,
+    mut out: Vec<Row<F>>,
+) -> Vec<Row<F>>
     requires { vec_len out + length rows.items + sum_by (λ put. length put.rows) puts.items ≤ vec_capacity out }
     ensures { result.items ≡ out.items ++ spliced rows.items puts.items }
 {
@@ -83,7 +87,7 @@ fn merged<F: Drop>(rows: Vec<Row<F>>, puts: Vec<Put<F>>, mut out: Vec<Row<F>>) -
 }
 
 /// Moves the rows before a path to the end of `out`, which has room for them.
-fn move_before<F: Drop>(rest: &mut VecDeque<Row<F>>, out: &mut Vec<Row<F>>, path: &Path)
+pub(crate) fn move_before<F: Drop>(rest: &mut VecDeque<Row<F>>, out: &mut Vec<Row<F>>, path: &Path)
     requires { vec_len out.old + deque_len rest.old ≤ vec_capacity out.old }
     ensures moved { out.new.items ≡ out.old.items ++ lead (comes_before path.now) rest.old.items }
     ensures left { rest.new.items ≡ trail (comes_before path.now) rest.old.items }

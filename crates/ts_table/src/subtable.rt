@@ -4,9 +4,10 @@ ghost use Rattle.std.specs.List.{AllByRecursion};
 ghost use Rattle.ts_name.specs.Paths.{IsPath};
 ghost use Rattle.ts_model.specs.Trees.{IsSubListing, listed};
 ghost use Rattle.ts_model.specs.Runs.{bare_directory};
-ghost use Rattle.ts_table.specs.Tables.{placed};
+ghost use Rattle.ts_table.specs.Tables.{placed, seen};
 
 use crate::fault::TableFault;
+use crate::table::content_of;
 use std::alloc::Global;
 use std::marker::Model;
 use ts_model::row::{Content, Row};
@@ -64,6 +65,16 @@ impl<F> SubTable<F> {
     {
         self.rows.as_slice()
     }
+
+    /// What is at a relative path; at the root what is at the part's own path. It takes no memory.
+    pub fn get(&self, path: &Path) -> Content<&F>
+        ensures { seen result ≡ listed self.now path.now }
+    {
+        match self.rows.binary_search_by(|row| row.path.cmp(path)) {
+            Ok(index) => content_of(&self.rows[index]),
+            Err(_) => Content::Absent,
+        }
+    }
 }
 
 impl<F: Drop> SubTable<F> {
@@ -115,7 +126,7 @@ impl<F: Drop> SubTable<F> {
 }
 
 /// A path that goes on from another.
-fn joined(alloc: Global, top: &Path, rest: &Path) -> Result<Path, TableFault>
+pub(crate) fn joined(alloc: Global, top: &Path, rest: &Path) -> Result<Path, TableFault>
     ensures ok { IfOk result (λ p. (p ≡ top.now ++ rest.now) × IsPath p) }
     ensures too_long { IsErrOf result TableFault.TooLong → ¬ IsPath (top.now ++ rest.now) }
 {

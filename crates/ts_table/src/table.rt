@@ -1,7 +1,7 @@
 //! A table of paths.
 ghost use Rattle.std.specs.Prelude.{◌≡◌, ◌↔◌, ◌++◌, ◌∷◌, [], if◌then◌else◌, is_ok, false, IfErr, IfOk, ◌≢◌, IsTrue, length, take, drop, ◌-◌, ◌≤◌};
 ghost use Rattle.std.specs.List.{AllByRecursion};
-ghost use Rattle.ts_name.specs.Paths.{IsBefore};
+ghost use Rattle.ts_name.specs.Paths.{IsBefore, Name};
 ghost use Rattle.ts_model.specs.declared.row.Content.{Content};
 ghost use Rattle.ts_model.specs.Trees.{Ascend, IsListing, at, sub};
 ghost use Rattle.ts_table.specs.Tables.{rows_below, seen, IsCut, IsPlace};
@@ -111,33 +111,22 @@ impl<F> Table<F> {
         same_rows(self.sub(path), other.sub(path))
     }
 
-    /// Whether something may stand at a path: it is not the root, and its parent is a directory.
-    pub fn is_place(&self, alloc: Global, path: &Path) -> Result<bool, TableFault>
-        ensures ok { IfOk result (λ may. IsTrue may ↔ IsPlace (at self.now) path.now) }
-        ensures fault { IfErr result (λ e. e ≡ TableFault.OutOfMemory) }
+    /// Whether something may stand at a path: it is not the root, and its parent is a directory. It takes no memory.
+    pub fn is_place(&self, path: &Path) -> bool
+        ensures { IsTrue result ↔ IsPlace (at self.now) path.now }
     {
-        let Some(parent) = path.parent(alloc)? else {
-            return Ok(false);
-        };
-        match self.get(&parent) {
-            Content::Dir => Ok(true),
-            Content::Absent | Content::File(_) => Ok(false),
-        }
+        let start = self.rows.partition_point(|row| row.path < *path);
+        is_place_after(&self.rows[..start], path)
     }
 
     /// Whether a row of this path, with a directory or a file, may come next: the path comes after all others, and
-    /// something may stand there.
-    pub fn can_push(&self, alloc: Global, path: &Path) -> Result<bool, TableFault>
-        ensures yes { IfOk result (λ may. IsTrue may → (content : Content F) → content ≢ Content.Absent → IsListing (self.now ++ record { path = path.now; content = content } ∷ [])) }
-        ensures no { IfOk result (λ may. may ≡ false → (content : Content F) → ¬ IsListing (self.now ++ record { path = path.now; content = content } ∷ [])) }
-        ensures fault { IfErr result (λ e. e ≡ TableFault.OutOfMemory) }
+    /// something may stand there. It takes no memory.
+    pub fn may_push(&self, path: &Path) -> bool
+        ensures yes { IsTrue result → (content : Content F) → content ≢ Content.Absent → IsListing (self.now ++ record { path = path.now; content = content } ∷ []) }
+        ensures no { result ≡ false → (content : Content F) → ¬ IsListing (self.now ++ record { path = path.now; content = content } ∷ []) }
     {
         prove!(path.depth() <= 64);
-        if is_after(path, self.rows()) {
-            self.is_place(alloc, path)
-        } else {
-            Ok(false)
-        }
+        is_after(path, self.rows()) && is_place_after(self.rows(), path)
     }
 
     /// Puts a row at the end. After an error nothing has changed, and the row is dropped.
@@ -154,7 +143,7 @@ impl<F> Table<F> {
 }
 
 /// What a row says, behind a reference.
-fn content_of<F>(row: &Row<F>) -> Content<&F>
+pub(crate) fn content_of<F>(row: &Row<F>) -> Content<&F>
     ensures { seen result ≡ row.now.content }
 {
     match &row.content {
@@ -185,6 +174,32 @@ fn is_after<F>(path: &Path, rows: &[Row<F>]) -> bool
     match rows.last() {
         Some(row) => row.path < *path,
         None => true,
+    }
+}
+
+/// Whether something may stand at a path that comes after all these rows. The last of them is at or below the path's
+/// parent, if any row is.
+fn is_place_after<F>(rows: &[Row<F>], path: &Path) -> bool
+    requires listing { IsListing rows.now }
+    requires after { AllByRecursion (λ row. IsBefore row.path path.now) rows.now }
+    ensures { IsTrue result ↔ IsPlace (at rows.now) path.now }
+{
+    if path.depth() <= 1 {
+        return !path.is_root();
+    }
+    match rows.last() {
+        Some(row) => path.has_parent_above(&row.path) && may_be_above(row, path),
+        None => false,
+    }
+}
+
+/// Whether a row is a directory, or not the path's parent.
+fn may_be_above<F>(row: &Row<F>, path: &Path) -> bool
+    ensures { IsTrue result ↔ ((name : Name) → path.now ≡ row.now.path ++ name ∷ [] → row.now.content ≡ Content.Dir) }
+{
+    match row.content {
+        Content::Dir => true,
+        Content::Absent | Content::File(_) => !row.path.is_parent_of(path),
     }
 }
 

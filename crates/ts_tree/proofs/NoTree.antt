@@ -46,3 +46,11 @@ no_tree_ended old now next fed e taken ends none =
     subst (λ z. FindsNoTree old next z) (sym none.0)
     (known_weaker old.left (λ bytes. bytes ≡ text fed) (λ bytes. (rows : Listing (List ℕ)) → ¬ IsTreeText bytes rows)
     (λ bytes all rows is. none.1 rows is.tree (one_text (tree_lines rows) fed (lines_of rows is.tree) taken.lines (sym is.spelled ∙ all))) (taken_all old now next fed taken ends))
+
+-- ---- the source's count of failures
+
+-- it stays, where a reader's fault isn't its source's
+pub unfailed_read : (old now next : Reading) (fed : List Line) (e : TextFault) → Taken old now fed → Answers now (Err e) next → fault_of_text e ≢ fault.Failed → next.failures ≡ old.failures
+unfailed_read old now next fed text_fault.OutOfMemory taken answers other = absurd answers
+unfailed_read old now next fed text_fault.Failed taken answers other = absurd (other refl)
+unfailed_read old now next fed text_fault.NotCanonical taken answers other = answers.failures ∙ taken.failures

@@ -1,6 +1,6 @@
 -- Parts of trees, and trees with parts put in place: their files fit, and their paths are paths.
-use Rattle.std.proofs.Common.{◌≡◌, ◌≢◌, ℕ, Bool, true, false, cond, List, [], ◌∷◌, ◌++◌, Option, Some, None, refl, sym, ap, ◌∙◌, subst}
-use Rattle.std.specs.List.{AllByRecursion}
+use Rattle.std.proofs.Common.{◌≡◌, ◌≢◌, ℕ, suc, length, Bool, true, false, cond, List, [], ◌∷◌, ◌++◌, Option, Some, None, refl, sym, ap, ◌∙◌, subst}
+use Rattle.std.specs.List.{AllByRecursion, list_any}
 use Rattle.ts_name.specs.Paths.{Name, Path, IsPath, IsBefore, below, same_path}
 use Rattle.ts_model.specs.Trees.{Listing, Ascend, IsListing, IsSubListing, at, listed, sub}
 use Rattle.ts_model.specs.Texts.{FileFits, IsTreeBody}
@@ -9,13 +9,14 @@ use Rattle.ts_model.specs.declared.row.Content.{Content}
 use Rattle.ts_model.specs.declared.row.Content.TheVariants.{Absent, Dir, File}
 use Rattle.ts_model.specs.declared.row.Row.{Row}
 use Rattle.ts_table.specs.Splices.{grafted}
-use Rattle.ts_table.specs.Tables.{placed}
+use Rattle.ts_table.specs.Splits.{ArePartsAt, edits_of, without}
+use Rattle.ts_table.specs.Tables.{is_above, placed}
 use Rattle.ts_table.specs.declared.splice.Edit.{Edit}
 use Rattle.ts_table.proofs.Cuts.{IsPath-root}
 use Rattle.ts_table.proofs.Listings.{root_not_listed}
 use Rattle.ts_table.proofs.Paths.{before_itself}
 use Rattle.ts_table.proofs.Rows.{weaker, all_both, all_map, ascend_first, ascend_rest, listed_after, listed_here, listed_holds, at_each}
-use Rattle.ts_tree.specs.Trees.{EditFits}
+use Rattle.ts_tree.specs.Trees.{EditFits, FilesFit}
 
 -- ---- rows and what they list
 
@@ -94,3 +95,45 @@ grafted_fits (edit ∷ edits) t h k p =
 pub spliced_body : (old rows : Listing (List ℕ)) (edits : List (Edit (List ℕ))) → IsTreeBody old → IsListing rows → AllByRecursion EditFits edits → at rows ≡ grafted (at old) edits → IsTreeBody rows
 spliced_body old rows edits body lists fits same =
     tree_body rows lists (λ p. subst FileFits (sym (at_each same p)) (grafted_fits edits (at old) fits (fits_at old body.files) p))
+
+-- ---- a tree that is split, and parts put into it
+
+-- the files of the parts fit
+pub parts_fit : (rows : Listing (List ℕ)) (paths : List Path) (parts : List (Listing (List ℕ))) → IsTreeBody rows → ArePartsAt (at rows) paths parts → AllByRecursion FilesFit parts
+parts_fit rows [] [] body are = tt
+parts_fit rows [] (part ∷ parts) body are = absurd are
+parts_fit rows (p ∷ paths) [] body are = absurd are
+parts_fit rows (p ∷ paths) (part ∷ parts) body are = (part_fits rows part p body are.0 are.1, parts_fit rows paths parts body are.2)
+
+-- and so do those that are left
+pub left_fit : (rows new : Listing (List ℕ)) (paths : List Path) → IsTreeBody rows → IsListing new → at new ≡ without (at rows) paths → FilesFit new
+left_fit rows new paths body lists same =
+    let made = tree_body new lists (λ p. subst FileFits (sym (at_each same p)) (choice (list_any (λ q. is_above q p) paths) (at rows p) (fits_at rows body.files p))) in
+    made.files
+  where
+    choice : (b : Bool) (x : Content (List ℕ)) → FileFits x → FileFits (cond b Absent x)
+    choice true x h = tt
+    choice false x h = h
+
+-- edits fit, where their parts do
+edits_fit : (paths : List Path) (parts : List (Listing (List ℕ))) → AllByRecursion FilesFit parts → AllByRecursion EditFits (edits_of paths parts)
+edits_fit [] parts h = tt
+edits_fit (p ∷ paths) [] h = tt
+edits_fit (p ∷ paths) (part ∷ parts) h = (h.0, edits_fit paths parts h.1)
+
+-- the files of a tree that is put together fit, where those of its frame and its parts do
+pub joined_fit : (old new : Listing (List ℕ)) (paths : List Path) (parts : List (Listing (List ℕ))) → FilesFit old → AllByRecursion FilesFit parts → IsListing new → at new ≡ grafted (at old) (edits_of paths parts) → FilesFit new
+joined_fit old new paths parts fits of_parts lists same =
+    let made = tree_body new lists (λ p. subst FileFits (sym (at_each same p)) (grafted_fits (edits_of paths parts) (at old) (edits_fit paths parts of_parts) (fits_at old fits) p)) in
+    made.files
+
+-- a tree with one part put in place
+pub replaced_body : (old rows part : Listing (List ℕ)) (p : Path) → IsTreeBody old → IsListing rows → FilesFit part → at rows ≡ graft (at old) p (listed part) → IsTreeBody rows
+replaced_body old rows part p body lists fits same = spliced_body old rows (record { path = p; part = part } ∷ []) body lists (fits, tt) same
+
+-- there are as many parts as paths
+pub parts_count : {F : Type 0} (t : Path → Content F) (paths : List Path) (parts : List (Listing F)) → ArePartsAt t paths parts → length parts ≡ length paths
+parts_count t [] [] are = refl
+parts_count t [] (part ∷ parts) are = absurd are
+parts_count t (p ∷ paths) [] are = absurd are
+parts_count t (p ∷ paths) (part ∷ parts) are = ap suc (parts_count t paths parts are.2)

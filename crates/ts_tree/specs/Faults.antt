@@ -1,5 +1,5 @@
 -- The faults of trees.
-use Rattle.std.specs.Prelude.{ℕ}
+use Rattle.std.specs.Prelude.{◌≡◌, ◌≢◌, ℕ, Result, Ok, Err}
 use Rattle.ts_table.specs.declared.fault.TableFault.{TableFault}
 use Rattle.ts_table.specs.declared.fault.TableFault.TheVariants as table
 use Rattle.ts_tree.specs.declared.fault.TreeFault.{TreeFault}
@@ -23,3 +23,11 @@ Refuses reason fault.OutOfMemory = Unit {0}
 Refuses reason fault.TooLong = ⊥
 Refuses reason fault.Failed = ⊥
 Refuses reason fault.NotCanonical = reason
+
+-- a writer's fault: its sink's count of failures changes where the sink failed, and only there; else memory ran out
+abbrev pub FailuresFit : {A : Type 0} → ℕ → ℕ → Result A TreeFault → Type 0
+FailuresFit old new (Ok x) = new ≡ old
+FailuresFit old new (Err fault.OutOfMemory) = new ≡ old
+FailuresFit old new (Err fault.TooLong) = ⊥
+FailuresFit old new (Err fault.Failed) = new ≢ old
+FailuresFit old new (Err fault.NotCanonical) = ⊥

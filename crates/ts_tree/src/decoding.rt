@@ -1,5 +1,5 @@
 //! Reading a tree from a text.
-ghost use Rattle.std.specs.Prelude.{IfOk, IfErr};
+ghost use Rattle.std.specs.Prelude.{◌≡◌, IfOk, IfErr, IsErrOf};
 ghost use Rattle.ts_tree.specs.Decoding.{DecodesTree, FindsNoTree};
 
 use crate::fault::TreeFault;
@@ -14,6 +14,7 @@ use ts_text::{Lines, Source};
 pub fn decode<S: Source>(alloc: Global, lines: &mut Lines<S>) -> Result<Tree, TreeFault>
     ensures found { IfOk result (DecodesTree lines.old) }
     ensures refused { IfErr result (FindsNoTree lines.old lines.new) }
+    ensures unfailed { ¬ IsErrOf result TreeFault.Failed → lines.new.failures ≡ lines.old.failures }
 {
     let mut reader = TreeReader::new(alloc);
     for _ in 0..u64::MAX {

@@ -3,6 +3,7 @@ ghost use Rattle.std.specs.Prelude.{◌+◌, ◌/◌, ◌∷◌, ◌≤◌, [], 
 ghost use Rattle.ts_model.specs.Texts.{text, tree_lines, tree_row_lines, data_lines};
 ghost use Rattle.ts_model.specs.declared.row.Content.TheVariants.{File};
 ghost use Rattle.ts_text.specs.Sources.{Writes};
+ghost use Rattle.ts_tree.specs.Faults.{FailuresFit};
 ghost use Rattle.ts_tree.specs.Fields.{data_line, dir_line, file_line};
 
 use crate::data::{LINE_BYTES, push_hex};
@@ -19,6 +20,7 @@ use ts_text::write::write_line;
 /// Writes the text of the tree. After a fault a beginning of it was written.
 pub fn encode<W: Sink>(alloc: Global, tree: &Tree, sink: &mut W) -> Result<(), TreeFault>
     ensures written { Writes (W.holds sink.old) (W.holds sink.new) (text (tree_lines tree.now)) result }
+    ensures failures { FailuresFit (W.failures sink.old) (W.failures sink.new) result }
 {
     let mut line = Vec::new(alloc);
     for row in tree.rows() {
@@ -34,6 +36,7 @@ pub fn write_row<W: Sink>(
     sink: &mut W,
 ) -> Result<(), TreeFault>
     ensures written { Writes (W.holds sink.old) (W.holds sink.new) (text (tree_row_lines row.now.path row.now.content)) result }
+    ensures failures { FailuresFit (W.failures sink.old) (W.failures sink.new) result }
 {
     match &row.content {
         Content::Absent => Ok(()),
@@ -45,6 +48,7 @@ pub fn write_row<W: Sink>(
 /// Writes the line of a directory.
 pub fn write_dir<W: Sink>(path: &Path, line: &mut Vec<u8>, sink: &mut W) -> Result<(), TreeFault>
     ensures written { Writes (W.holds sink.old) (W.holds sink.new) (text (dir_line path.now ∷ [])) result }
+    ensures failures { FailuresFit (W.failures sink.old) (W.failures sink.new) result }
 {
     line.clear();
     line.extend_from_slice(b"d ")?;
@@ -61,6 +65,7 @@ fn write_file<W: Sink>(
     sink: &mut W,
 ) -> Result<(), TreeFault>
     ensures written { Writes (W.holds sink.old) (W.holds sink.new) (text (tree_row_lines path.now (File bytes.now))) result }
+    ensures failures { FailuresFit (W.failures sink.old) (W.failures sink.new) result }
 {
     write_head(path, bytes.len() as u64, line, sink)?;
     write_data(bytes, line, sink)
@@ -74,6 +79,7 @@ fn write_head<W: Sink>(
     sink: &mut W,
 ) -> Result<(), TreeFault>
     ensures written { Writes (W.holds sink.old) (W.holds sink.new) (text (file_line path.now size ∷ [])) result }
+    ensures failures { FailuresFit (W.failures sink.old) (W.failures sink.new) result }
 {
     line.clear();
     line.extend_from_slice(b"f ")?;
@@ -87,6 +93,7 @@ fn write_head<W: Sink>(
 /// Writes the bytes of a file, at most 64 on a line.
 fn write_data<W: Sink>(bytes: &[u8], line: &mut Vec<u8>, sink: &mut W) -> Result<(), TreeFault>
     ensures written { Writes (W.holds sink.old) (W.holds sink.new) (text (data_lines ((length bytes.now + 63) / 64) bytes.now)) result }
+    ensures failures { FailuresFit (W.failures sink.old) (W.failures sink.new) result }
 {
     let mut rest = bytes;
     while !rest.is_empty() {
@@ -101,6 +108,7 @@ fn write_data<W: Sink>(bytes: &[u8], line: &mut Vec<u8>, sink: &mut W) -> Result
 fn write_chunk<W: Sink>(chunk: &[u8], line: &mut Vec<u8>, sink: &mut W) -> Result<(), TreeFault>
     requires { length chunk.now ≤ 64 }
     ensures written { Writes (W.holds sink.old) (W.holds sink.new) (text (data_line chunk.now ∷ [])) result }
+    ensures failures { FailuresFit (W.failures sink.old) (W.failures sink.new) result }
 {
     line.clear();
     line.extend_from_slice(b"x ")?;

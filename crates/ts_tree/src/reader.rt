@@ -100,7 +100,7 @@ fn begin_row(alloc: Global, tree: Tree, line: &[u8]) -> Result<TreeReader, TreeF
     ensures refused { IfErr result (Refuses (BeginsNoTree (tree_lines tree ++ line.now ∷ []))) }
 {
     let (path, head) = head_of(alloc, line)?;
-    if !tree.can_push(alloc, &path)? {
+    if !tree.may_push(&path) {
         return Err(TreeFault::NotCanonical);
     }
     match head {

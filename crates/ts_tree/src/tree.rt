@@ -1,17 +1,18 @@
 //! Trees.
 ghost use Rattle.std.specs.List.{AllByRecursion};
-ghost use Rattle.std.specs.Prelude.{◌≡◌, ◌≢◌, ◌⊎◌, ◌++◌, ◌∷◌, [], List, ℕ, true, false, is_ok, if◌then◌else◌, IfErr, IfOk, IsErrOf, IsTrue, MatchResult, OnErr, OnOk};
+ghost use Rattle.std.specs.Prelude.{◌≡◌, ◌≢◌, ◌↔◌, ◌⊎◌, ◌++◌, ◌∷◌, [], List, ℕ, true, false, is_ok, if◌then◌else◌, IfErr, IfOk, IsErrOf, IsTrue, MatchResult, OnErr, OnOk};
+ghost use Rattle.ts_model.specs.Runs.{graft};
 ghost use Rattle.ts_model.specs.Texts.{FileFits, IsTreeBody};
 ghost use Rattle.ts_model.specs.Trees.{IsListing, at, listed, sub};
 ghost use Rattle.ts_model.specs.declared.row.Content.{Content};
 ghost use Rattle.ts_model.specs.declared.row.Content.TheVariants.{Absent};
-ghost use Rattle.ts_table.specs.Tables.{rows_below};
+ghost use Rattle.ts_table.specs.Tables.{IsPlace, placed, rows_below};
 ghost use Rattle.ts_name.specs.Paths.{IsPath};
 ghost use Rattle.ts_table.specs.Splices.{ArePaths, ArePlaces, AreInOrder, grafted};
-ghost use Rattle.ts_table.specs.Tables.{placed};
-ghost use Rattle.ts_tree.specs.Trees.{EditFits, node_of};
+ghost use Rattle.ts_tree.specs.Trees.{EditFits, FilesFit, node_of};
 
 use crate::fault::TreeFault;
+use crate::subtree::SubTree;
 use std::alloc::Global;
 use std::marker::Model;
 use ts_model::items::Items;
@@ -76,16 +77,12 @@ impl Tree {
         }
     }
 
-    /// Whether a row at this path may come next.
-    pub(crate) fn can_push(&self, alloc: Global, path: &Path) -> Result<bool, TreeFault>
-        ensures yes { result ≡ Ok true → (x : Content (List ℕ)) → x ≢ Absent → IsListing (self.now ++ record { path = path.now; content = x } ∷ []) }
-        ensures no { result ≡ Ok false → (x : Content (List ℕ)) → ¬ IsListing (self.now ++ record { path = path.now; content = x } ∷ []) }
-        ensures fault { IfErr result (λ e. e ≡ TreeFault.OutOfMemory) }
+    /// Whether a row at this path may come next. It takes no memory.
+    pub(crate) fn may_push(&self, path: &Path) -> bool
+        ensures yes { IsTrue result → (x : Content (List ℕ)) → x ≢ Absent → IsListing (self.now ++ record { path = path.now; content = x } ∷ []) }
+        ensures no { result ≡ false → (x : Content (List ℕ)) → ¬ IsListing (self.now ++ record { path = path.now; content = x } ∷ []) }
     {
-        match self.table.can_push(alloc, path) {
-            Ok(answer) => Ok(answer),
-            Err(_) => Err(TreeFault::OutOfMemory),
-        }
+        self.table.may_push(path)
     }
 
     /// The tree with one more row.
@@ -120,6 +117,62 @@ impl Tree {
         let part = self.table.sub_table(alloc, path)?;
         let _part_rows = part.rows();
         Ok(part)
+    }
+
+    /// What is at a path and below it.
+    pub fn sub_tree(&self, alloc: Global, path: &Path) -> Result<SubTree, TreeFault>
+        ensures part { IfOk result (λ part. listed part ≡ sub (at self.now) path.now) }
+        ensures fault { IfErr result (λ e. e ≡ TreeFault.OutOfMemory) }
+    {
+        Ok(SubTree::from_table(self.sub_table(alloc, path)?))
+    }
+
+    /// Puts a content in the place of what stands at a path and below it.
+    ///
+    /// `TooLong` where a path would be past the limits. After a fault nothing has changed, and the content is dropped.
+    pub fn replace(&mut self, alloc: Global, path: &Path, part: SubTree) -> Result<(), TreeFault>
+        requires { IsPlace (at self.old) path.now }
+        ensures ok { OnOk result (at self.new ≡ graft (at self.old) path.now (listed part)) }
+        ensures paths { OnOk result (AllByRecursion (λ row. IsPath row.path) (placed path.now part)) }
+        ensures too_long { IsErrOf result TreeFault.TooLong → ¬ AllByRecursion (λ row. IsPath row.path) (placed path.now part) }
+        ensures fault { IfErr result (λ e. (e ≡ TreeFault.OutOfMemory) ⊎ (e ≡ TreeFault.TooLong)) }
+        ensures err { OnErr result (self.new ≡ self.old) }
+    {
+        self.table.replace(alloc, path, part.into_table())?;
+        let _rows = self.table.rows();
+        Ok(())
+    }
+
+    /// Whether something may stand at a path: it is not the root, and its parent is a directory. It takes no memory.
+    pub fn is_place(&self, path: &Path) -> bool
+        ensures { IsTrue result ↔ IsPlace (at self.now) path.now }
+    {
+        self.table.is_place(path)
+    }
+
+    /// The tree as a table. It takes no memory.
+    pub(crate) fn into_table(self) -> Table<Items<u8>>
+        ensures table { result ≡ self }
+        ensures lawful { IsTreeBody self }
+    {
+        let Tree { table } = self;
+        table
+    }
+
+    /// The table as a tree. It takes no memory.
+    pub(crate) fn from_table(table: Table<Items<u8>>) -> Tree
+        requires { FilesFit table }
+        ensures { result ≡ table }
+    {
+        let _rows = table.rows();
+        Tree { table }
+    }
+
+    /// The table of the rows, borrowed.
+    pub(crate) fn table(&self) -> &Table<Items<u8>>
+        ensures { result.now ≡ self.now }
+    {
+        &self.table
     }
 
     /// Makes many edits in one pass, each after the one before it: the paths ascend, and an edit may stand below an

@@ -13,7 +13,7 @@ use Rattle.ts_model.specs.Sync.{Snapshot, HasReason, IsSkipped, Synced, listed_s
 use Rattle.ts_model.specs.Plans.{Valid, Broken}
 use Rattle.ts_model.specs.Headline.{FinalArchive, Meets}
 use Rattle.ts_model.specs.Texts.{Bundle, IsBundle, IsBundleText, IsBytes, IsTreeBody, FileFits, StampFits, text}
-use Rattle.ts_model.specs.Trial.{snapshot_of, result_lines, skipped_count, HasContentsApart, Trial, IsResult}
+use Rattle.ts_model.specs.Trial.{snapshot_of, result_lines, skipped_count, HasContentsApart, IsNoBundle, Trial, IsResult}
 use Rattle.ts_model.specs.declared.plan.Reason.{Reason}
 use Rattle.ts_model.specs.declared.plan.Reason.TheVariants as reason
 use Rattle.ts_model.specs.declared.plan.Plan.{Plan}
@@ -38,7 +38,8 @@ use Rattle.ts_laws.proofs.Rows.{IsListingOf, listing_of}
 use Rattle.ts_laws.proofs.Trials.{some_answer}
 use Rattle.ts_laws.proofs.Words.{all_append}
 use Rattle.ts_bundle.specs.Bundles.{values}
-use Rattle.ts_bundle.specs.Decoding.{IsSpelled, SpellsNone}
+use Rattle.ts_bundle.specs.Decoding.{FindsNoBundle, IsSpelled}
+use Rattle.ts_text.specs.Lines.{Reading}
 use Rattle.ts_bundle.specs.declared.bundle.Bundle.{Bundle as Held}
 use Rattle.ts_bundle.specs.declared.fault.BundleFault.{BundleFault}
 use Rattle.ts_bundle.specs.declared.fault.BundleFault.TheVariants.{Malformed}
@@ -199,11 +200,13 @@ told_bundle None old new b r is answered = tt
 told_bundle (Some bytes) old new b r is answered = λ apart. trial_of bytes (values b) old new r is.spelled (answered (apart (values b) is.spelled))
 
 -- bytes of no bundle
-pub told_malformed : {E : Type 0} (known old new : Option (List ℕ)) (e : BundleFault) (r : Result ℕ E) → e ≡ Malformed → SpellsNone known e
-    → Writes old new (text (codes "malformed" ∷ [])) r → IfOk r (λ status. status ≡ 3) → IfSome known (λ bytes. HasContentsApart bytes → WritesOne (Trial bytes) old new r)
-told_malformed None old new e r is none writes same = tt
-told_malformed (Some bytes) old new e r is none writes same = λ apart.
-    one_written (Trial bytes) old new (text (codes "malformed" ∷ [])) 3 r (inl (subst (λ z. SpellsNone (Some bytes) z) is none, (refl, refl))) writes same
+pub told_malformed : {E : Type 0} (before after : Reading) (old new : Option (List ℕ)) (e : BundleFault) (r : Result ℕ E) → e ≡ Malformed → FindsNoBundle before after e
+    → Writes old new (text (codes "malformed" ∷ [])) r → IfOk r (λ status. status ≡ 3) → IfSome before.left (λ bytes. HasContentsApart bytes → WritesOne (Trial bytes) old new r)
+told_malformed before after old new e r is finds writes same = go before.left (subst (λ z. FindsNoBundle before after z) is finds)
+  where
+    go : (known : Option (List ℕ)) → IfSome known IsNoBundle → IfSome known (λ bytes. HasContentsApart bytes → WritesOne (Trial bytes) old new r)
+    go None none = tt
+    go (Some bytes) none = λ apart. one_written (Trial bytes) old new (text (codes "malformed" ∷ [])) 3 r (inl (none, (refl, refl))) writes same
 
 -- a failure before anything was written
 pub told_nothing : {E : Type 0} (known old : Option (List ℕ)) (e : E) → IfSome known (λ bytes. HasContentsApart bytes → WritesOne {E = E} (Trial bytes) old old (Err e))

@@ -76,6 +76,11 @@ impl From<PrintFault> for TrialFault {
 }
 
 impl From<TextFault> for TrialFault {
+    ghost use Rattle.std.specs.Prelude.{◌≡◌};
+    ghost use Rattle.ts_trial.specs.Faults.{fault_of_text};
+
+    ghost from_gives = { λ t e. e ≡ fault_of_text t };
+
     fn from(fault: TextFault) -> TrialFault {
         match fault {
             TextFault::OutOfMemory => TrialFault::OutOfMemory,
@@ -85,6 +90,11 @@ impl From<TextFault> for TrialFault {
 }
 
 impl From<BundleFault> for TrialFault {
+    ghost use Rattle.std.specs.Prelude.{◌≡◌};
+    ghost use Rattle.ts_trial.specs.Faults.{fault_of_bundle};
+
+    ghost from_gives = { λ b e. e ≡ fault_of_bundle b };
+
     fn from(fault: BundleFault) -> TrialFault {
         match fault {
             BundleFault::OutOfMemory => TrialFault::OutOfMemory,

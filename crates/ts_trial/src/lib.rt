@@ -6,3 +6,6 @@ pub mod trials;
 
 pub use fault::TrialFault;
 pub use trials::trial;
+
+#[cfg(test)]
+mod tests;

@@ -1,4 +1,4 @@
-ghost use Rattle.std.specs.Prelude.{◌≡◌, ◌≢◌, ◌∷◌, ◌++◌, ℕ, [], IfOk, IfSome, OnOk, min};
+ghost use Rattle.std.specs.Prelude.{◌≡◌, ◌≢◌, ◌∷◌, ◌++◌, ℕ, [], IfErr, IfOk, IfSome, OnOk, min};
 ghost use Rattle.ts_bundle.specs.Bundles.{values};
 ghost use Rattle.ts_model.specs.Headline.{Meets};
 ghost use Rattle.ts_model.specs.Plans.{Valid};
@@ -8,31 +8,35 @@ ghost use Rattle.ts_model.specs.Trees.{AreApart, at, print_of};
 ghost use Rattle.ts_model.specs.Trial.{HasContentsApart, Trial, skipped_count};
 ghost use Rattle.ts_text.specs.Sources.{Writes};
 ghost use Rattle.ts_trial.specs.Answers.{AnswersBundle, WritesOne, refusal};
+ghost use Rattle.ts_trial.specs.Faults.{FailuresFit, HasCause};
+ghost use Rattle.ts_trial.specs.declared.fault.TrialFault.TheVariants.{OutOfMemory};
 
 use crate::fault::TrialFault;
 use std::alloc::Global;
-use ts_bundle::{Bundle, BundleFault, count_skipped, read, write_result};
+use ts_bundle::{Bundle, BundleFault, count_skipped, decode, write_result};
 use ts_carry::carry_out;
 use ts_check::{CheckFault, check};
 use ts_model::plan::{Entry, PlanRule};
 use ts_print::Print;
-use ts_text::{Sink, Source, push_decimal, write_line};
+use ts_text::{Lines, Sink, Source, push_decimal, write_line};
 
 /// The exit status of a refusal.
 pub const REFUSED: u8 = 3;
 
-/// Answers a bundle. Reads it to its end, checks its plan and carries it out, and writes the result text, or the
-/// line `malformed` where the bytes are no bundle, or `refused <rule> <place>` where the plan isn't valid. The
-/// answer is the exit status: 0, or 1 where an entry is skipped, or 3 for a refusal. After a fault a beginning of the
-/// text was written.
-pub fn trial<R: Source + Drop, W: Sink>(
+/// Answers a bundle: all that the reader has left. Reads it to its end, checks its plan and carries it out, and writes
+/// the result text, or the line `malformed` where the bytes are no bundle, or `refused <rule> <place>` where the plan
+/// isn't valid. The answer is the exit status: 0, or 1 where an entry is skipped, or 3 for a refusal.
+///
+/// A fault comes only from the reader, the writer or want of memory, and after it a beginning of the text was written.
+pub fn trial<R: Source, W: Sink>(
     alloc: Global,
-    reader: R,
+    reader: &mut Lines<R>,
     writer: &mut W,
 ) -> Result<u8, TrialFault>
-    ensures answered { IfSome (R.holds reader) (λ bytes. HasContentsApart bytes → WritesOne (Trial bytes) (W.holds writer.old) (W.holds writer.new) result) }
+    ensures answered { IfSome reader.old.left (λ bytes. HasContentsApart bytes → WritesOne (Trial bytes) (W.holds writer.old) (W.holds writer.new) result) }
+    ensures cause { HasCause reader.old reader.new (W.failures writer.old) (W.failures writer.new) result }
 {
-    match read(alloc, reader) {
+    match decode(alloc, reader) {
         Ok(bundle) => answer(alloc, &bundle, writer),
         Err(BundleFault::Malformed) => refuse(b"malformed", writer),
         Err(BundleFault::OutOfMemory) => Err(TrialFault::OutOfMemory),
@@ -44,6 +48,7 @@ pub fn trial<R: Source + Drop, W: Sink>(
 fn answer<W: Sink>(alloc: Global, bundle: &Bundle, writer: &mut W) -> Result<u8, TrialFault>
     requires { IsBundle (values bundle.now) }
     ensures answered { AreApart (Meets (at bundle.now.first) (at bundle.now.second) []) → WritesOne (AnswersBundle (values bundle.now)) (W.holds writer.old) (W.holds writer.new) result }
+    ensures failures { FailuresFit (W.failures writer.old) (W.failures writer.new) result }
 {
     let first = Print::of_tree(alloc, &bundle.first)?;
     let second = Print::of_tree(alloc, &bundle.second)?;
@@ -74,6 +79,7 @@ fn settle<W: Sink>(
     requires second { at second.now ≡ print_of (at bundle.now.second) }
     requires valid { Valid (listed_snapshot bundle.now.archive first.now second.now bundle.now.holds) bundle.now.plan }
     ensures answered { AreApart (Meets (at bundle.now.first) (at bundle.now.second) []) → WritesOne (AnswersBundle (values bundle.now)) (W.holds writer.old) (W.holds writer.new) result }
+    ensures failures { FailuresFit (W.failures writer.old) (W.failures writer.new) result }
 {
     let outcome = carry_out(
         alloc,
@@ -112,6 +118,7 @@ fn refuse_plan<W: Sink>(
 ) -> Result<u8, TrialFault>
     ensures written { Writes (W.holds writer.old) (W.holds writer.new) (text (refusal rule place ∷ [])) result }
     ensures status { IfOk result (λ status. status ≡ 3) }
+    ensures failures { FailuresFit (W.failures writer.old) (W.failures writer.new) result }
 {
     let mut line = Vec::new(alloc);
     push_refusal(rule, place, &mut line)?;
@@ -120,7 +127,8 @@ fn refuse_plan<W: Sink>(
 
 /// Appends the line that refuses a plan.
 fn push_refusal(rule: PlanRule, place: u64, line: &mut Vec<u8>) -> Result<(), TrialFault>
-    ensures { OnOk result (line.new.items ≡ line.old.items ++ refusal rule place) }
+    ensures line { OnOk result (line.new.items ≡ line.old.items ++ refusal rule place) }
+    ensures fault { IfErr result (λ e. e ≡ OutOfMemory) }
 {
     line.extend_from_slice(b"refused ")?;
     push_decimal(line, u64::from(rule.number()))?;
@@ -133,6 +141,7 @@ fn push_refusal(rule: PlanRule, place: u64, line: &mut Vec<u8>) -> Result<(), Tr
 fn refuse<W: Sink>(line: &[u8], writer: &mut W) -> Result<u8, TrialFault>
     ensures written { Writes (W.holds writer.old) (W.holds writer.new) (text (line.now ∷ [])) result }
     ensures status { IfOk result (λ status. status ≡ 3) }
+    ensures failures { FailuresFit (W.failures writer.old) (W.failures writer.new) result }
 {
     write_line(writer, line)?;
     Ok(REFUSED)

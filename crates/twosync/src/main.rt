@@ -9,7 +9,7 @@ use std::env;
 use std::io::{self, BufWriter, Input, Write};
 use std::process::ExitCode;
 use std::rt::Env;
-use ts_text::Counted;
+use ts_text::{Counted, Lines};
 use ts_trial::trial;
 
 /// Why the program ends without an answer: the number that it prints.
@@ -52,7 +52,9 @@ fn run<R: Env + Input + Print + AllocGlobal>(rt: &R) -> Result<u8, Fault> {
     }
     let out = BufWriter::new(rt.alloc(), io::writer(rt)).map_err(|_| Fault::OutOfMemory)?;
     let mut writer = Counted::new(out);
-    let status = trial(rt.alloc(), Counted::new(rt.reader()), &mut writer).map_err(
+    let mut reader =
+        Lines::new(rt.alloc(), Counted::new(rt.reader())).map_err(|_| Fault::OutOfMemory)?;
+    let status = trial(rt.alloc(), &mut reader, &mut writer).map_err(
         |fault| match fault.number() {
             1 => Fault::OutOfMemory,
             _ => Fault::Failed,

@@ -8,7 +8,7 @@ use anyhow::{Context, Result, bail};
 use std::alloc::Global;
 use std::fs;
 use std::rt::Files;
-use ts_text::Counted;
+use ts_text::{Counted, Lines};
 use ts_trial::trial;
 
 /// The versions of texts that the program knows. Bundles of others are malformed to it.
@@ -44,7 +44,8 @@ fn wanted<R: Files + AllocGlobal>(rt: &R, name: &str, level: &str, status: &str)
 /// The answer of `trial`.
 fn answered(alloc: Global, bundle: &[u8]) -> Result<Answer> {
     let mut writer = Counted::new(Vec::new(alloc));
-    let status = trial(alloc, Counted::new(bundle), &mut writer)?;
+    let mut reader = Lines::new(alloc, Counted::new(bundle))?;
+    let status = trial(alloc, &mut reader, &mut writer)?;
     let text = writer.into_inner();
     Ok(Answer { text, status })
 }

@@ -6,36 +6,32 @@ use Rattle.ts_text.specs.Sources.{AppendsFront}
 use Rattle.ts_archive.proofs.Written.{begun_first, begun_second, whole_text}
 use Rattle.ts_archive.proofs.encoding.encode.Goals as goal
 
-pub returns-in_err-write_all : goal.returns-in_err-write_all
-returns-in_err-write_all g c =
+pub returns-in_err-write_all-clause-written : goal.returns-in_err-write_all-clause-written
+returns-in_err-write_all-clause-written g c =
     let p = err_from_is_err_and c.from_residual-in_err-write_all.result c.from_residual-in_err-write_all.ensures.1 in
     let ends = rw c.deref.ensures.value at c.in_ok-end.ensures.line in
     let whole = whole_text c.args.print.now c.in_ok-front.front.items c.in_ok-end.end.items (length c.rows.result.now) c.rows.ensures.listing (ap length c.rows.ensures.rows) c.in_ok-front.ensures.front ends in
     let begun = rw c.deref-2.ensures.value at c.in_err-write_all.ensures.written in
-    rw p.1 (record {
-      written = subst (λ z. AppendsFront (g.W.Sink.holds c.args.sink.now) (g.W.Sink.holds c.write_all.new.sink) z) (sym whole)
-          (begun_first (g.W.Sink.holds c.args.sink.now) (g.W.Sink.holds c.write_all.new.sink) c.in_ok-front.front.items (c.in_ok-end.end.items ++ 10 ∷ []) begun);
-    })
+    rw p.1
+    (subst (λ z. AppendsFront (g.W.Sink.holds c.args.sink.now) (g.W.Sink.holds c.write_all.new.sink) z) (sym whole)
+    (begun_first (g.W.Sink.holds c.args.sink.now) (g.W.Sink.holds c.write_all.new.sink) c.in_ok-front.front.items (c.in_ok-end.end.items ++ 10 ∷ []) begun))
 
-pub returns-in_err-write_line : goal.returns-in_err-write_line
-returns-in_err-write_line g c =
+pub returns-in_err-write_line-clause-written : goal.returns-in_err-write_line-clause-written
+returns-in_err-write_line-clause-written g c =
     let p = err_from_is_err_and c.from_residual-in_err-write_line.result c.from_residual-in_err-write_line.ensures.1 in
     let ends = rw c.deref.ensures.value at c.in_ok-end.ensures.line in
     let whole = whole_text c.args.print.now c.in_ok-front.front.items c.in_ok-end.end.items (length c.rows.result.now) c.rows.ensures.listing (ap length c.rows.ensures.rows) c.in_ok-front.ensures.front ends in
     let added = rw c.deref-2.ensures.value at c.in_ok-write_all.ensures.written in
     let begun = rw c.deref-3.ensures.value at c.in_err-write_line.ensures.written in
-    rw p.1 (record {
-      written = subst (λ z. AppendsFront (g.W.Sink.holds c.args.sink.now) (g.W.Sink.holds c.write_line.new.sink) z) (sym whole)
-          (begun_second (g.W.Sink.holds c.args.sink.now) (g.W.Sink.holds c.write_all.new.sink) (g.W.Sink.holds c.write_line.new.sink) c.in_ok-front.front.items (c.in_ok-end.end.items ++ 10 ∷ []) added begun);
-    })
+    rw p.1
+    (subst (λ z. AppendsFront (g.W.Sink.holds c.args.sink.now) (g.W.Sink.holds c.write_line.new.sink) z) (sym whole)
+    (begun_second (g.W.Sink.holds c.args.sink.now) (g.W.Sink.holds c.write_all.new.sink) (g.W.Sink.holds c.write_line.new.sink) c.in_ok-front.front.items (c.in_ok-end.end.items ++ 10 ∷ []) added begun))
 
-pub returns : goal.returns
-returns g c =
+pub returns-clause-written : goal.returns-clause-written
+returns-clause-written g c =
     let ends = rw c.deref.ensures.value at c.in_ok-end.ensures.line in
     let whole = whole_text c.args.print.now c.in_ok-front.front.items c.in_ok-end.end.items (length c.rows.result.now) c.rows.ensures.listing (ap length c.rows.ensures.rows) c.in_ok-front.ensures.front ends in
     let added = rw c.deref-2.ensures.value at c.in_ok-write_all.ensures.written in
     let line = rw c.deref-3.ensures.value at c.in_ok-write_line.ensures.written in
-    record {
-      written = subst (λ z. Appends (g.W.Sink.holds c.args.sink.now) (g.W.Sink.holds c.write_line.new.sink) z) (sym whole)
-          (Appends-trans (g.W.Sink.holds c.args.sink.now) (g.W.Sink.holds c.write_all.new.sink) (g.W.Sink.holds c.write_line.new.sink) c.in_ok-front.front.items (c.in_ok-end.end.items ++ 10 ∷ []) added line);
-    }
+    subst (λ z. Appends (g.W.Sink.holds c.args.sink.now) (g.W.Sink.holds c.write_line.new.sink) z) (sym whole)
+    (Appends-trans (g.W.Sink.holds c.args.sink.now) (g.W.Sink.holds c.write_all.new.sink) (g.W.Sink.holds c.write_line.new.sink) c.in_ok-front.front.items (c.in_ok-end.end.items ++ 10 ∷ []) added line)

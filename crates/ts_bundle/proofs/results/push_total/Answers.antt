@@ -2,8 +2,8 @@ use Rattle.std.proofs.Common.{◌≡◌, append_assoc}
 use Rattle.ts_bundle.proofs.results.push_total.Goals as goal
 
 -- Word after word.
-pub returns : goal.returns
-returns c =
+pub returns-clause-line : goal.returns-clause-line
+returns-clause-line c =
     rw (
       c.in_ok-extend_from_slice-4.ensures.items,
       c.in_ok-push_decimal-3.ensures.ok,

@@ -7,25 +7,25 @@ use Rattle.ts_bundle.specs.Results.{report_lines}
 use Rattle.ts_bundle.proofs.Sent.{begun_after, sent_more}
 use Rattle.ts_bundle.proofs.results.write_result.Goals as goal
 
-pub returns-in_err-write_tree : goal.returns-in_err-write_tree
-returns-in_err-write_tree g c =
+pub returns-in_err-write_tree-clause-written : goal.returns-in_err-write_tree-clause-written
+returns-in_err-write_tree-clause-written g c =
     let p = err_from_is_err_and c.from_residual.result c.from_residual.ensures.1 in
-    rw p.1 (record { written = (begun_first (g.W.Sink.holds c.args.sink.now) (g.W.Sink.holds c.write_tree.new.sink) ((((codes "first" ∷ tree_lines c.args.first.now) ++ (codes "second" ∷ tree_lines c.args.second.now)) ++ (codes "archive" ∷ print_lines c.args.archive.now)) ++ (codes "report" ∷ report_lines c.args.entries.now)) (total_line c.args.entries.now ∷ []) (begun_first (g.W.Sink.holds c.args.sink.now) (g.W.Sink.holds c.write_tree.new.sink) (((codes "first" ∷ tree_lines c.args.first.now) ++ (codes "second" ∷ tree_lines c.args.second.now)) ++ (codes "archive" ∷ print_lines c.args.archive.now)) (codes "report" ∷ report_lines c.args.entries.now) (begun_first (g.W.Sink.holds c.args.sink.now) (g.W.Sink.holds c.write_tree.new.sink) ((codes "first" ∷ tree_lines c.args.first.now) ++ (codes "second" ∷ tree_lines c.args.second.now)) (codes "archive" ∷ print_lines c.args.archive.now) (begun_first (g.W.Sink.holds c.args.sink.now) (g.W.Sink.holds c.write_tree.new.sink) (codes "first" ∷ tree_lines c.args.first.now) (codes "second" ∷ tree_lines c.args.second.now) c.in_err-write_tree.ensures.written)))) })
+    rw p.1 ((begun_first (g.W.Sink.holds c.args.sink.now) (g.W.Sink.holds c.write_tree.new.sink) ((((codes "first" ∷ tree_lines c.args.first.now) ++ (codes "second" ∷ tree_lines c.args.second.now)) ++ (codes "archive" ∷ print_lines c.args.archive.now)) ++ (codes "report" ∷ report_lines c.args.entries.now)) (total_line c.args.entries.now ∷ []) (begun_first (g.W.Sink.holds c.args.sink.now) (g.W.Sink.holds c.write_tree.new.sink) (((codes "first" ∷ tree_lines c.args.first.now) ++ (codes "second" ∷ tree_lines c.args.second.now)) ++ (codes "archive" ∷ print_lines c.args.archive.now)) (codes "report" ∷ report_lines c.args.entries.now) (begun_first (g.W.Sink.holds c.args.sink.now) (g.W.Sink.holds c.write_tree.new.sink) ((codes "first" ∷ tree_lines c.args.first.now) ++ (codes "second" ∷ tree_lines c.args.second.now)) (codes "archive" ∷ print_lines c.args.archive.now) (begun_first (g.W.Sink.holds c.args.sink.now) (g.W.Sink.holds c.write_tree.new.sink) (codes "first" ∷ tree_lines c.args.first.now) (codes "second" ∷ tree_lines c.args.second.now) c.in_err-write_tree.ensures.written)))))
 
-pub returns-in_err-write_tree-2 : goal.returns-in_err-write_tree-2
-returns-in_err-write_tree-2 g c =
+pub returns-in_err-write_tree-2-clause-written : goal.returns-in_err-write_tree-2-clause-written
+returns-in_err-write_tree-2-clause-written g c =
     let p = err_from_is_err_and c.from_residual-in_err-write_tree-2.result c.from_residual-in_err-write_tree-2.ensures.1 in
-    rw p.1 (record { written = (begun_first (g.W.Sink.holds c.args.sink.now) (g.W.Sink.holds c.write_tree-2.new.sink) ((((codes "first" ∷ tree_lines c.args.first.now) ++ (codes "second" ∷ tree_lines c.args.second.now)) ++ (codes "archive" ∷ print_lines c.args.archive.now)) ++ (codes "report" ∷ report_lines c.args.entries.now)) (total_line c.args.entries.now ∷ []) (begun_first (g.W.Sink.holds c.args.sink.now) (g.W.Sink.holds c.write_tree-2.new.sink) (((codes "first" ∷ tree_lines c.args.first.now) ++ (codes "second" ∷ tree_lines c.args.second.now)) ++ (codes "archive" ∷ print_lines c.args.archive.now)) (codes "report" ∷ report_lines c.args.entries.now) (begun_first (g.W.Sink.holds c.args.sink.now) (g.W.Sink.holds c.write_tree-2.new.sink) ((codes "first" ∷ tree_lines c.args.first.now) ++ (codes "second" ∷ tree_lines c.args.second.now)) (codes "archive" ∷ print_lines c.args.archive.now) (begun_after (g.W.Sink.holds c.args.sink.now) (g.W.Sink.holds c.write_tree.new.sink) (g.W.Sink.holds c.write_tree-2.new.sink) (codes "first" ∷ tree_lines c.args.first.now) (codes "second" ∷ tree_lines c.args.second.now) c.in_ok-write_tree.ensures.written c.in_err-write_tree-2.ensures.written)))) })
+    rw p.1 ((begun_first (g.W.Sink.holds c.args.sink.now) (g.W.Sink.holds c.write_tree-2.new.sink) ((((codes "first" ∷ tree_lines c.args.first.now) ++ (codes "second" ∷ tree_lines c.args.second.now)) ++ (codes "archive" ∷ print_lines c.args.archive.now)) ++ (codes "report" ∷ report_lines c.args.entries.now)) (total_line c.args.entries.now ∷ []) (begun_first (g.W.Sink.holds c.args.sink.now) (g.W.Sink.holds c.write_tree-2.new.sink) (((codes "first" ∷ tree_lines c.args.first.now) ++ (codes "second" ∷ tree_lines c.args.second.now)) ++ (codes "archive" ∷ print_lines c.args.archive.now)) (codes "report" ∷ report_lines c.args.entries.now) (begun_first (g.W.Sink.holds c.args.sink.now) (g.W.Sink.holds c.write_tree-2.new.sink) ((codes "first" ∷ tree_lines c.args.first.now) ++ (codes "second" ∷ tree_lines c.args.second.now)) (codes "archive" ∷ print_lines c.args.archive.now) (begun_after (g.W.Sink.holds c.args.sink.now) (g.W.Sink.holds c.write_tree.new.sink) (g.W.Sink.holds c.write_tree-2.new.sink) (codes "first" ∷ tree_lines c.args.first.now) (codes "second" ∷ tree_lines c.args.second.now) c.in_ok-write_tree.ensures.written c.in_err-write_tree-2.ensures.written)))))
 
-pub returns-in_err-write_print : goal.returns-in_err-write_print
-returns-in_err-write_print g c =
+pub returns-in_err-write_print-clause-written : goal.returns-in_err-write_print-clause-written
+returns-in_err-write_print-clause-written g c =
     let p = err_from_is_err_and c.from_residual-in_err-write_print.result c.from_residual-in_err-write_print.ensures.1 in
-    rw p.1 (record { written = (begun_first (g.W.Sink.holds c.args.sink.now) (g.W.Sink.holds c.write_print.new.sink) ((((codes "first" ∷ tree_lines c.args.first.now) ++ (codes "second" ∷ tree_lines c.args.second.now)) ++ (codes "archive" ∷ print_lines c.args.archive.now)) ++ (codes "report" ∷ report_lines c.args.entries.now)) (total_line c.args.entries.now ∷ []) (begun_first (g.W.Sink.holds c.args.sink.now) (g.W.Sink.holds c.write_print.new.sink) (((codes "first" ∷ tree_lines c.args.first.now) ++ (codes "second" ∷ tree_lines c.args.second.now)) ++ (codes "archive" ∷ print_lines c.args.archive.now)) (codes "report" ∷ report_lines c.args.entries.now) (begun_after (g.W.Sink.holds c.args.sink.now) (g.W.Sink.holds c.write_tree-2.new.sink) (g.W.Sink.holds c.write_print.new.sink) ((codes "first" ∷ tree_lines c.args.first.now) ++ (codes "second" ∷ tree_lines c.args.second.now)) (codes "archive" ∷ print_lines c.args.archive.now) (sent_more (g.W.Sink.holds c.args.sink.now) (g.W.Sink.holds c.write_tree.new.sink) (g.W.Sink.holds c.write_tree-2.new.sink) (codes "first" ∷ tree_lines c.args.first.now) (codes "second" ∷ tree_lines c.args.second.now) c.in_ok-write_tree.ensures.written c.in_ok-write_tree-2.ensures.written) c.in_err-write_print.ensures.written))) })
+    rw p.1 ((begun_first (g.W.Sink.holds c.args.sink.now) (g.W.Sink.holds c.write_print.new.sink) ((((codes "first" ∷ tree_lines c.args.first.now) ++ (codes "second" ∷ tree_lines c.args.second.now)) ++ (codes "archive" ∷ print_lines c.args.archive.now)) ++ (codes "report" ∷ report_lines c.args.entries.now)) (total_line c.args.entries.now ∷ []) (begun_first (g.W.Sink.holds c.args.sink.now) (g.W.Sink.holds c.write_print.new.sink) (((codes "first" ∷ tree_lines c.args.first.now) ++ (codes "second" ∷ tree_lines c.args.second.now)) ++ (codes "archive" ∷ print_lines c.args.archive.now)) (codes "report" ∷ report_lines c.args.entries.now) (begun_after (g.W.Sink.holds c.args.sink.now) (g.W.Sink.holds c.write_tree-2.new.sink) (g.W.Sink.holds c.write_print.new.sink) ((codes "first" ∷ tree_lines c.args.first.now) ++ (codes "second" ∷ tree_lines c.args.second.now)) (codes "archive" ∷ print_lines c.args.archive.now) (sent_more (g.W.Sink.holds c.args.sink.now) (g.W.Sink.holds c.write_tree.new.sink) (g.W.Sink.holds c.write_tree-2.new.sink) (codes "first" ∷ tree_lines c.args.first.now) (codes "second" ∷ tree_lines c.args.second.now) c.in_ok-write_tree.ensures.written c.in_ok-write_tree-2.ensures.written) c.in_err-write_print.ensures.written))))
 
-pub returns-in_err-write_report : goal.returns-in_err-write_report
-returns-in_err-write_report g c =
+pub returns-in_err-write_report-clause-written : goal.returns-in_err-write_report-clause-written
+returns-in_err-write_report-clause-written g c =
     let p = err_from_is_err_and c.from_residual-in_err-write_report.result c.from_residual-in_err-write_report.ensures.1 in
-    rw p.1 (record { written = (begun_first (g.W.Sink.holds c.args.sink.now) (g.W.Sink.holds c.write_report.new.sink) ((((codes "first" ∷ tree_lines c.args.first.now) ++ (codes "second" ∷ tree_lines c.args.second.now)) ++ (codes "archive" ∷ print_lines c.args.archive.now)) ++ (codes "report" ∷ report_lines c.args.entries.now)) (total_line c.args.entries.now ∷ []) (begun_after (g.W.Sink.holds c.args.sink.now) (g.W.Sink.holds c.write_print.new.sink) (g.W.Sink.holds c.write_report.new.sink) (((codes "first" ∷ tree_lines c.args.first.now) ++ (codes "second" ∷ tree_lines c.args.second.now)) ++ (codes "archive" ∷ print_lines c.args.archive.now)) (codes "report" ∷ report_lines c.args.entries.now) (sent_more (g.W.Sink.holds c.args.sink.now) (g.W.Sink.holds c.write_tree-2.new.sink) (g.W.Sink.holds c.write_print.new.sink) ((codes "first" ∷ tree_lines c.args.first.now) ++ (codes "second" ∷ tree_lines c.args.second.now)) (codes "archive" ∷ print_lines c.args.archive.now) (sent_more (g.W.Sink.holds c.args.sink.now) (g.W.Sink.holds c.write_tree.new.sink) (g.W.Sink.holds c.write_tree-2.new.sink) (codes "first" ∷ tree_lines c.args.first.now) (codes "second" ∷ tree_lines c.args.second.now) c.in_ok-write_tree.ensures.written c.in_ok-write_tree-2.ensures.written) c.in_ok-write_print.ensures.written) c.in_err-write_report.ensures.written)) })
+    rw p.1 ((begun_first (g.W.Sink.holds c.args.sink.now) (g.W.Sink.holds c.write_report.new.sink) ((((codes "first" ∷ tree_lines c.args.first.now) ++ (codes "second" ∷ tree_lines c.args.second.now)) ++ (codes "archive" ∷ print_lines c.args.archive.now)) ++ (codes "report" ∷ report_lines c.args.entries.now)) (total_line c.args.entries.now ∷ []) (begun_after (g.W.Sink.holds c.args.sink.now) (g.W.Sink.holds c.write_print.new.sink) (g.W.Sink.holds c.write_report.new.sink) (((codes "first" ∷ tree_lines c.args.first.now) ++ (codes "second" ∷ tree_lines c.args.second.now)) ++ (codes "archive" ∷ print_lines c.args.archive.now)) (codes "report" ∷ report_lines c.args.entries.now) (sent_more (g.W.Sink.holds c.args.sink.now) (g.W.Sink.holds c.write_tree-2.new.sink) (g.W.Sink.holds c.write_print.new.sink) ((codes "first" ∷ tree_lines c.args.first.now) ++ (codes "second" ∷ tree_lines c.args.second.now)) (codes "archive" ∷ print_lines c.args.archive.now) (sent_more (g.W.Sink.holds c.args.sink.now) (g.W.Sink.holds c.write_tree.new.sink) (g.W.Sink.holds c.write_tree-2.new.sink) (codes "first" ∷ tree_lines c.args.first.now) (codes "second" ∷ tree_lines c.args.second.now) c.in_ok-write_tree.ensures.written c.in_ok-write_tree-2.ensures.written) c.in_ok-write_print.ensures.written) c.in_err-write_report.ensures.written)))
 
-pub returns : goal.returns
-returns g c = record { written = writes_after (g.W.Sink.holds c.args.sink.now) (g.W.Sink.holds c.write_report.new.sink) (g.W.Sink.holds c.write_total.new.sink) ((((codes "first" ∷ tree_lines c.args.first.now) ++ (codes "second" ∷ tree_lines c.args.second.now)) ++ (codes "archive" ∷ print_lines c.args.archive.now)) ++ (codes "report" ∷ report_lines c.args.entries.now)) (total_line c.args.entries.now ∷ []) c.write_total.result (sent_more (g.W.Sink.holds c.args.sink.now) (g.W.Sink.holds c.write_print.new.sink) (g.W.Sink.holds c.write_report.new.sink) (((codes "first" ∷ tree_lines c.args.first.now) ++ (codes "second" ∷ tree_lines c.args.second.now)) ++ (codes "archive" ∷ print_lines c.args.archive.now)) (codes "report" ∷ report_lines c.args.entries.now) (sent_more (g.W.Sink.holds c.args.sink.now) (g.W.Sink.holds c.write_tree-2.new.sink) (g.W.Sink.holds c.write_print.new.sink) ((codes "first" ∷ tree_lines c.args.first.now) ++ (codes "second" ∷ tree_lines c.args.second.now)) (codes "archive" ∷ print_lines c.args.archive.now) (sent_more (g.W.Sink.holds c.args.sink.now) (g.W.Sink.holds c.write_tree.new.sink) (g.W.Sink.holds c.write_tree-2.new.sink) (codes "first" ∷ tree_lines c.args.first.now) (codes "second" ∷ tree_lines c.args.second.now) c.in_ok-write_tree.ensures.written c.in_ok-write_tree-2.ensures.written) c.in_ok-write_print.ensures.written) c.in_ok-write_report.ensures.written) c.write_total.ensures.written }
+pub returns-clause-written : goal.returns-clause-written
+returns-clause-written g c = writes_after (g.W.Sink.holds c.args.sink.now) (g.W.Sink.holds c.write_report.new.sink) (g.W.Sink.holds c.write_total.new.sink) ((((codes "first" ∷ tree_lines c.args.first.now) ++ (codes "second" ∷ tree_lines c.args.second.now)) ++ (codes "archive" ∷ print_lines c.args.archive.now)) ++ (codes "report" ∷ report_lines c.args.entries.now)) (total_line c.args.entries.now ∷ []) c.write_total.result (sent_more (g.W.Sink.holds c.args.sink.now) (g.W.Sink.holds c.write_print.new.sink) (g.W.Sink.holds c.write_report.new.sink) (((codes "first" ∷ tree_lines c.args.first.now) ++ (codes "second" ∷ tree_lines c.args.second.now)) ++ (codes "archive" ∷ print_lines c.args.archive.now)) (codes "report" ∷ report_lines c.args.entries.now) (sent_more (g.W.Sink.holds c.args.sink.now) (g.W.Sink.holds c.write_tree-2.new.sink) (g.W.Sink.holds c.write_print.new.sink) ((codes "first" ∷ tree_lines c.args.first.now) ++ (codes "second" ∷ tree_lines c.args.second.now)) (codes "archive" ∷ print_lines c.args.archive.now) (sent_more (g.W.Sink.holds c.args.sink.now) (g.W.Sink.holds c.write_tree.new.sink) (g.W.Sink.holds c.write_tree-2.new.sink) (codes "first" ∷ tree_lines c.args.first.now) (codes "second" ∷ tree_lines c.args.second.now) c.in_ok-write_tree.ensures.written c.in_ok-write_tree-2.ensures.written) c.in_ok-write_print.ensures.written) c.in_ok-write_report.ensures.written) c.write_total.ensures.written

@@ -6,7 +6,7 @@ use Rattle.ts_bundle.proofs.Sent.{nothing_sent}
 use Rattle.ts_bundle.proofs.results.write_total.Goals as goal
 
 -- Nothing went out yet.
-pub returns-in_err-push_total : goal.returns-in_err-push_total
-returns-in_err-push_total g c =
+pub returns-in_err-push_total-clause-written : goal.returns-in_err-push_total-clause-written
+returns-in_err-push_total-clause-written g c =
     let p = err_from_is_err_and c.from_residual.result c.from_residual.ensures.1 in
-    rw p.1 (record { written = nothing_sent (g.W.Sink.holds c.args.sink.now) (text (total_line c.args.entries.now ∷ [])) })
+    rw p.1 (nothing_sent (g.W.Sink.holds c.args.sink.now) (text (total_line c.args.entries.now ∷ [])))

@@ -1,27 +1,26 @@
-use Rattle.std.proofs.Common.{◌≡◌, ◌+◌, ◌∷◌, [], ◌++◌, drop, subst, arith}
+use Rattle.std.proofs.Common.{◌≡◌, ◌∙◌, ◌+◌, ◌∷◌, [], ◌++◌, drop, subst, arith}
 use Rattle.std.proofs.lemmas.Result.{err_from_is_err_and}
 use Rattle.ts_model.specs.Texts.{tree_lines, tree_row_lines}
 use Rattle.ts_tree.proofs.Writing.{Wrote, begun_first, rows_step, wrote_front, wrote_more}
 use Rattle.ts_bundle.proofs.results.write_tree.Goals as goal
 
 -- A beginning of the title went out.
-pub returns-in_err-put_line : goal.returns-in_err-put_line
-returns-in_err-put_line g c =
+pub returns-in_err-put_line-clause-written : goal.returns-in_err-put_line-clause-written
+returns-in_err-put_line-clause-written g c =
     let p = err_from_is_err_and c.from_residual.result c.from_residual.ensures.1 in
-    rw p.1 (record { written = begun_first (g.W.Sink.holds c.args.sink.now) (g.W.Sink.holds c.put_line.new.sink) (c.args.title.now ∷ []) (tree_lines c.args.rows.now) c.in_err-put_line.ensures.written })
+    rw p.1 (begun_first (g.W.Sink.holds c.args.sink.now) (g.W.Sink.holds c.put_line.new.sink) (c.args.title.now ∷ []) (tree_lines c.args.rows.now) c.in_err-put_line.ensures.written)
 
 -- A beginning of this row went out.
-pub returns-in_err-write_row : goal.returns-in_err-write_row
-returns-in_err-write_row g c =
+pub returns-in_err-write_row-clause-written : goal.returns-in_err-write_row-clause-written
+returns-in_err-write_row-clause-written g c =
     let p = err_from_is_err_and c.from_residual-in_err-write_row.result c.from_residual-in_err-write_row.ensures.1 in
     let rows = c.args.rows.now in
     let i = c.loop-row.row-index in
     let row = c.row-item.result in
     let step = rows_step rows i row (omega arith) c.row-item.is in
-    rw p.1 (record {
-      written = wrote_front (g.W.Sink.holds c.args.sink.now) (g.W.Sink.holds c.loop-row.sink) (g.W.Sink.holds c.write_row.new.sink) (c.args.title.now ∷ tree_lines rows) (tree_row_lines row.path row.content) (tree_lines (drop (i + 1) rows))
-          (subst (λ z. Wrote (g.W.Sink.holds c.args.sink.now) (g.W.Sink.holds c.loop-row.sink) (c.args.title.now ∷ tree_lines rows) z) step c.loop-row.invariant) c.in_err-write_row.ensures.written;
-    })
+    rw p.1
+    (wrote_front (g.W.Sink.holds c.args.sink.now) (g.W.Sink.holds c.loop-row.sink) (g.W.Sink.holds c.write_row.new.sink) (c.args.title.now ∷ tree_lines rows) (tree_row_lines row.path row.content) (tree_lines (drop (i + 1) rows))
+    (subst (λ z. Wrote (g.W.Sink.holds c.args.sink.now) (g.W.Sink.holds c.loop-row.sink) (c.args.title.now ∷ tree_lines rows) z) step c.loop-row.invariant.wrote) c.in_err-write_row.ensures.written)
 
 pub loop-row-preserved : goal.loop-row-preserved
 loop-row-preserved g c =
@@ -29,5 +28,8 @@ loop-row-preserved g c =
     let i = c.loop-row.row-index in
     let row = c.row-item.result in
     let step = rows_step rows i row (omega arith) c.row-item.is in
-    wrote_more (g.W.Sink.holds c.args.sink.now) (g.W.Sink.holds c.loop-row.sink) (g.W.Sink.holds c.write_row.new.sink) (c.args.title.now ∷ tree_lines rows) (tree_row_lines row.path row.content) (tree_lines (drop (i + 1) rows))
-    (subst (λ z. Wrote (g.W.Sink.holds c.args.sink.now) (g.W.Sink.holds c.loop-row.sink) (c.args.title.now ∷ tree_lines rows) z) step c.loop-row.invariant) c.in_ok-write_row.ensures.written
+    record {
+      wrote = wrote_more (g.W.Sink.holds c.args.sink.now) (g.W.Sink.holds c.loop-row.sink) (g.W.Sink.holds c.write_row.new.sink) (c.args.title.now ∷ tree_lines rows) (tree_row_lines row.path row.content) (tree_lines (drop (i + 1) rows))
+          (subst (λ z. Wrote (g.W.Sink.holds c.args.sink.now) (g.W.Sink.holds c.loop-row.sink) (c.args.title.now ∷ tree_lines rows) z) step c.loop-row.invariant.wrote) c.in_ok-write_row.ensures.written;
+      failures = c.in_ok-write_row.ensures.failures ∙ c.loop-row.invariant.failures;
+    }

@@ -2,7 +2,6 @@ use Rattle.std.proofs.Common.{◌↔◌, List, IsTrue, refl, sym, subst}
 use Rattle.ts_name.specs.Paths.{Path}
 use Rattle.ts_dirty.specs.Found.{Found, IsFoundOf, LastIsAbove}
 use Rattle.ts_model.specs.Sync.{listed_snapshot}
-use Rattle.ts_dirty.proofs.Rows.{walk_less}
 use Rattle.ts_dirty.proofs.Upto.{walked_start, walked_step, walked_end}
 use Rattle.ts_dirty.proofs.detection.compare.Goals as goal
 
@@ -16,12 +15,12 @@ loop-seen-preserved c = walked_step c.args.archive.now c.args.first.now c.args.s
     c.loop-seen.walk c.next.new.self c.in-Some.seen.path.now c.in-Some.seen.archive c.in-Some.seen.first c.in-Some.seen.second
     c.loop-seen.changed_first.items c.loop-seen.changed_second.items c.loop-seen.apart.items c.loop-seen.held.items
     c.note.new.paths.items c.note-in-Some.new.paths.items c.note-in-Some-2.new.paths.items c.note-in-Some-3.new.paths.items
-    c.differ.result c.differ-in-Some.result c.differ-in-Some-2.result c.holds-is_held.result c.last_is_above-is_covered.result c.and_not.result
+    c.differ.result c.differ-in-Some.result c.differ-in-Some-2.result c.is_held-is_named.result c.last_is_above-is_covered.result c.and_not.result
     c.loop-seen.invariant c.in-Some.ensures
     c.differ.ensures c.in_ok-note.ensures
     c.differ-in-Some.ensures c.in_ok-note-2.ensures
     c.differ-in-Some-2.ensures c.in_ok-note-3.ensures
-    c.holds-is_held.ensures
+    c.is_held-is_named.ensures
     (subst (λ (ps : List Path). IsTrue c.last_is_above-is_covered.result ↔ LastIsAbove ps c.in-Some.seen.path.now) c.as_slice.ensures.value c.last_is_above-is_covered.ensures)
     c.and_not.ensures c.in_ok-note-4.ensures
 

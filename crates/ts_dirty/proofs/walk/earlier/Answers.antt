@@ -1,6 +1,6 @@
-use Rattle.std.proofs.Common.{◌≡◌, true, false, refl, sym, subst, Less, ◌∙◌}
+use Rattle.std.proofs.Common.{◌≡◌, true, false}
 use Rattle.std.specs.Ordering.{is_lt}
-use Rattle.ts_name.specs.Paths.{path_cmp, IsBefore}
+use Rattle.ts_name.specs.Paths.{path_cmp}
 use Rattle.ts_dirty.proofs.Rows.{earlier_first, earlier_best, earlier_none, Less-from_test, not_Less}
 use Rattle.ts_dirty.proofs.walk.earlier.Goals as goal
 

@@ -1,4 +1,4 @@
-use Rattle.std.proofs.Common.{◌≡◌, true, false, refl, Less, Equal, Greater, Ordering}
+use Rattle.std.proofs.Common.{◌≡◌, true, false, Equal}
 use Rattle.ts_dirty.proofs.Rows.{step_first, step_nothing, Equal-from_test, same_first, not_Equal}
 use Rattle.std.proofs.Common.{subst}
 use Rattle.ts_model.specs.declared.row.Row.{Row}

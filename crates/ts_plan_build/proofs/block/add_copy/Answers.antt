@@ -1,15 +1,31 @@
 use Rattle.std.proofs.Common.{◌≡◌, length, arith}
-use Rattle.ts_plan_build.proofs.Counting.{IfOk-map, copy_made}
+use Rattle.std.proofs.lemmas.Result.{err_from_is_err_and}
+use Rattle.ts_plan_build.proofs.Counting.{IfOk-map, IfErr-map, copy_made}
+use Rattle.ts_plan_build.proofs.Past.{past_in_rows, past_at_commit, past_at_mark}
 use Rattle.ts_plan_build.proofs.block.add_copy.Goals as goal
 
-pub returns : goal.returns
-returns c =
+pub returns-clause-added : goal.returns-clause-added
+returns-clause-added c =
     let from : c.len-from.result ≡ length c.args.actions.now.items = omega (arith, c.len-from.ensures, c.args.actions.now.ok) in
     let to : c.len-to.result ≡ length c.loop-row.actions.items = omega (arith, c.len-to.ensures, c.loop-row.actions.ok) in
     IfOk-map c.add_mark.result
-    (λ h. (
-      copy_made c.args.entry c.args.rows.now c.args.above c.loop-row.row-index c.len-from.result c.len-to.result c.in_ok-pieces.pieces.items _ _ _ _
-          c.loop-row-test.false c.loop-row.invariant.0 from to c.in_ok-pieces.ensures c.in_ok-push.ensures.0 h.0,
-      h.1,
-    ))
-    c.add_mark.ensures
+    (copy_made c.args.entry c.args.rows.now c.args.above c.loop-row.row-index c.len-from.result c.len-to.result c.in_ok-pieces.pieces.items _ _ _ _
+    c.loop-row-test.false c.loop-row.invariant.0 from to c.in_ok-pieces.ensures c.in_ok-push.ensures.added)
+    c.add_mark.ensures.added
+
+pub returns-in_err-add_file-clause-past : goal.returns-in_err-add_file-clause-past
+returns-in_err-add_file-clause-past c =
+    let p = err_from_is_err_and c.from_residual.result c.from_residual.ensures.1 in
+    rw (p.1, p.2) (λ e. past_in_rows 1048576 c.args.entry c.loop-row.row-index c.in-File.stamp.size c.args.rows.now c.row-item.result c.in-File.stamp c.args.actions.now.items c.loop-row.actions.items c.loop-row.invariant.0 c.loop-row-test.true
+    c.row-item.is c.in-File.is (c.in_err-add_file.ensures.past e))
+
+pub returns-in_err-push-clause-past : goal.returns-in_err-push-clause-past
+returns-in_err-push-clause-past c =
+    let p = err_from_is_err_and c.from_residual-in_err-push.result c.from_residual-in_err-push.ensures.1 in
+    rw (p.1, p.2) (λ e. past_at_commit 1048576 c.args.entry c.loop-row.row-index c.args.rows.now c.args.actions.now.items c.loop-row.actions.items c.loop-row.invariant.0 c.loop-row-test.false (c.in_err-push.ensures.past e))
+
+pub returns-clause-past : goal.returns-clause-past
+returns-clause-past c =
+    IfErr-map c.add_mark.result (λ fault told e. past_at_mark 1048576 c.args.entry c.loop-row.row-index c.args.rows.now _ c.args.actions.now.items c.loop-row.actions.items c.push.new.actions.items c.loop-row.invariant.0 c.loop-row-test.false
+    c.in_ok-push.ensures.added (told e))
+    c.add_mark.ensures.past

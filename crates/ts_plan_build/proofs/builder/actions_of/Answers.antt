@@ -1,7 +1,9 @@
 use Rattle.std.proofs.Common.{◌≡◌, ◌-◌, ◌<◌, List, MatchOption, length, Some, ℕ, slice_get, arith, refl, subst}
 use Rattle.std.proofs.lemmas.Option.{slice_get_read}
 use Rattle.ts_plan_build.specs.declared.builder.NewDir.{NewDir}
+use Rattle.std.proofs.lemmas.Result.{err_from_is_err_and}
 use Rattle.ts_plan_build.proofs.Dirs.{built_turn}
+use Rattle.ts_plan_build.proofs.Past.{counted_more, counted_all, past_in_entries}
 use Rattle.ts_plan_build.proofs.builder.actions_of.Goals as goal
 
 pub loop-number-preserved : goal.loop-number-preserved
@@ -12,5 +14,16 @@ loop-number-preserved c =
     c.loop-number.invariant.built c.loop-number.invariant.dirs (slice_get_read c.args.entries.now (length c.args.entries.now) c.loop-number.number c.index-entries-number.result refl c.loop-number-test.true c.index-entries-number.is)
     c.leave.ensures
     (subst (λ (z : List NewDir). MatchOption c.nearest-above.result (length z ≡ 0) (λ m. (d : NewDir) × (0 < length z) × (slice_get z (length z - 1) ≡ Some d) × (d.mark ≡ m))) c.as_slice.ensures.value c.nearest-above.ensures)
-    at c.in_ok-add_entry.ensures.0 c.in_ok-keep.ensures in
-    record { limit = c.in_ok-add_entry.ensures.1; built = turn.0; dirs = turn.1 }
+    at c.in_ok-add_entry.ensures.added c.in_ok-keep.ensures in
+    let counted = counted_more c.args.first.now c.args.second.now c.args.entries.now c.index-entries-number.result c.loop-number.number c.nearest-above.result c.loop-number.actions.items c.add_entry.new.actions.items
+    c.loop-number.invariant.counted c.loop-number-test.true c.index-entries-number.is c.in_ok-add_entry.ensures.added in
+    record { limit = c.in_ok-add_entry.ensures.limit; counted = counted; built = turn.0; dirs = turn.1 }
+
+pub returns-in_err-add_entry-clause-past : goal.returns-in_err-add_entry-clause-past
+returns-in_err-add_entry-clause-past c =
+    let p = err_from_is_err_and c.from_residual.result c.from_residual.ensures.1 in
+    rw (p.1, p.2) (λ e. past_in_entries 1048576 c.args.first.now c.args.second.now c.args.entries.now c.index-entries-number.result c.loop-number.number c.loop-number.actions.items
+    c.loop-number.invariant.counted c.loop-number-test.true c.index-entries-number.is (c.in_err-add_entry.ensures.past e))
+
+pub returns-clause-count : goal.returns-clause-count
+returns-clause-count c = counted_all c.args.first.now c.args.second.now c.args.entries.now c.loop-number.number (length c.loop-number.actions.items) c.loop-number.invariant.counted c.loop-number-test.false

@@ -5,18 +5,17 @@ use Rattle.ts_tree.proofs.Writing.{Wrote, rows_step, wrote_front, wrote_more}
 use Rattle.ts_tree.proofs.encoding.encode.Goals as goal
 
 -- A beginning of this row went out.
-pub returns-in_err-write_row : goal.returns-in_err-write_row
-returns-in_err-write_row g c =
+pub returns-in_err-write_row-clause-written : goal.returns-in_err-write_row-clause-written
+returns-in_err-write_row-clause-written g c =
     let p = err_from_is_err_and c.from_residual.result c.from_residual.ensures.1 in
     let t = c.args.tree.now in
     let i = c.loop-row.row-index in
     let row = c.row-item.result in
     let rows = c.rows-row-items.ensures.rows in
     let step = rows_step t i row (omega (arith, ap length rows)) (c.row-item.is ∙ ap (λ z. get_or z i row) rows) in
-    rw p.1 (record {
-      written = wrote_front (g.W.Sink.holds c.args.sink.now) (g.W.Sink.holds c.loop-row.sink) (g.W.Sink.holds c.write_row.new.sink) (tree_lines t) (tree_row_lines row.path row.content) (tree_lines (drop (i + 1) t))
-          (subst (λ z. Wrote (g.W.Sink.holds c.args.sink.now) (g.W.Sink.holds c.loop-row.sink) (tree_lines t) z) step c.loop-row.invariant) c.in_err-write_row.ensures.written;
-    })
+    rw p.1
+    (wrote_front (g.W.Sink.holds c.args.sink.now) (g.W.Sink.holds c.loop-row.sink) (g.W.Sink.holds c.write_row.new.sink) (tree_lines t) (tree_row_lines row.path row.content) (tree_lines (drop (i + 1) t))
+    (subst (λ z. Wrote (g.W.Sink.holds c.args.sink.now) (g.W.Sink.holds c.loop-row.sink) (tree_lines t) z) step c.loop-row.invariant.wrote) c.in_err-write_row.ensures.written)
 
 pub loop-row-preserved : goal.loop-row-preserved
 loop-row-preserved g c =
@@ -25,5 +24,8 @@ loop-row-preserved g c =
     let row = c.row-item.result in
     let rows = c.rows-row-items.ensures.rows in
     let step = rows_step t i row (omega (arith, ap length rows)) (c.row-item.is ∙ ap (λ z. get_or z i row) rows) in
-    wrote_more (g.W.Sink.holds c.args.sink.now) (g.W.Sink.holds c.loop-row.sink) (g.W.Sink.holds c.write_row.new.sink) (tree_lines t) (tree_row_lines row.path row.content) (tree_lines (drop (i + 1) t))
-    (subst (λ z. Wrote (g.W.Sink.holds c.args.sink.now) (g.W.Sink.holds c.loop-row.sink) (tree_lines t) z) step c.loop-row.invariant) c.in_ok-write_row.ensures.written
+    record {
+      wrote = wrote_more (g.W.Sink.holds c.args.sink.now) (g.W.Sink.holds c.loop-row.sink) (g.W.Sink.holds c.write_row.new.sink) (tree_lines t) (tree_row_lines row.path row.content) (tree_lines (drop (i + 1) t))
+          (subst (λ z. Wrote (g.W.Sink.holds c.args.sink.now) (g.W.Sink.holds c.loop-row.sink) (tree_lines t) z) step c.loop-row.invariant.wrote) c.in_ok-write_row.ensures.written;
+      failures = c.in_ok-write_row.ensures.failures ∙ c.loop-row.invariant.failures;
+    }

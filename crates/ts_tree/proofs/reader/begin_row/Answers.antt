@@ -15,7 +15,7 @@ returns-in_err-path-clause-refused c =
     (no_head c.args.tree c.args.line.now c.requires) c.in_err-path.ensures.refused)
 
 -- Nor does one whose path may not.
-pub returns-then-not-branch-clause-refused : goal.returns-then-not-branch-clause-refused
-returns-then-not-branch-clause-refused c =
+pub returns-then-not-may_push-clause-refused : goal.returns-then-not-may_push-clause-refused
+returns-then-not-may_push-clause-refused c =
     let row = c.in_ok-path.ensures.found in
-    no_room c.args.tree c.args.line.now c.in_ok-path.path c.in_ok-path.head c.requires row.0 row.1 row.2 (c.in_ok-can_push.ensures.no (ap Ok c.if-not-branch.true))
+    no_room c.args.tree c.args.line.now c.in_ok-path.path c.in_ok-path.head c.requires row.0 row.1 row.2 (c.may_push.ensures.no c.if-not-may_push.true)

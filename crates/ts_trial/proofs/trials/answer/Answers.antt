@@ -8,26 +8,24 @@ use Rattle.ts_trial.proofs.Answering.{nothing_written, one_written, refused, tol
 use Rattle.ts_trial.proofs.trials.answer.Goals as goal
 
 -- Nothing went out yet.
-pub returns-in_err-first : goal.returns-in_err-first
-returns-in_err-first g c =
+pub returns-in_err-first-clause-answered : goal.returns-in_err-first-clause-answered
+returns-in_err-first-clause-answered g c =
     let p = err_from_is_err_and c.from_residual.result c.from_residual.ensures.1 in
-    rw p.1 (record { answered = λ apart. nothing_written {E = ℕ} (values c.args.bundle.now) (g.W.Sink.holds c.args.writer.now) c.requires apart 0 })
+    rw p.1 (λ apart. nothing_written {E = ℕ} (values c.args.bundle.now) (g.W.Sink.holds c.args.writer.now) c.requires apart 0)
 
-pub returns-in_err-second : goal.returns-in_err-second
-returns-in_err-second g c =
+pub returns-in_err-second-clause-answered : goal.returns-in_err-second-clause-answered
+returns-in_err-second-clause-answered g c =
     let p = err_from_is_err_and c.from_residual-in_err-second.result c.from_residual-in_err-second.ensures.1 in
-    rw p.1 (record { answered = λ apart. nothing_written {E = ℕ} (values c.args.bundle.now) (g.W.Sink.holds c.args.writer.now) c.requires apart 0 })
+    rw p.1 (λ apart. nothing_written {E = ℕ} (values c.args.bundle.now) (g.W.Sink.holds c.args.writer.now) c.requires apart 0)
 
 -- The plan was refused.
-pub returns-in-Err-Broken : goal.returns-in-Err-Broken
-returns-in-Err-Broken g c = record {
-  answered = λ apart.
+pub returns-in-Err-Broken-clause-answered : goal.returns-in-Err-Broken-clause-answered
+returns-in-Err-Broken-clause-answered g c = λ apart.
       one_written (AnswersBundle (values c.args.bundle.now)) (g.W.Sink.holds c.args.writer.now) (g.W.Sink.holds c.refuse_plan.new.writer) (text (refusal c.in-Err-Broken.rule c.in-Err-Broken.place ∷ [])) 3 c.refuse_plan.result
       (refused (values c.args.bundle.now) c.in_ok-first.first c.in_ok-second.second c.in-Err-Broken.rule c.in-Err-Broken.place c.in_ok-first.ensures.print c.in_ok-second.ensures.print
       (told_broken (listed_snapshot c.args.bundle.now.archive c.in_ok-first.first c.in_ok-second.second c.args.bundle.now.holds) c.args.bundle.now.plan c.check.result c.in-Err-Broken.field-0 c.in-Err-Broken.rule c.in-Err-Broken.place
       c.check.ensures.told c.in-Err-Broken.is c.in-Err-Broken.field-0-is))
-      c.refuse_plan.ensures.written c.refuse_plan.ensures.status;
-}
+      c.refuse_plan.ensures.written c.refuse_plan.ensures.status
 
-pub returns : goal.returns
-returns g c = record { answered = λ apart. nothing_written {E = ℕ} (values c.args.bundle.now) (g.W.Sink.holds c.args.writer.now) c.requires apart 0 }
+pub returns-clause-answered : goal.returns-clause-answered
+returns-clause-answered g c = λ apart. nothing_written {E = ℕ} (values c.args.bundle.now) (g.W.Sink.holds c.args.writer.now) c.requires apart 0

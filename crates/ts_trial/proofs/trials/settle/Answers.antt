@@ -10,20 +10,19 @@ use Rattle.ts_trial.proofs.Answering.{nothing_written, same_text, settled}
 use Rattle.ts_trial.proofs.trials.settle.Goals as goal
 
 -- Nothing went out yet.
-pub returns-in_err-outcome : goal.returns-in_err-outcome
-returns-in_err-outcome g c =
+pub returns-in_err-outcome-clause-answered : goal.returns-in_err-outcome-clause-answered
+returns-in_err-outcome-clause-answered g c =
     let p = err_from_is_err_and c.from_residual.result c.from_residual.ensures.1 in
-    rw p.1 (record { answered = λ apart. nothing_written {E = ℕ} (values c.args.bundle.now) (g.W.Sink.holds c.args.writer.now) c.requires.bundle apart 0 })
+    rw p.1 (λ apart. nothing_written {E = ℕ} (values c.args.bundle.now) (g.W.Sink.holds c.args.writer.now) c.requires.bundle apart 0)
 
 -- A beginning of the result went out.
-pub returns-in_err-write_result : goal.returns-in_err-write_result
-returns-in_err-write_result g c =
+pub returns-in_err-write_result-clause-answered : goal.returns-in_err-write_result-clause-answered
+returns-in_err-write_result-clause-answered g c =
     let p = err_from_is_err_and c.from_residual-in_err-write_result.result c.from_residual-in_err-write_result.ensures.1 in
     let o = c.in_ok-outcome.outcome in
     let e = c.in_ok-outcome.ensures in
     let b = c.args.bundle.now in
-    rw p.1 (record {
-      answered = λ apart. (
+    rw p.1 (λ apart. (
         _,
         _,
         settled (values b) c.requires.bundle apart c.args.first.now c.args.second.now c.requires.first c.requires.second c.requires.valid o.first o.second o.archive e.lawful.0 e.lawful.1 e.lawful.2
@@ -32,17 +31,15 @@ returns-in_err-write_result g c =
             (same_text c.rows.result.now o.first c.rows-2.result.now o.second c.rows-3.result.now o.archive c.as_slice-entries.result.now b.plan.entries
             c.rows.ensures.rows c.rows-2.ensures.rows c.rows-3.ensures.rows c.as_slice-entries.ensures)
             c.in_err-write_result.ensures.written,
-      );
-    })
+      ))
 
 -- The result went out.
-pub returns : goal.returns
-returns g c =
+pub returns-clause-answered : goal.returns-clause-answered
+returns-clause-answered g c =
     let o = c.in_ok-outcome.outcome in
     let e = c.in_ok-outcome.ensures in
     let b = c.args.bundle.now in
-    record {
-      answered = λ apart. (
+    λ apart. (
         text (result_lines o.first o.second o.archive b.plan.entries),
         subst (λ n. AnswersBundle (values b) (text (result_lines o.first o.second o.archive b.plan.entries)) n) (sym (c.exit_status.ensures ∙ ap (λ z. min 1 (skipped_count z)) c.as_slice-entries.ensures))
             (settled (values b) c.requires.bundle apart c.args.first.now c.args.second.now c.requires.first c.requires.second c.requires.valid o.first o.second o.archive e.lawful.0 e.lawful.1 e.lawful.2
@@ -51,5 +48,4 @@ returns g c =
             (same_text c.rows.result.now o.first c.rows-2.result.now o.second c.rows-3.result.now o.archive c.as_slice-entries.result.now b.plan.entries
             c.rows.ensures.rows c.rows-2.ensures.rows c.rows-3.ensures.rows c.as_slice-entries.ensures)
             c.in_ok-write_result.ensures.written,
-      );
-    }
+      )

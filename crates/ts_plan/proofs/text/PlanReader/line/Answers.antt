@@ -1,7 +1,7 @@
 use Rattle.std.proofs.Common.{subst}
 use Rattle.ts_plan.specs.Reading.{IsProgress}
 use Rattle.ts_plan.proofs.Texts.{fed_short}
-use Rattle.ts_plan.proofs.Turns.{line_refused, line_taken}
+use Rattle.ts_plan.proofs.Turns.{begun, line_refused, line_taken}
 use Rattle.ts_plan.proofs.text.PlanReader.line.Goals as goal
 
 pub returns-in-Ok-clause-reads : goal.returns-in-Ok-clause-reads
@@ -20,3 +20,9 @@ returns-in-Err-clause-reads c =
 
 pub returns-in-Err-clause-short : goal.returns-in-Err-clause-short
 returns-in-Err-clause-short c = fed_short c.args.self.now (subst (λ p. IsProgress p) c.self.view_is c.self.invariant.0)
+
+pub returns-in-Ok-clause-begun : goal.returns-in-Ok-clause-begun
+returns-in-Ok-clause-begun c = begun c.take-taken.new.self (subst (λ p. IsProgress p) c.self-in-Ok.view_is c.self-in-Ok.invariant.0)
+
+pub returns-in-Err-clause-begun : goal.returns-in-Err-clause-begun
+returns-in-Err-clause-begun c = begun c.args.self.now (subst (λ p. IsProgress p) c.self.view_is c.self.invariant.0)

@@ -13,8 +13,8 @@ returns-in_err-row-clause-refused c =
     (λ none. subst (λ z. BeginsNoPrint (z ++ c.args.line.now ∷ [])) c.self.view_is (no_row_next c.self.inside.print c.args.line.now c.self.invariant none)) c.in_err-row.ensures.refused)
 
 -- Nor does one whose path may not.
-pub returns-then-not-branch-clause-refused : goal.returns-then-not-branch-clause-refused
-returns-then-not-branch-clause-refused c =
+pub returns-then-not-can_push-clause-refused : goal.returns-then-not-can_push-clause-refused
+returns-then-not-can_push-clause-refused c =
     let row = c.in_ok-row.row in
     subst (λ z. BeginsNoPrint (z ++ c.args.line.now ∷ [])) c.self.view_is
-    (no_room c.self.inside.print c.args.line.now row.path row.content c.self.invariant c.in_ok-row.ensures.found.0 c.in_ok-row.ensures.found.1 (c.in_ok-can_push.ensures.no (ap Ok c.if-not-branch.true)))
+    (no_room c.self.inside.print c.args.line.now row.path row.content c.self.invariant c.in_ok-row.ensures.found.0 c.in_ok-row.ensures.found.1 (c.can_push.ensures.no c.if-not-can_push.true))

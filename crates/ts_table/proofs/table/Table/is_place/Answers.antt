@@ -1,32 +1,26 @@
-use Rattle.std.proofs.Common.{refl, sym, ◌∙◌, ap, inl, inr}
-use Rattle.std.proofs.lemmas.Bool.{false≢true}
+use Rattle.std.proofs.Common.{◌↔◌, ◌≤◌, length, IsTrue, take, rules}
+use Rattle.std.proofs.lemmas.List.Sorted.{IsPartitionPoint-from_clause}
+use Rattle.std.specs.List.Sorted.{IsPartitionPoint}
+use Rattle.std.specs.Ordering.{is_lt}
 use Rattle.ts_model.specs.Trees.{at}
-use Rattle.ts_table.specs.Tables.{seen}
-use Rattle.ts_table.proofs.Paths.{same_parent, snoc_not_empty}
+use Rattle.ts_name.specs.Paths.{path_cmp}
+use Rattle.ts_table.proofs.Found.{before_parts}
+use Rattle.ts_table.proofs.Places.{front_lists, front_before, place_in_front}
 use Rattle.ts_table.proofs.table.Table.is_place.Goals as goal
+use Rattle.ts_table.proofs.table.Table.is_place.Given.{Over}
+use Rattle.ts_table.proofs.table.Table.is_place.Goals.{After-is_place_after}
 
-pub returns-in_default-clause-ok : goal.returns-in_default-clause-ok
-returns-in_default-clause-ok g c = ((λ t. absurd (false≢true t)), (λ place. absurd (place.not_root (rw c.in_default.is at c.in_ok-parent.ensures.value))))
+pub is_place_after-requires-clause-listing : goal.is_place_after-requires-clause-listing
+is_place_after-requires-clause-listing g c = rw c.deref-2.ensures.value (front_lists c.self.inside.rows.items c.partition_point-start.result c.self.invariant)
 
-pub returns-in-Dir-clause-ok : goal.returns-in-Dir-clause-ok
-returns-in-Dir-clause-ok g c =
-    let above = rw c.in-Some.is at c.in_ok-parent.ensures.value in
-    let dir = sym c.get.ensures ∙ ap seen c.in-Dir.is in (
-      (λ t. record {
-        not_root = λ root. snoc_not_empty c.in-Some.parent above.0 (sym above.1 ∙ root);
-        parent = λ q name is. ap (at c.args.self.now) (same_parent q c.in-Some.parent name above.0 (sym is ∙ above.1)) ∙ dir;
-      }),
-      (λ place. refl),
-    )
+pub is_place_after-requires-clause-after : goal.is_place_after-requires-clause-after
+is_place_after-requires-clause-after g c =
+    let first = IsPartitionPoint-from_clause (λ row. is_lt (path_cmp row.path c.args.path.now)) c.deref.result.now c.partition_point-start.result c.partition_point-start.ensures.partitioned (rw c.deref.ensures.value (before_parts c.self.inside.rows.items c.args.path.now c.self.invariant.ascending)) (λ a r f k. search rules) in
+    rw c.deref-2.ensures.value (front_before c.self.inside.rows.items c.args.path.now c.partition_point-start.result (rw c.deref.ensures.value at c.partition_point-start.ensures.bound) (rw c.deref.ensures.value at first))
 
-pub returns-clause-ok : goal.returns-clause-ok
-returns-clause-ok g c =
-    let above = rw c.in-Some.is at c.in_ok-parent.ensures.value in (
-      (λ t. absurd (false≢true t)),
-      (λ place.
-          let dir = place.parent c.in-Some.parent above.0 above.1 in
-          elim c.in-Absent.is [
-            | inl absent ↦ (let f = sym (ap seen absent) ∙ c.get.ensures ∙ dir in cc)
-            | inr file ↦ (let f = sym (ap seen file.1) ∙ c.get.ensures ∙ dir in cc)
-          ]),
-    )
+pub returns : goal.returns
+returns g c =
+    let first = IsPartitionPoint-from_clause (λ row. is_lt (path_cmp row.path c.args.path.now)) c.deref.result.now c.partition_point-start.result c.partition_point-start.ensures.partitioned (rw c.deref.ensures.value (before_parts c.self.inside.rows.items c.args.path.now c.self.invariant.ascending)) (λ a r f k. search rules) in
+    let same = place_in_front c.self.inside.rows.items c.args.path.now c.partition_point-start.result c.self.invariant (rw c.deref.ensures.value at c.partition_point-start.ensures.bound) (rw c.deref.ensures.value at first) in
+    let tested = rw c.deref-2.ensures.value at c.is_place_after.ensures in
+    rw (← c.self.view_is) ((λ t. same.0 (tested.0 t)), (λ place. tested.1 (same.1 place)))

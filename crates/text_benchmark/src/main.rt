@@ -1,0 +1,186 @@
+//! Writes and reads large texts: the archive of many paths, and plans with four predecessors for each action. Without
+//! an argument it does a few of each and says what it found; after the word `archive` or `plan` comes a number of
+//! paths or of actions, and then it also says how long that took and how much memory.
+#![tactic(auto)]
+
+use anyhow::{Context, Result, bail};
+use std::alloc::Global;
+use std::rt::{Clock, Env, Files};
+use std::time::{Duration, Instant};
+use std::{env, fs};
+use ts_name::Path;
+use ts_plan::PlanReader;
+use ts_print::PrintReader;
+use ts_text::{Counted, Lines};
+
+/// How many paths and actions there are where no number is given.
+const FEW: u32 = 2_000;
+
+/// How many paths a directory takes up, its own among them.
+const IN_ONE: u32 = 50;
+
+/// How many actions there are for one entry.
+const FOR_ONE_ENTRY: u32 = 4;
+
+/// What writing a text and reading it again took.
+#[derive(Drop)]
+struct Measured {
+    bytes: usize,
+    is_same: bool,
+    written: Duration,
+    read: Duration,
+    /// How many KiB more the process held after reading, where the system tells it.
+    held: Option<u64>,
+}
+
+/// A print of so many paths: directories of 49 files each.
+fn print_of(alloc: Global, paths: u32) -> Result<ts_print::Print> {
+    let mut reader = PrintReader::new(alloc);
+    for number in 0..paths {
+        let (dir, file) = (number / IN_ONE, number % IN_ONE);
+        let line = if file == 0 {
+            format!(in alloc; "d /directory{dir:08}")?
+        } else {
+            format!(in alloc; "f /directory{dir:08}/file{file:02} 1000 {number:064}")?
+        };
+        reader.line(alloc, line.as_bytes())?;
+    }
+    Ok(reader.finish()?)
+}
+
+/// The text of a plan of so many actions, each with four predecessors.
+fn plan_text(alloc: Global, actions: u32) -> Result<Vec<u8>> {
+    let mut text = Vec::new(alloc);
+    text.extend_from_slice(b"twosync-plan 1\n")?;
+    let entries = actions / FOR_ONE_ENTRY;
+    for entry in 0..entries {
+        let line = format!(in alloc; "entry first /directory/file{entry:08}\n")?;
+        text.extend_from_slice(line.as_bytes())?;
+    }
+    for action in 0..actions {
+        let entry = action / FOR_ONE_ENTRY;
+        let line = format!(in alloc; "mark {entry}\np 0\np 1\np 2\np 3\n")?;
+        text.extend_from_slice(line.as_bytes())?;
+    }
+    let end = format!(in alloc; "end {entries} {actions}\n")?;
+    text.extend_from_slice(end.as_bytes())?;
+    Ok(text)
+}
+
+/// How many KiB the process holds, where the system tells it.
+fn held<R: Files + AllocGlobal>(rt: &R) -> Option<u64> {
+    let status = fs::read_to_string(rt, "/proc/self/status").ok()?;
+    let line = status
+        .as_str()
+        .lines()
+        .find(|line| line.starts_with("VmRSS:"))?;
+    line.split_whitespace().nth(1)?.parse::<u64>().ok()
+}
+
+/// How many KiB more there are now.
+fn more(before: Option<u64>, after: Option<u64>) -> Option<u64> {
+    Some(after?.saturating_sub(before?))
+}
+
+/// Writes and reads the archive of so many paths.
+fn archive<R: Clock + Files + AllocGlobal>(rt: &R, paths: u32) -> Result<Measured> {
+    let alloc = rt.alloc();
+    let print = print_of(alloc, paths)?;
+    let mut sink = Counted::new(Vec::new(alloc));
+    let start = Instant::now(rt)?;
+    ts_archive::encode(alloc, &print, &mut sink)?;
+    let written = start.elapsed(rt)?;
+    let text = sink.into_inner();
+    let before = held(rt);
+    let start = Instant::now(rt)?;
+    let mut lines = Lines::new(alloc, Counted::new(text.as_slice()))?;
+    let again = ts_archive::decode(alloc, &mut lines)?;
+    let read = start.elapsed(rt)?;
+    Ok(Measured {
+        bytes: text.len(),
+        is_same: again.sub_eq(&print, &Path::root(alloc)),
+        written,
+        read,
+        held: more(before, held(rt)),
+    })
+}
+
+/// Reads and writes a plan of so many actions.
+fn plan<R: Clock + Files + AllocGlobal>(rt: &R, actions: u32) -> Result<Measured> {
+    let alloc = rt.alloc();
+    let text = plan_text(alloc, actions)?;
+    let before = held(rt);
+    let start = Instant::now(rt)?;
+    let mut lines = Lines::new(alloc, Counted::new(text.as_slice()))?;
+    let plan = ts_plan::decode(alloc, &mut lines)?;
+    let read = start.elapsed(rt)?;
+    let after = held(rt);
+    let mut sink = Counted::new(Vec::new(alloc));
+    let start = Instant::now(rt)?;
+    ts_plan::encode(alloc, &plan, &mut sink)?;
+    let written = start.elapsed(rt)?;
+    let again = sink.into_inner();
+    Ok(Measured {
+        bytes: text.len(),
+        is_same: again.as_slice() == text.as_slice(),
+        written,
+        read,
+        held: more(before, after),
+    })
+}
+
+/// What is asked for.
+#[derive(Drop)]
+enum Asked {
+    /// A few of each.
+    Nothing,
+    Archive(u32),
+    Plan(u32),
+}
+
+/// What the words ask for.
+fn wanted<R: Env + AllocGlobal>(rt: &R) -> Result<Asked> {
+    let mut words = env::args(rt)?.skip(1);
+    let Some(kind) = words.next() else {
+        return Ok(Asked::Nothing);
+    };
+    let Some(number) = words.next() else {
+        bail!("a number is missing");
+    };
+    let number = number.as_str().parse::<u32>().context("reading a number")?;
+    match kind.as_str() {
+        "archive" => Ok(Asked::Archive(number)),
+        "plan" => Ok(Asked::Plan(number)),
+        _ => bail!("neither archive nor plan"),
+    }
+}
+
+/// Says what was found, and in one more line, where it is asked for, what it took.
+fn tell(rt: &impl Print, title: &str, measured: &Measured, is_asked: bool) -> Result<()> {
+    let verdict = if measured.is_same {
+        "read and written alike"
+    } else {
+        "NOT ALIKE"
+    };
+    let bytes = measured.bytes;
+    println!(rt; "{title}: {bytes} bytes, {verdict}")?;
+    if is_asked {
+        let (written, read) = (measured.written.as_millis(), measured.read.as_millis());
+        println!(rt; "written in {written} ms, read in {read} ms")?;
+        if let Some(held) = measured.held {
+            println!(rt; "held {held} KiB more after reading")?;
+        }
+    }
+    Ok(())
+}
+
+fn main(rt: HostRuntime) -> Result<()> {
+    match wanted(&rt)? {
+        Asked::Nothing => {
+            tell(&rt, "archive", &archive(&rt, FEW)?, false)?;
+            tell(&rt, "plan", &plan(&rt, FEW)?, false)
+        }
+        Asked::Archive(paths) => tell(&rt, "archive", &archive(&rt, paths)?, true),
+        Asked::Plan(actions) => tell(&rt, "plan", &plan(&rt, actions)?, true),
+    }
+}

@@ -1,0 +1,6 @@
+pub mod Terms
+pub mod Keys
+pub mod Runs
+pub mod Kept
+pub mod Calls
+pub mod Checks

@@ -1,0 +1,59 @@
+//! Sites go into the slots of their commits, and come back where the board can't be opened.
+ghost use Rattle.std.specs.Prelude.{ℕ, List, ◌≡◌, ◌≤◌, ◌<◌, ◌+◌, ◌∷◌, ◌++◌, [], IfOk, IfErr, length};
+ghost use Rattle.std.specs.Vec.Iter.{into_iter_items, into_iter_len};
+ghost use Rattle.std.specs.Vec.{vec_capacity, vec_len};
+ghost use Rattle.ts_model.specs.declared.plan.Action.{Action};
+ghost use Rattle.ts_board.specs.Terms.{placed, sites_in};
+
+use crate::law::Slot;
+use std::alloc::Global;
+use std::vec::IntoIter;
+use ts_model::plan::{Action, Kind, Plan};
+
+/// The slot of an action at the start: that of a commit has the next site.
+fn slot_for<S: Drop>(action: &Action, sites: &mut IntoIter<S>) -> Slot<S>
+    ensures { (more : List Action) → placed (action.now ∷ more) (into_iter_items sites.old) ≡ result ∷ placed more (into_iter_items sites.new) }
+{
+    match &action.kind {
+        Kind::Commit { .. } => match sites.next() {
+            Some(site) => Slot::Place(site),
+            None => Slot::Empty,
+        },
+        Kind::Piece { .. } => Slot::Empty,
+        Kind::Mark { .. } => Slot::Empty,
+    }
+}
+
+/// A slot for each action, with the sites in those of the commits.
+pub fn slots_with<S: Drop>(
+    alloc: Global,
+    plan: &Plan,
+    sites: Vec<S>,
+) -> Result<Vec<Slot<S>>, Vec<S>>
+    ensures placed { IfOk result (λ slots. slots.items ≡ placed plan.now.actions sites.items) }
+    ensures back { IfErr result (λ back. back.items ≡ sites.items) }
+{
+    let actions = plan.actions.as_slice();
+    let Ok(mut slots) = Vec::with_capacity(alloc, actions.len()) else {
+        return Err(sites);
+    };
+    let mut rest = sites.into_iter();
+    for action in actions {
+        let slot = slot_for(action, &mut rest);
+        slots.push_reserved(slot);
+    }
+    Ok(slots)
+}
+
+/// The sites in the slots, at the end of a list that has room for them.
+pub fn sites_from<S: Drop>(slots: Vec<Slot<S>>, mut back: Vec<S>) -> Vec<S>
+    requires { vec_len back + length (sites_in slots.items) ≤ vec_capacity back }
+    ensures { result.items ≡ back.items ++ sites_in slots.items }
+{
+    for slot in slots {
+        if let Some(site) = slot.into_site() {
+            back.push_reserved(site);
+        }
+    }
+    back
+}

@@ -1,0 +1,64 @@
+use Rattle.std.proofs.Common.{rules, ◌≡◌, ◌≢◌, ◌≤◌, ℕ, List, Option, length, IfErr, IfOk, IfSome, ◌+◌, ◌-◌, ◌*◌, ◌<◌, sym, subst, take, drop, vec_len, arith}
+use Rattle.std.proofs.lemmas.Option.{IfSome_then}
+use Rattle.ts_folder.specs.Folders.{Fills, IsFile, MayAnswer, Reads}
+use Rattle.ts_model.specs.Texts.{IsTreeBody}
+use Rattle.ts_model.specs.Trees.{at}
+use Rattle.ts_folder.proofs.Ranges.{IsStep, reads_nothing, step_reads, step_ends, ends_there}
+use Rattle.ts_folder.proofs.folder.Folder.read.Goals as goal
+
+pub loop-bytes-init : goal.loop-bytes-init
+loop-bytes-init g c = rw c.new-bytes.ensures.items (c.in_ok-file.ensures.opened, omega arith, IfSome_then _ c.in_ok-file.ensures.told (λ rows file. reads_nothing (at rows c.args.path.now) c.args.offset file))
+
+pub returns-in_default-clause-told : goal.returns-in_default-clause-told
+returns-in_default-clause-told g c =
+    let size : c.len-start.result ≡ length c.loop-bytes.bytes.items = omega (arith, c.len-start.ensures, c.loop-bytes.bytes.ok.0) in
+    ends_there (g.Self.Folder.tells c.args.self.now) c.args.path.now c.args.offset c.args.len c.loop-bytes.bytes.items (omega (arith, c.in_default.ensures, size)) c.ranges.offset.fits c.in_ok-file.ensures.lawful c.loop-bytes.invariant.2
+
+pub loop-bytes-preserved : goal.loop-bytes-preserved
+loop-bytes-preserved g c =
+    let start = c.len-start.result in
+    let n = c.in_ok-count.count in
+    let room = c.min-room.result in
+    let old = c.loop-bytes.bytes.items in
+    let made = c.resize.new.self.items in
+    let new = c.fill_behind.new.bytes.items in
+    let cut = c.truncate.new.self.items in
+    let step : IsStep c.args.offset c.in-Some.at start room n old made new cut = record {
+      full = omega (arith, c.len-start.ensures, c.loop-bytes.bytes.ok.0);
+      place_is = c.in-Some.ensures.1;
+      extra = start + room - vec_len c.loop-bytes.bytes;
+      made_is = c.in_ok-resize.ensures.items;
+      kept = c.in_ok-count.ensures.before;
+      size = omega (arith, c.in_ok-count.ensures.len, c.in_ok-resize.ensures.len, c.fill_behind.new.bytes.ok.0);
+      within = omega (arith, c.in_ok-count.ensures.bound, c.in_ok-resize.ensures.len);
+      cut_is = c.truncate.ensures.items;
+    } in
+    let piece = subst (λ m. IfSome (g.Self.Folder.tells c.args.self.now) (λ rows. Reads (at rows c.args.path.now) c.in-Some.at m (take n (drop start new)))) (let e : vec_len c.resize.new.self - start ≡ room = omega (arith, c.in_ok-resize.ensures.len) in e) (c.in_ok-count.ensures.told c.args.path.now c.loop-bytes.invariant.0) in
+    (c.in_ok-count.ensures.opened c.args.path.now c.loop-bytes.invariant.0, omega (arith, c.truncate.ensures.len, c.truncate.new.self.ok.0, step.within, c.min-room.ensures, c.loop-bytes-test.true, c.len.ensures, c.len-start.ensures), step_reads (g.Self.Folder.tells c.args.self.now) c.args.path.now c.args.offset c.in-Some.at start room n old made new cut step c.loop-bytes.invariant.2 piece)
+
+pub returns-then-count-room-clause-told : goal.returns-then-count-room-clause-told
+returns-then-count-room-clause-told g c =
+    let start = c.len-start.result in
+    let n = c.in_ok-count.count in
+    let room = c.min-room.result in
+    let old = c.loop-bytes.bytes.items in
+    let made = c.resize.new.self.items in
+    let new = c.fill_behind.new.bytes.items in
+    let cut = c.truncate.new.self.items in
+    let step : IsStep c.args.offset c.in-Some.at start room n old made new cut = record {
+      full = omega (arith, c.len-start.ensures, c.loop-bytes.bytes.ok.0);
+      place_is = c.in-Some.ensures.1;
+      extra = start + room - vec_len c.loop-bytes.bytes;
+      made_is = c.in_ok-resize.ensures.items;
+      kept = c.in_ok-count.ensures.before;
+      size = omega (arith, c.in_ok-count.ensures.len, c.in_ok-resize.ensures.len, c.fill_behind.new.bytes.ok.0);
+      within = omega (arith, c.in_ok-count.ensures.bound, c.in_ok-resize.ensures.len);
+      cut_is = c.truncate.ensures.items;
+    } in
+    let piece = subst (λ m. IfSome (g.Self.Folder.tells c.args.self.now) (λ rows. Reads (at rows c.args.path.now) c.in-Some.at m (take n (drop start new)))) (let e : vec_len c.resize.new.self - start ≡ room = omega (arith, c.in_ok-resize.ensures.len) in e) (c.in_ok-count.ensures.told c.args.path.now c.loop-bytes.invariant.0) in
+    step_ends (g.Self.Folder.tells c.args.self.now) c.args.path.now c.args.offset c.in-Some.at start room n c.args.len old made new cut step c.if-count-room.true (omega (arith, c.min-room.ensures, c.loop-bytes-test.true, c.len.ensures, c.len-start.ensures)) c.loop-bytes.invariant.2 piece
+
+pub returns-clause-told : goal.returns-clause-told
+returns-clause-told g c =
+    let size : length c.loop-bytes.bytes.items ≡ c.args.len = omega (arith, c.loop-bytes-test.false, c.loop-bytes.invariant.1, c.len.ensures, c.loop-bytes.bytes.ok.0) in
+    rw (sym size) c.loop-bytes.invariant.2

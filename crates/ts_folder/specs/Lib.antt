@@ -1,0 +1,4 @@
+pub mod Faults
+pub mod Folders
+pub mod Children
+pub mod Faulty

@@ -1,0 +1,233 @@
+//! A folder on a disk.
+ghost use Rattle.std.specs.Prelude.{◌↔◌, ◌≤◌, length, IfOk, IsTrue};
+ghost use Rattle.ts_folder.specs.Folders.{InOrder};
+
+use crate::fault::FolderFault;
+use crate::folder::{Folder, Kind};
+use percent_encoding::percent_decode;
+use std::alloc::Global;
+use std::cmp::Ordering;
+use std::fs::{DirEntry, FileType, Files};
+use std::io::{ErrorKind, Read, Seek, SeekFrom};
+use std::{fs, io};
+use ts_name::{Name, NameFault, Path};
+
+/// The name in the root that belongs to the program itself.
+const OWN: &str = ".twosync";
+
+/// A directory of the file system and what is below it, by the leave to use files that it keeps.
+///
+/// No link is followed: before each call it is looked at what stands at the path and above it. Whoever puts a link there
+/// between the look and the call is followed. `.twosync` in the root is left out.
+#[derive(Drop)]
+pub struct DiskFolder<R> {
+    files: R,
+    root: String,
+}
+
+impl<R> DiskFolder<R> {
+    /// The folder at a directory of the file system. Nothing is looked at yet.
+    pub fn new(alloc: Global, files: R, root: &str) -> Result<DiskFolder<R>, FolderFault>
+    where
+        R: Drop,
+    {
+        let root = String::from_str(alloc, root)?;
+        Ok(DiskFolder { files, root })
+    }
+}
+
+impl<R: Files + AllocGlobal + Clone + Drop + Sync> Folder for DiskFolder<R> {
+    ghost use Rattle.std.specs.Prelude.{None};
+
+    type File = R::File;
+
+    ghost tells = { λ _. None };
+
+    ghost lets = { λ _ _ _ _. Unit {0} };
+
+    ghost is_open = { λ _ _ _. Unit {0} };
+
+    fn list(&self, alloc: Global, path: &Path) -> Result<Vec<(Name, Kind)>, FolderFault> {
+        let spelled = spell(alloc, self.root.as_str(), path)?;
+        look_above(&self.files, spelled.as_str(), self.root.len())?;
+        if kind_at(&self.files, spelled.as_str())? == Kind::File {
+            return Err(FolderFault::NotThere);
+        }
+        let mut names = read_names(alloc, &self.files, spelled.as_str(), path.is_root())?;
+        names.sort_unstable_by(|one, other| one.0.cmp(&other.0));
+        if is_in_order(&names) {
+            Ok(names)
+        } else {
+            Err(FolderFault::Device)
+        }
+    }
+
+    fn open_file(&self, alloc: Global, path: &Path) -> Result<R::File, FolderFault> {
+        let spelled = spell(alloc, self.root.as_str(), path)?;
+        look_above(&self.files, spelled.as_str(), self.root.len())?;
+        if kind_at(&self.files, spelled.as_str())? == Kind::Dir {
+            return Err(FolderFault::NotThere);
+        }
+        match fs::open(&self.files, spelled.as_str()) {
+            Ok(file) => Ok(file),
+            Err(e) => Err(fault_of(&e)),
+        }
+    }
+
+    fn fill(
+        &self,
+        file: &mut R::File,
+        offset: u64,
+        buffer: &mut [u8],
+    ) -> Result<usize, FolderFault> {
+        match read_from(file, offset, buffer) {
+            Ok(count) => Ok(count),
+            Err(_) => Err(FolderFault::Device),
+        }
+    }
+}
+
+/// The path as the file system spells it, after the root.
+fn spell(alloc: Global, root: &str, path: &Path) -> Result<String, FolderFault> {
+    let mut text = Vec::new(alloc);
+    path.write_text(&mut text)?;
+    let mut bytes = Vec::from_slice(alloc, root.as_bytes())?;
+    percent_decode(&text).append_to(&mut bytes)?;
+    match String::from_utf8(bytes) {
+        Ok(spelled) => Ok(spelled),
+        Err(_) => Err(FolderFault::Unreadable),
+    }
+}
+
+/// That each place above the last, from the root down, is a directory and no link. The root may be reached by links.
+fn look_above<R: Files>(files: &R, spelled: &str, root: usize) -> Result<(), FolderFault> {
+    for end in 0..spelled.len() {
+        if end > root {
+            look_before(files, spelled, end)?;
+        }
+    }
+    Ok(())
+}
+
+/// That a directory stands at the place that ends before `end`, if a place does.
+fn look_before<R: Files>(files: &R, spelled: &str, end: usize) -> Result<(), FolderFault> {
+    match spelled.split_at_checked(end) {
+        Some((above, rest)) if rest.starts_with('/') => match kind_at(files, above)? {
+            Kind::Dir => Ok(()),
+            Kind::File => Err(FolderFault::NotThere),
+        },
+        _ => Ok(()),
+    }
+}
+
+/// Whether a directory or a file stands at a place.
+fn kind_at<R: Files>(files: &R, spelled: &str) -> Result<Kind, FolderFault> {
+    match fs::symlink_metadata(files, spelled) {
+        Ok(metadata) => kind_of(&metadata.file_type()),
+        Err(e) => Err(fault_of(&e)),
+    }
+}
+
+fn kind_of(file_type: &FileType) -> Result<Kind, FolderFault> {
+    if file_type.is_dir() {
+        Ok(Kind::Dir)
+    } else if file_type.is_file() {
+        Ok(Kind::File)
+    } else {
+        Err(FolderFault::Unreadable)
+    }
+}
+
+/// What an error of the system stands for: that nothing is there where it says so, and else a fault of the device.
+fn fault_of(e: &io::Error) -> FolderFault {
+    match e.kind() {
+        ErrorKind::NotFound | ErrorKind::NotADirectory => FolderFault::NotThere,
+        ErrorKind::OutOfMemory => FolderFault::OutOfMemory,
+        _ => FolderFault::Device,
+    }
+}
+
+/// The same where a directory is listed: one that must not be listed, and a name that is no text, are unreadable.
+fn listing_fault(e: &io::Error) -> FolderFault {
+    match e.kind() {
+        ErrorKind::PermissionDenied | ErrorKind::InvalidFilename => FolderFault::Unreadable,
+        _ => fault_of(e),
+    }
+}
+
+/// The names in a directory with their kinds, as the system gives them.
+fn read_names<R: Files + AllocGlobal + Clone + Drop>(
+    alloc: Global,
+    files: &R,
+    spelled: &str,
+    is_root: bool,
+) -> Result<Vec<(Name, Kind)>, FolderFault> {
+    let mut names = Vec::new(alloc);
+    let entries = match fs::read_dir(files, spelled) {
+        Ok(entries) => entries,
+        Err(e) => return Err(listing_fault(&e)),
+    };
+    for entry in entries {
+        match entry {
+            Ok(entry) => {
+                if !(is_root && entry.file_name() == OWN) {
+                    names.push(child_of(alloc, &entry)?)?;
+                }
+            }
+            Err(e) => return Err(listing_fault(&e)),
+        }
+    }
+    Ok(names)
+}
+
+/// The name and the kind of what stands in a directory.
+fn child_of<R: Files>(
+    alloc: Global,
+    entry: &DirEntry<R, Global>,
+) -> Result<(Name, Kind), FolderFault> {
+    let name = match Name::parse(alloc, entry.file_name().as_bytes()) {
+        Ok(name) => name,
+        Err(NameFault::OutOfMemory) => return Err(FolderFault::OutOfMemory),
+        Err(NameFault::BadName) => return Err(FolderFault::Unreadable),
+    };
+    match entry.file_type() {
+        Ok(file_type) => Ok((name, kind_of(&file_type)?)),
+        Err(e) => Err(fault_of(&e)),
+    }
+}
+
+/// Whether each name comes after the one before it.
+fn is_in_order(names: &[(Name, Kind)]) -> bool
+    ensures { IsTrue result → InOrder names.now }
+{
+    for index in 1..names.len() {
+        match names[index - 1].0.cmp(&names[index].0) {
+            Ordering::Less => {}
+            Ordering::Equal | Ordering::Greater => return false,
+        }
+    }
+    true
+}
+
+/// Reads from an offset on until the buffer is full or the file ends, and answers how many bytes.
+fn read_from<F: Read + Seek>(file: &mut F, offset: u64, buffer: &mut [u8]) -> io::Result<usize>
+    ensures { IfOk result (λ n. n ≤ length buffer.new) }
+{
+    if offset > i64::MAX as u64 {
+        return Ok(0);
+    }
+    file.seek(SeekFrom::Start(offset))?;
+    let mut count = 0;
+    for _ in 0..u64::MAX {
+        if count == buffer.len() {
+            break;
+        }
+        match file.read(&mut buffer[count..]) {
+            Ok(0) => break,
+            Ok(n) => count += n,
+            Err(e) if e.kind() == ErrorKind::Interrupted => {}
+            Err(e) => return Err(e),
+        }
+    }
+    Ok(count)
+}

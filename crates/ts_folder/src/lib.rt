@@ -1,0 +1,16 @@
+//! Folders: what is listed and read, in memory and on a disk.
+#![tactic(auto)]
+
+pub mod disk;
+pub mod fault;
+pub mod faulty;
+pub mod folder;
+pub mod memory;
+#[cfg(test)]
+mod tests;
+
+pub use disk::DiskFolder;
+pub use fault::{FolderFault, Trouble};
+pub use faulty::{Failing, FaultyFolder};
+pub use folder::{Call, Folder, Kind};
+pub use memory::MemFolder;

@@ -1,0 +1,14 @@
+//! The print of a folder, taken by several threads.
+#![tactic(auto)]
+
+pub mod fault;
+mod file;
+mod idle;
+pub mod scanning;
+mod walk;
+
+pub use fault::{Refusal, ScanFault};
+pub use scanning::scan;
+
+#[cfg(test)]
+mod tests;

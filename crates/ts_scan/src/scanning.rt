@@ -1,0 +1,38 @@
+//! The print of a folder.
+ghost use Rattle.std.specs.Prelude.{◌≡◌, ◌≤◌, IfErr, IfOk, IfSome};
+ghost use Rattle.ts_model.specs.Trees.{at, print_of};
+ghost use Rattle.ts_scan.specs.Faults.{MayFail};
+
+use crate::fault::ScanFault;
+use crate::idle::Idle;
+use crate::walk::{Work, scan_directory};
+use std::alloc::Global;
+use std::thread::Threads;
+use ts_folder::Folder;
+use ts_name::Path;
+use ts_print::Print;
+use ts_table::Table;
+
+/// What is at each path of a folder, scanned by 1 to 64 workers. Each directory is listed once and each file opened once; a
+/// file is read through one buffer a worker. A thread that can't be started is done without.
+///
+/// Of faults the first in path order is told, want of memory aside.
+pub fn scan<R: Threads + Sync, F: Folder + Sync>(
+    rt: &R,
+    alloc: Global,
+    folder: &F,
+    workers: u32,
+) -> Result<Print, ScanFault>
+where
+    F::File: Send,
+    requires some { 1 ≤ workers }
+    requires few { workers ≤ 64 }
+    ensures print { IfSome (F.tells folder.now) (λ tree. IfOk result (λ print. at print ≡ print_of (at tree))) }
+    ensures fault { IfErr result (MayFail (F.lets folder.now) (F.tells folder.now)) }
+{
+    let idle = Idle::new(u64::from(workers) - 1);
+    let root = Path::root(alloc);
+    let work = Work::new(alloc)?;
+    let done = scan_directory(rt, folder, &idle, alloc, &root, work)?;
+    Ok(Print::from_table(Table::from_rows(done.rows)))
+}

@@ -1,0 +1,211 @@
+//! The rows below a directory, found by several workers.
+ghost use Rattle.std.specs.Prelude.{◌≡◌, ◌⊎◌, ◌∷◌, ◌++◌, [], ◌<◌, IfErr, IfOk, IfSome, OnOk, length, vec_len};
+ghost use Rattle.std.specs.Thread.{IsSend, IsSync};
+ghost use Rattle.ts_name.specs.Paths.{IsPath};
+ghost use Rattle.ts_folder.specs.Folders.{HasKind, InOrder};
+ghost use Rattle.ts_model.specs.Texts.{IsTreeBody};
+ghost use Rattle.ts_model.specs.Trees.{at};
+ghost use Rattle.ts_model.specs.declared.row.Content.TheVariants.{Dir};
+ghost use Rattle.ts_scan.specs.Faults.{MayFail};
+ghost use Rattle.ts_scan.specs.Scans.{Adds, AreThere, Found, FoundIn};
+
+use crate::fault::{Refusal, ScanFault, refused, told};
+use crate::file::stamp_of_file;
+use crate::idle::Idle;
+use std::alloc::Global;
+use std::sync::atomic::AtomicBool;
+use std::thread::{Threads, join};
+use ts_folder::{Folder, Kind};
+use ts_model::row::{Content, Row, Stamp};
+use ts_name::{Name, Path, PathFault};
+
+/// How many bytes of a file are read at once.
+const PIECE: usize = 65_536;
+
+/// What a worker carries: the rows found so far, in path order, and the buffer through which it reads files.
+#[derive(Drop)]
+pub(crate) struct Work {
+    pub(crate) rows: Vec<Row<Stamp>>,
+    buffer: Vec<u8>,
+    ghost room: { 0 < vec_len buffer },
+}
+
+impl Work {
+    pub(crate) fn new(alloc: Global) -> Result<Work, ScanFault>
+        ensures found { IfOk result (λ work. work.rows.items ≡ []) }
+        ensures fault { IfErr result (λ e. e ≡ ScanFault.OutOfMemory) }
+    {
+        let buffer = vec![in alloc; 0u8; PIECE]?;
+        Ok(Work {
+            rows: Vec::new(alloc),
+            buffer,
+        })
+    }
+
+    /// Puts a row at the end.
+    fn push(&mut self, path: Path, content: Content<Stamp>) -> Result<(), ScanFault>
+        ensures rows { OnOk result (self.new.rows.items ≡ self.old.rows.items ++ record { path = path; content = content } ∷ []) }
+        ensures fault { IfErr result (λ e. e ≡ ScanFault.OutOfMemory) }
+    {
+        self.rows.push(Row { path, content })?;
+        Ok(())
+    }
+}
+
+/// Adds the rows of all that is below the directory at a path.
+#[cycle(walk)]
+pub(crate) fn scan_directory<R: Threads + Sync, F: Folder + Sync>(
+    rt: &R,
+    folder: &F,
+    idle: &Idle,
+    alloc: Global,
+    path: &Path,
+    work: Work,
+) -> Result<Work, ScanFault>
+where
+    F::File: Send,
+    ensures found { IfOk result (λ done. Adds work.rows.items done.rows.items (FoundIn (F.tells folder.now) path.now)) }
+    ensures fault { IfSome (F.tells folder.now) (λ tree. at tree path.now ≡ Dir) → IfErr result (MayFail (F.lets folder.now) (F.tells folder.now)) }
+{
+    let children = match folder.list(alloc, path) {
+        Ok(children) => children,
+        Err(fault) => return Err(told(alloc, path, fault)),
+    };
+    scan_children(rt, folder, idle, alloc, path, &children, work)
+}
+
+/// Adds the rows of some children of the directory at a path. Where a worker stands idle, it gets half of what is left.
+#[cycle(walk)]
+fn scan_children<R: Threads + Sync, F: Folder + Sync>(
+    rt: &R,
+    folder: &F,
+    idle: &Idle,
+    alloc: Global,
+    path: &Path,
+    children: &[(Name, Kind)],
+    mut work: Work,
+) -> Result<Work, ScanFault>
+where
+    F::File: Send,
+    requires order { InOrder children.now }
+    requires lawful { IfSome (F.tells folder.now) IsTreeBody }
+    ensures found { IfOk result (λ done. Adds work.rows.items done.rows.items (Found (F.tells folder.now) path.now children.now)) }
+    ensures fault { IfSome (F.tells folder.now) (λ tree. AreThere (at tree) path.now children.now) → IfErr result (MayFail (F.lets folder.now) (F.tells folder.now)) }
+{
+    let mut rest = children;
+    while let Some((child, others)) = rest.split_first() {
+        if !others.is_empty() && idle.take() {
+            return in_halves(rt, folder, idle, alloc, path, rest, work);
+        }
+        work = scan_child(rt, folder, idle, alloc, path, child, work)?;
+        rest = others;
+    }
+    Ok(work)
+}
+
+/// Adds the rows of some children of the directory at a path, the second half by another thread where one can be started.
+#[cycle(walk)]
+fn in_halves<R: Threads + Sync, F: Folder + Sync>(
+    rt: &R,
+    folder: &F,
+    idle: &Idle,
+    alloc: Global,
+    path: &Path,
+    children: &[(Name, Kind)],
+    work: Work,
+) -> Result<Work, ScanFault>
+where
+    F::File: Send,
+    requires order { InOrder children.now }
+    requires lawful { IfSome (F.tells folder.now) IsTreeBody }
+    requires several { 1 < length children.now }
+    ensures found { IfOk result (λ done. Adds work.rows.items done.rows.items (Found (F.tells folder.now) path.now children.now)) }
+    ensures fault { IfSome (F.tells folder.now) (λ tree. AreThere (at tree) path.now children.now) → IfErr result (MayFail (F.lets folder.now) (F.tells folder.now)) }
+{
+    let (first, second) = halves(children);
+    let one_ended = AtomicBool::new(false);
+    let ended = &one_ended;
+    let theirs = || -> Result<Work, ScanFault>
+        requires { IsSync R.row × IsSync F.row × IsSend F.File.row × InOrder second.now × IfSome (F.tells folder.now) IsTreeBody }
+        ensures found { IfOk result (λ done. Found (F.tells folder.entry.now) path.entry.now second.entry.now done.rows.items) }
+        ensures fault { IfSome (F.tells folder.entry.now) (λ tree. AreThere (at tree) path.entry.now second.entry.now) → IfErr result (MayFail (F.lets folder.entry.now) (F.tells folder.entry.now)) }
+    {
+        let work = Work::new(alloc)?;
+        let found = scan_children(rt, folder, idle, alloc, path, second, work);
+        idle.half_ended(ended);
+        found
+    };
+    let ours = move || -> Result<Work, ScanFault>
+        requires { IsSync R.row × IsSync F.row × IsSend F.File.row × InOrder first.now × IfSome (F.tells folder.now) IsTreeBody }
+        ensures found { IfOk result (λ done. Adds work.rows.items done.rows.items (Found (F.tells folder.entry.now) path.entry.now first.entry.now)) }
+        ensures fault { IfSome (F.tells folder.entry.now) (λ tree. AreThere (at tree) path.entry.now first.entry.now) → IfErr result (MayFail (F.lets folder.entry.now) (F.tells folder.entry.now)) }
+    {
+        let found = scan_children(rt, folder, idle, alloc, path, first, work);
+        idle.half_ended(ended);
+        found
+    };
+    let (back, front) = join(rt, theirs, ours);
+    let mut done = front?;
+    let mut more = back?;
+    done.rows.append(&mut more.rows)?;
+    Ok(done)
+}
+
+/// Two parts of some children, in their order.
+fn halves(children: &[(Name, Kind)]) -> (&[(Name, Kind)], &[(Name, Kind)])
+    requires order { InOrder children.now }
+    requires several { 1 < length children.now }
+    ensures whole { children.now ≡ result.0.now ++ result.1.now }
+    ensures first { InOrder result.0.now }
+    ensures second { InOrder result.1.now }
+    ensures less { length result.0.now < length children.now }
+    ensures more { length result.1.now < length children.now }
+{
+    children.split_at(children.len() / 2)
+}
+
+/// Adds the rows of one child of the directory at a path.
+#[cycle(walk)]
+fn scan_child<R: Threads + Sync, F: Folder + Sync>(
+    rt: &R,
+    folder: &F,
+    idle: &Idle,
+    alloc: Global,
+    parent: &Path,
+    child: &(Name, Kind),
+    mut work: Work,
+) -> Result<Work, ScanFault>
+where
+    F::File: Send,
+    requires lawful { IfSome (F.tells folder.now) IsTreeBody }
+    ensures found { IfOk result (λ done. Adds work.rows.items done.rows.items (Found (F.tells folder.now) parent.now (child.now ∷ []))) }
+    ensures fault { IfSome (F.tells folder.now) (λ tree. HasKind (at tree (parent.now ++ child.now.0 ∷ [])) child.now.1) → IfErr result (MayFail (F.lets folder.now) (F.tells folder.now)) }
+{
+    let path = child_path(alloc, parent, &child.0)?;
+    match child.1 {
+        Kind::File => {
+            let stamp = stamp_of_file(folder, alloc, &path, work.buffer.as_mut_slice())?;
+            work.push(path, Content::File(stamp))?;
+            Ok(work)
+        }
+        Kind::Dir => {
+            let Ok(own) = path.copy(alloc) else {
+                return Err(ScanFault::OutOfMemory);
+            };
+            work.push(own, Content::Dir)?;
+            scan_directory(rt, folder, idle, alloc, &path, work)
+        }
+    }
+}
+
+/// The path of a child, or `TooLong` at its directory.
+fn child_path(alloc: Global, parent: &Path, name: &Name) -> Result<Path, ScanFault>
+    ensures path { IfOk result (λ path. (path ≡ parent.now ++ name.now ∷ []) × IsPath path) }
+    ensures fault { IfErr result (λ e. (e ≡ ScanFault.OutOfMemory) ⊎ ((e ≡ ScanFault.At parent.now Refusal.TooLong) × (¬ IsPath (parent.now ++ name.now ∷ [])))) }
+{
+    match parent.child(alloc, name) {
+        Ok(path) => Ok(path),
+        Err(PathFault::TooLong) => Err(refused(alloc, parent, Refusal::TooLong)),
+        Err(_) => Err(ScanFault::OutOfMemory),
+    }
+}

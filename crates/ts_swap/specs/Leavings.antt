@@ -1,0 +1,128 @@
+-- What calls on the spots of a swap leave, and what replacing and recovery leave.
+--     Leaves call old new r           what a single call leaves, where the spots are told
+--     Counts old new r                the count of failures grows by one at a failure, and only there
+--     Replaces tree old new r         what replacing leaves
+--     Recovers old new r              what recovery leaves
+--     IsInSwap original tree s        where a replacement of the original by the tree may stand, stopped or ended
+use Rattle.std.specs.Prelude.{◌≡◌, ◌≢◌, ◌⊎◌, ℕ, ◌+◌, ◌<◌, ◌≤◌, Bool, true, false, List, [], ◌∷◌, Option, Some, None, Result, MatchResult}
+use Rattle.ts_model.specs.Trees.{Listing}
+use Rattle.ts_model.specs.Swap.{Spots, Call, IsThere, after_call, MayFail, recovery}
+use Rattle.ts_model.specs.Swap as model
+use Rattle.ts_swap.specs.declared.places.Spot.{Spot}
+use Rattle.ts_swap.specs.declared.places.Spot.TheVariants.{Target, New, Old}
+
+abbrev pub spot_of : Spot → model.Spot
+spot_of Target = model.Target
+spot_of New = model.New
+spot_of Old = model.Old
+
+-- where the spots are told before, they are told after, and this is said of both
+abbrev pub OnSpots : (Spots → Spots → Type 0) → Option Spots → Option Spots → Type 0
+OnSpots Says None new = new ≡ None
+OnSpots Says (Some s) new = (left : Spots) × (new ≡ Some left) × Says s left
+
+abbrev pub Leaves : {A E : Type 0} → Call → Option Spots → Option Spots → Result A E → Type 0
+Leaves call old new r = MatchResult r (λ _. OnSpots (λ s left. left ≡ after_call s call) old new) (λ _. OnSpots (λ s left. MayFail s call left) old new)
+
+-- a look at a spot tells whether something lies there
+abbrev pub Tells : Bool → Listing (List ℕ) → Type 0
+Tells true rows = rows ≢ []
+Tells false rows = rows ≡ []
+
+-- ---- the count of failures
+
+-- where a count of failures ends
+abbrev pub last : ℕ
+last = 18446744073709551615
+
+-- it grows by one, or stays at its end
+abbrev pub Grows : ℕ → ℕ → Type 0
+Grows before after = (after ≡ before + 1) ⊎ ((after ≡ before) × (last ≤ before))
+
+abbrev pub Counts : {A E : Type 0} → ℕ → ℕ → Result A E → Type 0
+Counts old new r = MatchResult r (λ _. new ≡ old) (λ _. Grows old new)
+
+-- a call failed
+abbrev pub HasFailed : ℕ → ℕ → Type 0
+HasFailed before after = (before < after) ⊎ (last ≤ before)
+
+-- one call alone failed
+abbrev pub FailedOnce : ℕ → ℕ → Type 0
+FailedOnce before after = (after ≡ before + 1) × (after < last)
+
+-- ---- replacing
+
+-- the new tree lies at the target
+abbrev pub IsReplaced : Listing (List ℕ) → Spots → Type 0
+IsReplaced tree left = (left.target ≡ tree) × (left.new ≡ [])
+
+-- the original lies at the target, and nothing aside
+abbrev pub IsOriginal : Spots → Spots → Type 0
+IsOriginal s left = (left.target ≡ s.target) × (left.old ≡ [])
+
+-- nothing lies at the target; the original lies aside, whole, and so does the new tree
+abbrev pub IsAside : Listing (List ℕ) → Spots → Spots → Type 0
+IsAside tree s left = (left ≡ record { target = []; new = tree; old = s.target }) × (s.target ≢ []) × (tree ≢ [])
+
+-- what was set aside is back at the target
+abbrev pub IsBack : Spots → Spots → Type 0
+IsBack s left = (left.target ≡ s.old) × (left.old ≡ [])
+
+-- whatever lies at the new spot, the others are as they were
+abbrev pub KeepsOthers : Spots → Spots → Type 0
+KeepsOthers s left = (left.target ≡ s.target) × (left.old ≡ s.old)
+
+abbrev pub IsSetAside : Bool → Spots → Spots → Type 0
+IsSetAside had s left = (left ≡ record { target = []; new = s.new; old = s.target }) × Tells had s.target
+
+abbrev pub IsPut : Spots → Spots → Type 0
+IsPut s left = left ≡ record { target = s.new; new = []; old = s.old }
+
+abbrev pub Replaces : {A E : Type 0} → Listing (List ℕ) → Option Spots → Option Spots → Result A E → Type 0
+Replaces tree old new r = MatchResult r (λ _. OnSpots (λ s left. IsReplaced tree left) old new) (λ _. OnSpots (λ s left. IsOriginal s left ⊎ IsAside tree s left) old new)
+
+-- ---- recovery
+
+abbrev pub after_calls : Spots → List Call → Spots
+after_calls s [] = s
+after_calls s (call ∷ calls) = after_calls (after_call s call) calls
+
+abbrev pub Looks : Bool → Bool → Bool → Spots → Type 0
+Looks target new old s = Tells target s.target × Tells new s.new × Tells old s.old
+
+-- all of these calls were made
+abbrev pub Does : List Call → Spots → Spots → Type 0
+Does calls s left = left ≡ after_calls s calls
+
+-- one of these calls failed, after those before it were made
+abbrev pub Stumbles : List Call → Spots → Spots → Type 0
+Stumbles [] s left = left ≡ s
+Stumbles (call ∷ calls) s left = MayFail s call left ⊎ Stumbles calls (after_call s call) left
+
+-- what recovery does, it does by what lies where
+abbrev pub BySight : (List Call → Spots → Spots → Type 0) → Spots → Spots → Type 0
+BySight Says s left = (target new old : Bool) × Looks target new old s × Says (recovery target new old) s left
+
+abbrev pub Recovers : {A E : Type 0} → Option Spots → Option Spots → Result A E → Type 0
+Recovers old new r = MatchResult r (λ _. OnSpots (BySight Does) old new) (λ _. OnSpots (λ s left. (left ≡ s) ⊎ BySight Stumbles s left) old new)
+
+-- ---- where a replacement may stand
+
+-- the original lies at the target, and nothing aside
+abbrev pub IsBefore : Listing (List ℕ) → Spots → Type 0
+IsBefore original s = (s.target ≡ original) × (s.old ≡ [])
+
+-- nothing lies at the target; the original lies aside, whole, and something is to come in its place
+abbrev pub IsBetween : Listing (List ℕ) → Spots → Type 0
+IsBetween original s = (s.target ≡ []) × (s.old ≡ original) × (original ≢ []) × (s.new ≢ [])
+
+-- the new tree lies at the target
+abbrev pub IsAfter : Listing (List ℕ) → Spots → Type 0
+IsAfter tree s = (s.target ≡ tree) × (s.new ≡ [])
+
+abbrev pub IsInSwap : Listing (List ℕ) → Listing (List ℕ) → Spots → Type 0
+IsInSwap original tree s = IsBefore original s ⊎ (IsBetween original s ⊎ IsAfter tree s)
+
+-- the original or the new tree lies at the target, whole, and nothing anywhere else
+abbrev pub IsSettled : Listing (List ℕ) → Listing (List ℕ) → Spots → Type 0
+IsSettled original tree s = ((s.target ≡ original) ⊎ (s.target ≡ tree)) × (s.new ≡ []) × (s.old ≡ [])

@@ -1,0 +1,2 @@
+pub mod Leavings
+pub mod Memory

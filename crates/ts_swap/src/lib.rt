@@ -1,0 +1,13 @@
+//! Replacing what lies at a place by two renames, and recovery after a stop in between.
+#![tactic(auto)]
+
+pub mod memory;
+pub mod places;
+pub mod swap;
+
+pub use memory::MemPlaces;
+pub use places::{Failed, Places, Spot};
+pub use swap::{recover, replace};
+
+#[cfg(test)]
+mod tests;

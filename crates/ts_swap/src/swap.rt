@@ -1,0 +1,154 @@
+//! Replacing, and recovery.
+ghost use Rattle.std.specs.Prelude.{◌≡◌, ◌⊎◌, ℕ, List, [], IfOk, IfSome, IsErr, IsOk, IsTrue, MatchResult};
+ghost use Rattle.ts_model.specs.Swap.{recovery, with_spot};
+ghost use Rattle.ts_model.specs.Swap as model;
+ghost use Rattle.ts_model.specs.Trees.{IsSubListing};
+ghost use Rattle.ts_model.specs.declared.row.Row.{Row};
+ghost use Rattle.ts_swap.specs.Leavings.{Does, FailedOnce, Grows, HasFailed, IsBack, IsInSwap, IsOriginal, IsPut, IsSetAside, IsSettled, KeepsOthers, Looks, OnSpots, Recovers, Replaces, Stumbles, Tells};
+ghost use Rattle.ts_swap.specs.declared.places.Spot.TheVariants as spot;
+
+use crate::places::{Failed, Places, Spot};
+use ts_model::items::Items;
+use ts_model::row::Row;
+
+/// Replaces what lies at the target by a tree, by at most two renames. Between them nothing lies there.
+///
+/// After a failure the original lies at the target; or, where more than one call failed, it may lie at the old spot,
+/// whole, with the new tree whole at the new spot and nothing at the target. That the old content couldn't be removed
+/// at the end is not told.
+#[tactic(auto, using(crate::proofs::Counting::grown, crate::proofs::Counting::still_grown))]
+pub fn replace<P: Places>(places: &mut P, tree: &[Row<Items<u8>>]) -> Result<(), Failed>
+    requires tree { IsSubListing tree.now }
+    requires new { IfSome (P.spots places.old) (λ s. s.new ≡ []) }
+    requires old { IfSome (P.spots places.old) (λ s. s.old ≡ []) }
+    ensures replaced { Replaces tree.now (P.spots places.old) (P.spots places.new) result }
+    ensures fault { IsErr result → (P.hides places.old spot.Target) ⊎ HasFailed (P.failures places.old) (P.failures places.new) }
+    ensures once { IsErr result → FailedOnce (P.failures places.old) (P.failures places.new) → OnSpots IsOriginal (P.spots places.old) (P.spots places.new) }
+    ensures recoverable { OnSpots (λ s left. IsInSwap s.target tree.now left) (P.spots places.old) (P.spots places.new) }
+{
+    write_new(places, tree)?;
+    let wanted = !tree.is_empty();
+    match set_aside(places) {
+        Ok(had) => {
+            put_in_place(places, wanted, had)?;
+            if had {
+                let _ = places.remove(Spot::Old);
+            }
+            Ok(())
+        }
+        Err(fault) => {
+            if wanted {
+                clear_new(places);
+            }
+            Err(fault)
+        }
+    }
+}
+
+/// Writes the tree to the new spot, unless it is that of nothing. After a failure the spot is cleared where that can
+/// be done.
+#[tactic(auto, using(crate::proofs::Counting::grown, crate::proofs::Counting::still_grown))]
+fn write_new<P: Places>(places: &mut P, tree: &[Row<Items<u8>>]) -> Result<(), Failed>
+    requires tree { IsSubListing tree.now }
+    requires new { IfSome (P.spots places.old) (λ s. s.new ≡ []) }
+    ensures ok { IfOk result (λ _. OnSpots (λ s left. left ≡ with_spot s model.New tree.now) (P.spots places.old) (P.spots places.new)) }
+    ensures err { IsErr result → OnSpots KeepsOthers (P.spots places.old) (P.spots places.new) }
+    ensures counted { MatchResult result (λ _. P.failures places.new ≡ P.failures places.old) (λ _. HasFailed (P.failures places.old) (P.failures places.new)) }
+    ensures looks { P.hides places.new spot.Target → P.hides places.old spot.Target }
+{
+    if tree.is_empty() {
+        return Ok(());
+    }
+    match places.write(tree) {
+        Ok(()) => Ok(()),
+        Err(fault) => {
+            clear_new(places);
+            Err(fault)
+        }
+    }
+}
+
+/// Clears the new spot, where that can be done.
+fn clear_new<P: Places>(places: &mut P)
+    ensures kept { OnSpots KeepsOthers (P.spots places.old) (P.spots places.new) }
+    ensures counted { (P.failures places.new ≡ P.failures places.old) ⊎ Grows (P.failures places.old) (P.failures places.new) }
+    ensures looks { P.hides places.new spot.Target → P.hides places.old spot.Target }
+{
+    let _ = places.remove(Spot::New);
+}
+
+/// Moves what lies at the target to the old spot, and answers whether something lay there. A failure changes nothing.
+#[tactic(auto, using(crate::proofs::Counting::grown, crate::proofs::Counting::still_grown))]
+fn set_aside<P: Places>(places: &mut P) -> Result<bool, Failed>
+    requires { IfSome (P.spots places.old) (λ s. s.old ≡ []) }
+    ensures ok { IfOk result (λ had. OnSpots (IsSetAside had) (P.spots places.old) (P.spots places.new)) }
+    ensures err { IsErr result → P.spots places.new ≡ P.spots places.old }
+    ensures counted { IfOk result (λ _. P.failures places.new ≡ P.failures places.old) }
+    ensures fault { IsErr result → (P.hides places.old spot.Target) ⊎ HasFailed (P.failures places.old) (P.failures places.new) }
+{
+    if !places.present(Spot::Target)? {
+        return Ok(false);
+    }
+    places.rename(Spot::Target, Spot::Old)?;
+    Ok(true)
+}
+
+/// Moves the new tree to the target. After a failure what was set aside is moved back, and then the new tree is removed,
+/// where that can be done.
+#[tactic(auto, using(crate::proofs::Counting::grown, crate::proofs::Counting::still_grown))]
+fn put_in_place<P: Places>(places: &mut P, wanted: bool, had: bool) -> Result<(), Failed>
+    requires target { IfSome (P.spots places.old) (λ s. s.target ≡ []) }
+    requires new { IfSome (P.spots places.old) (λ s. Tells wanted s.new) }
+    requires old { IfSome (P.spots places.old) (λ s. Tells had s.old) }
+    ensures ok { IfOk result (λ _. OnSpots IsPut (P.spots places.old) (P.spots places.new)) }
+    ensures err { IsErr result → IsTrue wanted }
+    ensures back { IsErr result → OnSpots (λ s left. IsBack s left ⊎ (left ≡ s)) (P.spots places.old) (P.spots places.new) }
+    ensures once { IsErr result → FailedOnce (P.failures places.old) (P.failures places.new) → OnSpots IsBack (P.spots places.old) (P.spots places.new) }
+    ensures counted { MatchResult result (λ _. P.failures places.new ≡ P.failures places.old) (λ _. HasFailed (P.failures places.old) (P.failures places.new)) }
+{
+    if !wanted {
+        return Ok(());
+    }
+    let Err(fault) = places.rename(Spot::New, Spot::Target) else {
+        return Ok(());
+    };
+    if had {
+        if places.rename(Spot::Old, Spot::Target).is_ok() {
+            clear_new(places);
+        }
+    } else {
+        clear_new(places);
+    }
+    Err(fault)
+}
+
+/// Undoes or ends a replacement that was stopped or failed: the target is then the original or the new tree, whole, and
+/// nothing lies at the other spots. It may itself be called again after a failure or a stop.
+pub fn recover<P: Places>(places: &mut P) -> Result<(), Failed>
+    ensures recovered { Recovers (P.spots places.old) (P.spots places.new) result }
+    ensures settled { IsOk result → (original tree : List (Row (List ℕ))) → OnSpots (λ s left. IsInSwap original tree s → IsSettled original tree left) (P.spots places.old) (P.spots places.new) }
+    ensures again { (original tree : List (Row (List ℕ))) → OnSpots (λ s left. IsInSwap original tree s → IsInSwap original tree left) (P.spots places.old) (P.spots places.new) }
+{
+    let target = places.present(Spot::Target)?;
+    let new = places.present(Spot::New)?;
+    let old = places.present(Spot::Old)?;
+    tidy(places, target, new, old)
+}
+
+/// Makes the calls of recovery, by what lies where.
+fn tidy<P: Places>(places: &mut P, target: bool, new: bool, old: bool) -> Result<(), Failed>
+    requires { IfSome (P.spots places.old) (Looks target new old) }
+    ensures { MatchResult result (λ _. OnSpots (Does (recovery target new old)) (P.spots places.old) (P.spots places.new)) (λ _. OnSpots (Stumbles (recovery target new old)) (P.spots places.old) (P.spots places.new)) }
+{
+    if !target && new && old {
+        places.rename(Spot::Old, Spot::Target)?;
+        return places.remove(Spot::New);
+    }
+    if new {
+        places.remove(Spot::New)?;
+    }
+    if old {
+        places.remove(Spot::Old)?;
+    }
+    Ok(())
+}

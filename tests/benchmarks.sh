@@ -1,0 +1,44 @@
+#!/usr/bin/env bash
+# Measures how long large texts take to write and to read, and how much memory what was read takes: an archive of
+# 50,000 and of 200,000 paths, and a plan of 262,144 and of 1,048,576 actions with four predecessors each. The last
+# column has each time divided by the one at a quarter of the size: near 4 where time is linear.
+# usage: tests/benchmarks.sh [PROGRAM]
+set -u
+cd "$(dirname "$0")/.."
+program=${1:-crates/text_benchmark/out/text_benchmark}
+# After `rt ci` the program stands there; else it is built.
+[ -x "$program" ] || (cd crates/text_benchmark && rt run >/dev/null)
+
+# Runs the program five times at a size with so many lines for each path or action, and prints a row of numbers:
+# size, lines, bytes, least milliseconds of writing and of reading, KiB
+measure() {
+  for _ in 1 2 3 4 5; do "$program" "$1" "$2"; done | awk -v size="$2" -v quarters="$3" '
+    /alike$/ { bytes = $2 }
+    /^written/ { if (!runs++ || $3 < written) written = $3; if (runs == 1 || $7 < read) read = $7 }
+    /^held/ { held = $2 }
+    END { print size, int(size * quarters / 4), bytes, written, read, held }'
+}
+
+# A table row of a size, from its numbers and those of a quarter of the size
+row() {
+  echo "$1 $2 $3" | awk '
+    function rate(lines, ms) { return ms > 0 ? int(lines * 1000 / ms) : 0 }
+    function ratio(large, small) { return small > 0 ? sprintf("%.1f", large / small) : "-" }
+    {
+      printf "%-8s %8d %9d bytes  write %6d ms %9d lines/s  read %6d ms %9d lines/s  %4d bytes held for each", $1, $2, $4, $5, rate($3, $5), $6, rate($3, $6), $7 * 1024 / $2
+      if (NF > 7) printf "  times: %s, %s", ratio($5, $11), ratio($6, $12)
+      print ""
+    }'
+}
+
+# Measures both sizes of a text; the lines for each path or action are told in quarters.
+both() {
+  local small large
+  small=$(measure "$1" "$2" "$4")
+  large=$(measure "$1" "$3" "$4")
+  row "$1" "$small" ""
+  row "$1" "$large" "$small"
+}
+
+both archive 50000 200000 4
+both plan 262144 1048576 21

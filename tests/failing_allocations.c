@@ -1,0 +1,38 @@
+/* Preloaded into a program: the allocation of the number that FAIL_ALLOCATION names is refused, and no other. Where the
+   program ends before that one, the file that ALLOCATIONS_ENDED names is made. */
+#define _GNU_SOURCE
+#include <dlfcn.h>
+#include <errno.h>
+#include <fcntl.h>
+#include <stdlib.h>
+#include <unistd.h>
+
+static long left;
+
+__attribute__((constructor)) static void begin(void) {
+  const char *number = getenv("FAIL_ALLOCATION");
+  left = number ? atol(number) : 0;
+}
+
+__attribute__((destructor)) static void end(void) {
+  const char *name = getenv("ALLOCATIONS_ENDED");
+  if (name && left > 0) close(open(name, O_CREAT | O_WRONLY, 0600));
+}
+
+static int refused(void) {
+  if (left == 0 || --left > 0) return 0;
+  errno = ENOMEM;
+  return 1;
+}
+
+void *malloc(size_t size) {
+  static void *(*next)(size_t);
+  if (!next) *(void **)&next = dlsym(RTLD_NEXT, "malloc");
+  return refused() ? NULL : next(size);
+}
+
+void *realloc(void *kept, size_t size) {
+  static void *(*next)(void *, size_t);
+  if (!next) *(void **)&next = dlsym(RTLD_NEXT, "realloc");
+  return refused() ? NULL : next(kept, size);
+}

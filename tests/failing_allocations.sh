@@ -1,0 +1,42 @@
+#!/usr/bin/env bash
+# Runs the built program on a few worked bundles with each of its allocations refused in turn. Each run has to write the
+# bundle's whole answer, or a beginning of it with `twosync: fault 1` and status 3.
+# usage: tests/failing_allocations.sh [PROGRAM]
+set -u
+cd "$(dirname "$0")/.."
+program=${1:-crates/twosync/out/twosync}
+bundles=crates/worked_bundles/data
+[ -x "$program" ] || (cd crates/twosync && rt run -- trial <stdin >/dev/null)
+work=$(mktemp -d)
+trap 'rm -rf "$work"' EXIT
+${CC:-cc} -O1 -shared -fPIC -o "$work/refuse.so" tests/failing_allocations.c -ldl || exit 1
+
+passed=0
+failed=0
+for name in copy_new_file new_directory_on_both_sides chain_through_all_actions; do
+  want=$bundles/$name.out
+  number=0
+  good=1
+  # No bundle here needs 100,000 allocations; the run that meets no refusal ends the series.
+  while [ ! -e "$work/ended" ] && [ "$number" -lt 100000 ]; do
+    number=$((number + 1))
+    LD_PRELOAD=$work/refuse.so FAIL_ALLOCATION=$number ALLOCATIONS_ENDED=$work/ended \
+      "$program" trial <"$bundles/$name.in" >"$work/got" 2>"$work/err"
+    status=$?
+    if [ "$status" = 0 ] && cmp -s "$work/got" "$want" && [ ! -s "$work/err" ]; then continue; fi
+    if [ "$status" = 3 ] && [ "$(cat "$work/err")" = 'twosync: fault 1' ] &&
+      cmp -s -n "$(stat -c %s "$work/got")" "$work/got" "$want"; then continue; fi
+    good=0
+    echo "FAILED: $name, allocation $number: status $status, $(head -c 200 "$work/err")"
+  done
+  # The last run met no refusal, so it gave the whole answer; one allocation at least was refused before.
+  if [ "$good" = 1 ] && [ -e "$work/ended" ] && [ "$status" = 0 ] && [ "$number" -gt 1 ]; then
+    passed=$((passed + 1))
+    echo "$name: $((number - 1)) allocations refused in turn"
+  else
+    failed=$((failed + 1))
+  fi
+  rm -f "$work/ended"
+done
+echo "failing allocations: $passed passed, $failed failed"
+[ "$failed" = 0 ]

@@ -1,0 +1,51 @@
+#!/usr/bin/env bash
+# Runs the built program on a bundle of 20,000 entries, or as many as are asked for, and compares what it writes with
+# what the rules say: the first replica's new files are copied, and the archive has them.
+# usage: tests/large_bundle.sh [ENTRIES] [PROGRAM]
+set -u
+cd "$(dirname "$0")/.."
+entries=${1:-20000}
+program=${2:-crates/twosync/out/twosync}
+[ -x "$program" ] || (cd crates/twosync && rt run -- trial <stdin >/dev/null)
+work=$(mktemp -d)
+trap 'rm -rf "$work"' EXIT
+
+# the byte `a` and its SHA-256
+byte=61
+digest=ca978112ca1bbdcafac231b39a23dc4da786eff8147c4e72b9807785afee48bb
+
+tree() { awk -v n="$entries" -v x="$byte" 'BEGIN { for (i = 0; i < n; i++) printf "f /file%07d 1\nx %s\n", i, x }'; }
+{
+  printf 'twosync-bundle 1\narchive\nfirst\n'
+  tree
+  printf 'second\nholds\nplan\ntwosync-plan 1\n'
+  awk -v n="$entries" 'BEGIN {
+    for (i = 0; i < n; i++) printf "entry first /file%07d\n", i
+    for (i = 0; i < n; i++) printf "piece %d 0 1 /file%07d\ncommit %d\np %d\nmark %d\np %d\n", i, i, i, 3 * i, i, 3 * i + 1
+    printf "end %d %d\n", n, 3 * n
+  }'
+} >"$work/in"
+{
+  printf 'first\n'
+  tree
+  printf 'second\n'
+  tree
+  printf 'archive\n'
+  awk -v n="$entries" -v d="$digest" 'BEGIN { for (i = 0; i < n; i++) printf "f /file%07d 1 %s\n", i, d }'
+  printf 'report\n'
+  awk -v n="$entries" 'BEGIN {
+    for (i = 0; i < n; i++) printf "done first /file%07d\n", i
+    printf "total %d done %d skipped 0 failed 0 blocked 0\n", n, n
+  }'
+} >"$work/want"
+
+"$program" trial <"$work/in" >"$work/got"
+status=$?
+if [ "$status" = 0 ] && cmp -s "$work/got" "$work/want"; then
+  echo "bundle of $entries entries: 1 passed, 0 failed"
+else
+  echo "status $status"
+  diff "$work/want" "$work/got" | head -n 5
+  echo "bundle of $entries entries: 0 passed, 1 failed"
+  exit 1
+fi
