@@ -6,7 +6,8 @@ use std::test::Fail;
 use ts_text::{Counted, Lines};
 
 /// The first replica has a new file.
-const NEW_FILE: &[u8] = b"twosync-bundle 1\narchive\nfirst\nf /a 1\nx 61\nsecond\nholds\nplan\ntwosync-plan 1\n\
+const NEW_FILE: &[u8] =
+    b"twosync-bundle 1\narchive\nfirst\nf /a 1\nx 61\nsecond\nholds\nplan\ntwosync-plan 1\n\
 entry first /a\npiece 0 0 1 /a\ncommit 0\np 0\nmark 0\np 1\nend 1 3\n";
 
 const NEW_FILE_COPIED: &[u8] = b"first\nf /a 1\nx 61\nsecond\nf /a 1\nx 61\narchive\n\
@@ -23,7 +24,8 @@ f /a 1 ca978112ca1bbdcafac231b39a23dc4da786eff8147c4e72b9807785afee48bb\nreport\
 total 1 done 0 skipped 1 failed 0 blocked 0\n";
 
 /// The plan leaves out what the first replica has new.
-const LEFT_OUT: &[u8] = b"twosync-bundle 1\narchive\nfirst\nf /a 1\nx 61\nsecond\nholds\nplan\ntwosync-plan 1\nend 0 0\n";
+const LEFT_OUT: &[u8] =
+    b"twosync-bundle 1\narchive\nfirst\nf /a 1\nx 61\nsecond\nholds\nplan\ntwosync-plan 1\nend 0 0\n";
 
 /// Gives at most `step` bytes a call, and fails once no more than `fails_at` bytes are left.
 #[derive(Drop)]
@@ -140,7 +142,10 @@ fn a_beginning_is_written_where_the_writer_fails(rt: HostRuntime) -> Result<(), 
         for room in 0..want.len() {
             let got = answered(rt.alloc(), bundle, 3, None, room)?;
             assert_eq!(rt; got.1, 105, "room for {room}");
-            assert!(rt; got.0.as_slice() == &want[..room], "room for {room}: {got:?}");
+            assert!(rt;
+                got.0.as_slice() == &want[..room],
+                "room for {room}: {got:?}"
+            );
         }
         let got = answered(rt.alloc(), bundle, 3, None, want.len())?;
         assert_eq!(rt; got.1, status, "room for all");

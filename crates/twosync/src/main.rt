@@ -52,8 +52,9 @@ fn run<R: Env + Input + Print + AllocGlobal>(rt: &R) -> Result<u8, Fault> {
     }
     let out = BufWriter::new(rt.alloc(), io::writer(rt)).map_err(|_| Fault::OutOfMemory)?;
     let mut writer = Counted::new(out);
-    let mut reader =
-        Lines::new(rt.alloc(), Counted::new(rt.reader())).map_err(|_| Fault::OutOfMemory)?;
+    let mut reader = Lines::new(rt.alloc(), Counted::new(rt.reader())).map_err(
+        |_| Fault::OutOfMemory,
+    )?;
     let status = trial(rt.alloc(), &mut reader, &mut writer).map_err(
         |fault| match fault.number() {
             1 => Fault::OutOfMemory,

@@ -21,11 +21,11 @@ returns-in_err-second-clause-answered g c =
 -- The plan was refused.
 pub returns-in-Err-Broken-clause-answered : goal.returns-in-Err-Broken-clause-answered
 returns-in-Err-Broken-clause-answered g c = λ apart.
-      one_written (AnswersBundle (values c.args.bundle.now)) (g.W.Sink.holds c.args.writer.now) (g.W.Sink.holds c.refuse_plan.new.writer) (text (refusal c.in-Err-Broken.rule c.in-Err-Broken.place ∷ [])) 3 c.refuse_plan.result
-      (refused (values c.args.bundle.now) c.in_ok-first.first c.in_ok-second.second c.in-Err-Broken.rule c.in-Err-Broken.place c.in_ok-first.ensures.print c.in_ok-second.ensures.print
-      (told_broken (listed_snapshot c.args.bundle.now.archive c.in_ok-first.first c.in_ok-second.second c.args.bundle.now.holds) c.args.bundle.now.plan c.check.result c.in-Err-Broken.field-0 c.in-Err-Broken.rule c.in-Err-Broken.place
-      c.check.ensures.told c.in-Err-Broken.is c.in-Err-Broken.field-0-is))
-      c.refuse_plan.ensures.written c.refuse_plan.ensures.status
+    one_written (AnswersBundle (values c.args.bundle.now)) (g.W.Sink.holds c.args.writer.now) (g.W.Sink.holds c.refuse_plan.new.writer) (text (refusal c.in-Err-Broken.rule c.in-Err-Broken.place ∷ [])) 3 c.refuse_plan.result
+    (refused (values c.args.bundle.now) c.in_ok-first.first c.in_ok-second.second c.in-Err-Broken.rule c.in-Err-Broken.place c.in_ok-first.ensures.print c.in_ok-second.ensures.print
+    (told_broken (listed_snapshot c.args.bundle.now.archive c.in_ok-first.first c.in_ok-second.second c.args.bundle.now.holds) c.args.bundle.now.plan c.check.result c.in-Err-Broken.field-0 c.in-Err-Broken.rule c.in-Err-Broken.place
+    c.check.ensures.told c.in-Err-Broken.is c.in-Err-Broken.field-0-is))
+    c.refuse_plan.ensures.written c.refuse_plan.ensures.status
 
 pub returns-clause-answered : goal.returns-clause-answered
 returns-clause-answered g c = λ apart. nothing_written {E = ℕ} (values c.args.bundle.now) (g.W.Sink.holds c.args.writer.now) c.requires apart 0

@@ -23,15 +23,15 @@ returns-in_err-write_result-clause-answered g c =
     let e = c.in_ok-outcome.ensures in
     let b = c.args.bundle.now in
     rw p.1 (λ apart. (
-        _,
-        _,
-        settled (values b) c.requires.bundle apart c.args.first.now c.args.second.now c.requires.first c.requires.second c.requires.valid o.first o.second o.archive e.lawful.0 e.lawful.1 e.lawful.2
-            e.first e.second (e.archive b.holds),
-        subst (λ t. AppendsFront (g.W.Sink.holds c.args.writer.now) (g.W.Sink.holds c.write_result.new.sink) t)
-            (same_text c.rows.result.now o.first c.rows-2.result.now o.second c.rows-3.result.now o.archive c.as_slice-entries.result.now b.plan.entries
-            c.rows.ensures.rows c.rows-2.ensures.rows c.rows-3.ensures.rows c.as_slice-entries.ensures)
-            c.in_err-write_result.ensures.written,
-      ))
+      _,
+      _,
+      settled (values b) c.requires.bundle apart c.args.first.now c.args.second.now c.requires.first c.requires.second c.requires.valid o.first o.second o.archive e.lawful.0 e.lawful.1 e.lawful.2
+          e.first e.second (e.archive b.holds),
+      subst (λ t. AppendsFront (g.W.Sink.holds c.args.writer.now) (g.W.Sink.holds c.write_result.new.sink) t)
+          (same_text c.rows.result.now o.first c.rows-2.result.now o.second c.rows-3.result.now o.archive c.as_slice-entries.result.now b.plan.entries
+          c.rows.ensures.rows c.rows-2.ensures.rows c.rows-3.ensures.rows c.as_slice-entries.ensures)
+          c.in_err-write_result.ensures.written,
+    ))
 
 -- The result went out.
 pub returns-clause-answered : goal.returns-clause-answered
@@ -40,12 +40,12 @@ returns-clause-answered g c =
     let e = c.in_ok-outcome.ensures in
     let b = c.args.bundle.now in
     λ apart. (
-        text (result_lines o.first o.second o.archive b.plan.entries),
-        subst (λ n. AnswersBundle (values b) (text (result_lines o.first o.second o.archive b.plan.entries)) n) (sym (c.exit_status.ensures ∙ ap (λ z. min 1 (skipped_count z)) c.as_slice-entries.ensures))
-            (settled (values b) c.requires.bundle apart c.args.first.now c.args.second.now c.requires.first c.requires.second c.requires.valid o.first o.second o.archive e.lawful.0 e.lawful.1 e.lawful.2
-            e.first e.second (e.archive b.holds)),
-        subst (λ t. Appends (g.W.Sink.holds c.args.writer.now) (g.W.Sink.holds c.write_result.new.sink) t)
-            (same_text c.rows.result.now o.first c.rows-2.result.now o.second c.rows-3.result.now o.archive c.as_slice-entries.result.now b.plan.entries
-            c.rows.ensures.rows c.rows-2.ensures.rows c.rows-3.ensures.rows c.as_slice-entries.ensures)
-            c.in_ok-write_result.ensures.written,
-      )
+      text (result_lines o.first o.second o.archive b.plan.entries),
+      subst (λ n. AnswersBundle (values b) (text (result_lines o.first o.second o.archive b.plan.entries)) n) (sym (c.exit_status.ensures ∙ ap (λ z. min 1 (skipped_count z)) c.as_slice-entries.ensures))
+          (settled (values b) c.requires.bundle apart c.args.first.now c.args.second.now c.requires.first c.requires.second c.requires.valid o.first o.second o.archive e.lawful.0 e.lawful.1 e.lawful.2
+          e.first e.second (e.archive b.holds)),
+      subst (λ t. Appends (g.W.Sink.holds c.args.writer.now) (g.W.Sink.holds c.write_result.new.sink) t)
+          (same_text c.rows.result.now o.first c.rows-2.result.now o.second c.rows-3.result.now o.archive c.as_slice-entries.result.now b.plan.entries
+          c.rows.ensures.rows c.rows-2.ensures.rows c.rows-3.ensures.rows c.as_slice-entries.ensures)
+          c.in_ok-write_result.ensures.written,
+    )
