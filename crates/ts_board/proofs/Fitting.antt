@@ -1,11 +1,11 @@
 -- What a commit put in place is what its source has.
-use Rattle.std.proofs.Common.{◌≡◌, ◌≢◌, ◌↔◌, ℕ, List, Result, Ok, Err, sym, refl, ap, ◌∙◌, subst}
+use Rattle.std.proofs.Common.{◌≡◌, ◌↔◌, ℕ, Result, Ok, Err, sym, ap, ◌∙◌, subst}
 use Rattle.std.specs.Prelude.{OnOk, IsErrOf, is_ok}
 use Rattle.std.proofs.lemmas.Bool.{true≢false}
 use Rattle.ts_site.specs.declared.fault.SiteFault.{SiteFault}
 use Rattle.ts_site.specs.declared.fault.SiteFault.TheVariants.{Misfit}
 use Rattle.ts_name.specs.Paths.{Path}
-use Rattle.ts_model.specs.Trees.{Listing, listed, print_of, sub, at}
+use Rattle.ts_model.specs.Trees.{listed, print_of, sub, at}
 use Rattle.ts_model.specs.Sync.{Snapshot, replica}
 use Rattle.ts_model.specs.declared.row.Content.{Content}
 use Rattle.ts_model.specs.declared.row.Stamp.{Stamp}
@@ -20,7 +20,6 @@ use Rattle.ts_model.specs.declared.step.Work.TheVariants.{Put}
 use Rattle.ts_laws.proofs.Basics.{stable, same_stamp_at}
 use Rattle.ts_print.specs.Assemblies.{Assembly, IsComplete}
 use Rattle.ts_print.specs.Parts.{Part}
-use Rattle.ts_print.specs.Prints.{stamped_rows}
 use Rattle.ts_print.proofs.Assembling.{print-listed}
 use Rattle.ts_check.specs.Checkup.{Checkup, IsSourcePart, snapshot_of}
 use Rattle.ts_board.specs.declared.law.Terms.{Terms}

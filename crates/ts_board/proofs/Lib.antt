@@ -6,3 +6,6 @@ pub mod Passes
 pub mod Sites
 pub mod Orderly
 pub mod Fitting
+pub mod Archives
+pub mod Flags
+pub mod Acting

@@ -1,9 +1,9 @@
 -- What is legal by counts is legal, and the words are those of the model.
-use Rattle.std.proofs.Common.{◌≡◌, ◌≢◌, ◌⊎◌, ℕ, zero, suc, ◌+◌, ◌-◌, ◌*◌, ◌^◌, ◌<◌, ◌≤◌, Bool, true, false, eqb, ◌&&◌, ◌||◌, cond, List, [], ◌∷◌, ◌++◌, length, count_by, Option, Some, None, slice_get, Contains, sym, refl, ap, ◌∙◌, subst, inl, inr, ⊎_elim, arith, append_assoc, append-nil, eq-eqb, ne_eqb}
+use Rattle.std.proofs.Common.{◌≡◌, ◌≢◌, ◌⊎◌, ℕ, ◌+◌, ◌*◌, ◌^◌, ◌<◌, ◌≤◌, Bool, true, false, eqb, ◌&&◌, ◌||◌, List, [], ◌∷◌, ◌++◌, length, count_by, Option, Some, None, slice_get, sym, refl, ap, ◌∙◌, subst, inl, inr, ⊎_elim, arith, append_assoc, append-nil, eq-eqb, ne_eqb}
 use Rattle.std.specs.List.{list_any}
 use Rattle.std.proofs.lemmas.Bool.{true≢false}
 use Rattle.ts_model.specs.Sync.{Snapshot}
-use Rattle.ts_model.specs.Plans.{ActionIs, Waits, AscendBelow, KindIs}
+use Rattle.ts_model.specs.Plans.{Waits}
 use Rattle.ts_model.specs.Runs as model
 use Rattle.ts_model.specs.Runs.{Run, Has, HasNot, WordsAllow, LegalFrom, Legal, IsPieceOf, IsPending, open_count, pred_count, word_after, takes, acts, finishes, fails, releases, releases_to}
 use Rattle.ts_model.specs.declared.plan.Action.{Action}
@@ -19,8 +19,8 @@ use Rattle.ts_laws.proofs.Steps.{does_of}
 use Rattle.ts_laws.proofs.Lists.{element_at, weight, Contains-from_Among, Among}
 use Rattle.ts_laws.proofs.Runs.{count_push}
 use Rattle.ts_board.specs.declared.law.Terms.{Terms}
-use Rattle.ts_board.specs.Terms.{IsFor, IsLegalRun, Suits, IsOrderly, preds}
-use Rattle.ts_board.specs.Runs.{same, bit, times, taken, count, size, open_of, word_of, work_after, Allowed, IsLegalFrom, IsLegal}
+use Rattle.ts_board.specs.Terms.{IsLegalRun, Suits, IsOrderly, preds}
+use Rattle.ts_board.specs.Runs.{same, bit, times, taken, count, size, open_of, word_of, work_after, Allowed, IsLegal}
 use Rattle.ts_board.proofs.Runs.{bump, legal_each, legal_push, sound, open_still, open_less, bit_other, word_start, times_push, taken_push, content_push, content_act, still}
 
 -- ---- tests and counts

@@ -1,7 +1,7 @@
 -- A valid plan is orderly.
-use Rattle.std.proofs.Common.{◌≡◌, ◌⊎◌, ℕ, ◌<◌, inl, inr, arith, refl, sym, subst, ap}
+use Rattle.std.proofs.Common.{◌≡◌, ℕ, sym, subst, ap}
 use Rattle.ts_model.specs.Sync.{Snapshot}
-use Rattle.ts_model.specs.Plans.{KindIs, Valid, Waits}
+use Rattle.ts_model.specs.Plans.{KindIs, Valid}
 use Rattle.ts_model.specs.Runs.{IsPieceOf}
 use Rattle.ts_model.specs.declared.plan.Plan.{Plan}
 use Rattle.ts_model.specs.declared.plan.Kind.{Kind}

@@ -1,6 +1,6 @@
 -- Passes are cut and joined, and the board is opened and closed.
 use Rattle.std.proofs.Common.{◌≡◌, ◌≢◌, ◌⊎◌, ℕ, zero, suc, ◌+◌, ◌-◌, ◌*◌, ◌^◌, ◌<◌, ◌≤◌, Bool, true, false, cond, eqb, leb, List, [], ◌∷◌, ◌++◌, map, length, set, sym, refl, ap, ◌∙◌, subst, inl, inr, ⊎_elim, arith, append-nil, mul_assoc, mul_comm, add-mul, mul-add, suc-mul, zero-mul, pow-add, pow_pos, leb-true, leb-false, eq-eqb, length-append}
-use Rattle.std.specs.Prelude.{slice_index, slice_index_or, slice_get, Option, Some, None, Contains}
+use Rattle.std.specs.Prelude.{slice_index, slice_index_or, slice_get, Option, Some, None}
 use mathlib.Core.Logic.{dite}
 use native.Mathlib.Decide.{ℕ_discrete}
 use mathlib.Core.Option.{none, some, some-injective, some-ne-none}
@@ -11,7 +11,6 @@ use Rattle.ts_model.specs.Runs as model
 use Rattle.ts_model.specs.Runs.{Run, Has, HasNot}
 use Rattle.ts_model.specs.Trees.{Listing}
 use Rattle.ts_model.specs.declared.plan.Action.{Action}
-use Rattle.ts_model.specs.declared.plan.Plan.{Plan}
 use Rattle.ts_model.specs.declared.step.Step.{Step}
 use Rattle.ts_model.specs.declared.step.Step.TheVariants.{Claim, Act, Done, Fail}
 use Rattle.ts_model.specs.declared.step.Work.{Work}
@@ -22,12 +21,12 @@ use Rattle.ts_board.specs.declared.law.Slot.{Slot}
 use Rattle.ts_board.specs.declared.law.Slot.TheVariants.{Empty, Place, Committed, Bytes}
 use Rattle.ts_board.specs.declared.law.Sight.{Sight}
 use Rattle.ts_board.specs.declared.law.View.{View}
-use Rattle.ts_board.specs.Terms.{IsOrderly, preds, opening_work, opening_words, AreFirstWords, IsUntouched, IsToldIn, IsTold, told_in, work_in}
+use Rattle.ts_board.specs.Terms.{IsOrderly, preds, opening_work, opening_words, AreFirstWords, IsUntouched, IsToldIn, told_in, work_in}
 use Rattle.ts_board.specs.Runs.{actor, bit, times, taken, count, size, keep, steps_by, IsLegal, work_after}
-use Rattle.ts_board.specs.Kept.{newcomer, total, claimed, share, Behind, Fits, Keeps, Kept, mine, Seat, carries, bare, longer, nobody, first_half, second_half, joined, Met, meets, IsMerged, IsWhole, EndsAt, SitedEnds, Rests, SlotOk}
-use Rattle.ts_board.proofs.Runs.{by_actor, sound, word_start, steps_by-append, steps_by-nobody, times_by, times_by_none, content_unacted}
+use Rattle.ts_board.specs.Kept.{newcomer, total, claimed, share, Behind, Fits, Keeps, Kept, mine, Seat, carries, bare, longer, nobody, first_half, second_half, joined, Met, meets, IsMerged, IsWhole, EndsAt, SitedEnds, Rests}
+use Rattle.ts_board.proofs.Runs.{by_actor, sound, word_start, steps_by-append, steps_by-nobody, content_unacted}
 use Rattle.ts_board.proofs.Totals.{total_set, total_at, total_two, total_push}
-use Rattle.ts_board.proofs.Model.{legal_run, word_same, claims_tally, acts_tally, finishes_tally, fails_tally, taken_tally, some_tally, no_tally, act_left}
+use Rattle.ts_board.proofs.Model.{legal_run, word_same, claims_tally, acts_tally, finishes_tally, fails_tally, taken_tally, some_tally, no_tally, has_from, act_left}
 use Rattle.ts_board.proofs.Steps.{Board, set_self, behind_nothing, each_set, same_slot, carry_same, carries_none}
 
 -- ---- parts
@@ -66,6 +65,7 @@ cuts content good plan id v empty s r at =
     let up : 2 ^ (depth + 1) ≡ 2 ^ depth * 2 ^ 1 = pow-add 2 depth 1 in
     record {
       log = log;
+      settled = r.settled;
       depth = depth + 1;
       keeps = record {
         orderly = k.orderly;
@@ -209,6 +209,7 @@ joins content good plan id v other w empty empty' s r at apart to =
     total_scale depth d s.views (λ j u on. (k.each_pass j u on).deep) ∙ ap (λ (n : ℕ). 2 ^ d * n) k.whole ∙ mul_comm (2 ^ d) (2 ^ depth) ∙ sym (pow-add 2 depth d) in
     record {
       log = log;
+      settled = r.settled;
       depth = depth + d;
       keeps = record {
         orderly = k.orderly;
@@ -289,6 +290,7 @@ pub opens : {S : Type 0} (content : Slot S → Work) (good : Terms → ℕ → S
 opens {S} content good plan ws xs orderly blank fine many wide words = record {
   log = [];
   depth = 0;
+  settled = λ i. refl;
   keeps = record {
     orderly = orderly;
     legal = tt;
@@ -335,12 +337,22 @@ steps_by-all c (x ∷ xs) h =
     let here : bit (eqb (actor x) (actor x)) ≡ 1 = ap bit (eq-eqb (actor x) (actor x) refl) in
     keep_pos (count (actor x) c) x (steps_by c xs) (h (actor x) (omega arith)) ∙ ap (λ (l : Run). x ∷ l) (steps_by-all c xs (λ i p. h i (omega arith)))
 
-pub ends : (plan : Terms) (log : Run) (depth : ℕ) (s : Board) (k : Keeps plan log depth s) (id : ℕ) (v : View) → get_elem? s.views id ≡ some v → EndsAt plan v s.words log
-ends plan log depth s k id v at =
+-- in a settled run each action that acted is done
+settled_has : (log : Run) → ((i : ℕ) → times (Act i Marked) log ≡ times (Done i) log) → (i : ℕ) → Has log (model.acts i) → Has log (model.finishes i)
+settled_has log settled i h =
+    let some = some_tally (model.acts i) log h in let a = acts_tally i log in let d = finishes_tally i log in let e = settled i in
+    has_from (model.finishes i) log (omega arith)
+
+pub ends : (plan : Terms) (log : Run) (depth : ℕ) (s : Board) (k : Keeps plan log depth s) → ((i : ℕ) → times (Act i Marked) log ≡ times (Done i) log)
+    → (id : ℕ) (v : View) → get_elem? s.views id ≡ some v → EndsAt plan v s.words log
+ends plan log depth s k settled id v at =
     let f = k.each_pass id v at in let b = f.behind in (
-      legal_run plan log k.legal,
+      record {
+        legal = legal_run plan log k.legal;
+        settled = settled_has log settled;
+        words_are = λ i h. (let wide = k.wide in k.words i (omega arith) ∙ word_same plan log k.legal i);
+      },
       (b.0, b.1),
-      λ i h. (let wide = k.wide in k.words i (omega arith) ∙ word_same plan log k.legal i),
       λ (w : IsWhole v).
           let deep = f.deep in
           let e : v.cut + (depth - v.cut) ≡ depth = omega arith in
@@ -433,7 +445,7 @@ pub final_ends : {S : Type 0} (content : Slot S → Work) (good : Terms → ℕ 
 final_ends content good plan id v ws xs f =
     let s = f.0 in let r = f.1.0 in let long : length s.homes ≡ length xs = f.3 in (
       r.log,
-      subst (λ (w : List ℕ). EndsAt plan v w r.log) f.2 (ends plan r.log r.depth (bare s) r.keeps id v f.1.1),
+      subst (λ (w : List ℕ). EndsAt plan v w r.log) f.2 (ends plan r.log r.depth (bare s) r.keeps r.settled id v f.1.1),
       λ i h. rested content (good plan i) plan r.log r.keeps.legal i (slice_index_or xs i Empty)
           (λ e u. (let many = r.shelf.deep in let g = (r.shelf.each_slot i (omega arith)).rests e u in let at = slot_found xs i Empty g.0 (f.4 i g.0 g.1) in (ap content at ∙ g.2, subst (good plan i) (sym at) g.3))),
     )

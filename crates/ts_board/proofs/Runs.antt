@@ -6,10 +6,9 @@ use Rattle.ts_model.specs.declared.step.Step.{Step}
 use Rattle.ts_model.specs.declared.step.Step.TheVariants.{Claim, Take, Act, Done, Fail, Release}
 use Rattle.ts_model.specs.declared.step.Work.{Work}
 use Rattle.ts_model.specs.declared.step.Work.TheVariants.{Marked}
-use Rattle.ts_model.specs.declared.plan.Plan.{Plan}
-use Rattle.ts_model.specs.Runs.{takes, IsPieceOf}
+use Rattle.ts_model.specs.Runs.{takes}
 use Rattle.ts_board.specs.declared.law.Terms.{Terms}
-use Rattle.ts_board.specs.Terms.{preds, Suits}
+use Rattle.ts_board.specs.Terms.{preds}
 use Rattle.ts_board.specs.Runs.{kind, actor, target, same, bit, times, taken, count, size, open_of, word_of, Allowed, IsLegalFrom, IsLegal, keep, steps_by, pick, change, work_after}
 
 pub bump : (i k : ℕ) → ((i ≡ k) × (bit (eqb i k) ≡ 1)) ⊎ ((i ≢ k) × (bit (eqb i k) ≡ 0))

@@ -1,14 +1,13 @@
 -- Sites in the slots of their commits.
-use Rattle.std.proofs.Common.{◌≡◌, ℕ, zero, suc, ◌+◌, ◌<◌, ◌≢◌, List, [], ◌∷◌, ◌++◌, map, length, sym, refl, ap, ◌∙◌, subst, arith}
+use Rattle.std.proofs.Common.{◌≡◌, ℕ, zero, suc, ◌+◌, List, [], ◌∷◌, map, length, sym, refl, ap, subst, arith}
 use Rattle.std.specs.Prelude.{Option, Some, None, slice_get, slice_index_or, option_to_list, Bool, true, false}
 use Rattle.std.proofs.lemmas.Bool.{true≢false}
 use Rattle.std.proofs.lemmas.Option.{none-some, same_Some}
 use Rattle.ts_name.specs.Paths.{Path}
 use Rattle.ts_model.specs.Trees.{Listing}
-use Rattle.ts_model.specs.Plans.{KindIs}
 use Rattle.ts_model.specs.declared.plan.Plan.{Plan}
 use Rattle.ts_model.specs.declared.step.Work.{Work}
-use Rattle.ts_model.specs.declared.step.Work.TheVariants.{Staged, Put, Marked}
+use Rattle.ts_model.specs.declared.step.Work.TheVariants.{Marked}
 use Rattle.ts_model.specs.declared.plan.Action.{Action}
 use Rattle.ts_model.specs.declared.plan.Kind.{Kind}
 use Rattle.ts_model.specs.declared.plan.Kind.TheVariants.{Piece, Commit, Mark}

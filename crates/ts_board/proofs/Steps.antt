@@ -11,7 +11,7 @@ use lib.ListN.{get_elem?}
 use prog.Atomic.{either}
 use Rattle.atomic_table.specs.Table.{State, Act as Deed, step, keeps, takes, gives, Valid, carried_after, stepped, Allows}
 use Rattle.atomic_table.proofs.Lists.{at_set, set_here, set_else, exchanged}
-use Rattle.ts_model.specs.Plans.{ActionIs, AscendBelow, Waits, KindIs}
+use Rattle.ts_model.specs.Plans.{AscendBelow, Waits}
 use Rattle.ts_model.specs.Runs as model
 use Rattle.ts_model.specs.Runs.{Run, Has, HasNot, IsPending, IsPieceOf, WordsAllow, word_after, open_count}
 use Rattle.ts_model.specs.declared.plan.Plan.{Plan}
@@ -29,7 +29,7 @@ use Rattle.ts_board.specs.declared.law.View.{View}
 use Rattle.ts_board.specs.Terms.{IsLegalRun, Suits, IsOrderly, preds, opening_work}
 use Rattle.ts_board.specs.Runs.{actor, same, bit, times, taken, count, size, open_of, word_of, Allowed, IsLegal, keep, steps_by, work_after}
 use Rattle.ts_board.specs.Kept.{sight, nothing, total, claimed, share, Behind, Fits, Keeps, Kept, moved, mine, Seat, Looks, looks, Makes, claims, gives_back, fetches, does, fails, releases, takes_out, carrying, carries, SlotOk, Shelf, bare}
-use Rattle.ts_board.proofs.Runs.{bump, taken_le, taken_push, times_push, legal_push, sound, word_claim, word_else-claim, word_act, word_done, word_else-done, word_fail, word_else-fail, word_release, word_else-release, word_take, word_else-take, open_less, steps_by-append, steps_by-nobody, steps_by-other, steps_by-own, steps_by-one_more, times_by, times_by_none, times_actor, times_else, content_unacted, content_else, content_act, content_push}
+use Rattle.ts_board.proofs.Runs.{bump, taken_le, taken_push, times_push, legal_push, sound, word_claim, word_else-claim, word_act, word_done, word_else-done, word_fail, word_else-fail, word_release, word_else-release, word_take, word_else-take, open_less, steps_by-append, steps_by-nobody, steps_by-other, steps_by-own, steps_by-one_more, times_by, times_by_none, times_else, content_unacted, content_else, content_act, content_push}
 use Rattle.ts_board.proofs.Model.{legal_run, word_same, open_same, claims_tally, acts_tally, finishes_tally, fails_tally, releases_tally, taken_tally, some_tally, no_tally, pending_now, taken_by, closed_released, piece_left, times_taken, among_earlier}
 use Rattle.ts_board.proofs.Totals.{total_set, total_at, total_two}
 
@@ -338,6 +338,7 @@ module _ {S : Type 0} (content : Slot S → Work) (good : Terms → ℕ → Slot
             log = r.log;
             depth = r.depth;
             keeps = sees plan r.log r.depth (bare s) k id v at;
+            settled = r.settled;
             shelf = shelf_with plan r.log r.log s s.words s.homes id v w at r.shelf refl (λ x. omega arith) (λ j h o. same_slot (good plan j) (opening_work plan j) r.log (total (carries j) s.views) (total (carries j) (set s.views id w)) j (get_elem? s.homes j) (get_elem? s.homes j) o (carry_same s id v w j at refl) refl) (r.shelf.each_carry id v at);
           },
           (refl, (f.behind.0, f.behind.1), mine_seen r.log v f.behind, subst (λ (p : Terms). IsLegalRun p r.log) (sym named) (legal_run plan r.log k.legal), k.words i (omega arith) ∙ word_same plan r.log k.legal i ∙ ap (λ (p : Terms). word_after p.plan r.log i) (sym named)),
@@ -380,6 +381,7 @@ module _ {S : Type 0} (content : Slot S → Work) (good : Terms → ℕ → Slot
             log = after;
             depth = r.depth;
             keeps = recarry_new plan after r.depth (bare s) (set s.words i 4294967296) id v w0 (suc i) at kept;
+            settled = λ j. (let a = times_push (Act j Marked) (Claim i) log in let d = times_push (Done j) (Claim i) log in let z = r.settled j in omega arith);
             shelf = shelf_with plan log after s (set s.words i 4294967296) (set s.homes i none) id v w at r.shelf (length-set s.homes i none) (λ x. taken_le x (Claim i) log)
                 (λ j h o. dite (ℕ_discrete j i)
                 (λ e. subst (λ (z : ℕ). SlotOk content (good plan z) (opening_work plan z) after (total (carries z) views) z (get_elem? (set s.homes i none) z)) (sym e) record {
@@ -423,6 +425,7 @@ module _ {S : Type 0} (content : Slot S → Work) (good : Terms → ℕ → Slot
             log = log;
             depth = r.depth;
             keeps = recarry plan log r.depth (bare s) k id v 0 at;
+            settled = r.settled;
             shelf = shelf_with plan log log s s.words hs id v w at r.shelf (length-set s.homes i (some Empty)) (λ x. omega arith)
                 (λ j h o. dite (ℕ_discrete j i)
                 (λ same. subst (λ (z : ℕ). SlotOk content (good plan z) (opening_work plan z) log (total (carries z) views) z (get_elem? hs z)) (sym same) record {
@@ -458,6 +461,7 @@ module _ {S : Type 0} (content : Slot S → Work) (good : Terms → ℕ → Slot
             log = log;
             depth = r.depth;
             keeps = recarry plan log r.depth (bare s) k id v (suc i) at;
+            settled = r.settled;
             shelf = shelf_with plan log log s s.words hs id v w at r.shelf (length-set s.homes i none) (λ x. omega arith)
                 (λ j h o. dite (ℕ_discrete j i)
                 (λ same. subst (λ (z : ℕ). SlotOk content (good plan z) (opening_work plan z) log (total (carries z) views) z (get_elem? hs z)) (sym same) record {
@@ -509,7 +513,7 @@ module _ {S : Type 0} (content : Slot S → Work) (good : Terms → ℕ → Slot
           w,
           gives,
           tt,
-          subst (λ (m : ℕ). Holds (record { words = set s.words i m; homes = hs; views = views })) (sym (ap (λ (m : ℕ). bit_or m 8589934592) is)) record { log = last; depth = r.depth; keeps = recarry_new plan last r.depth (bare s) ws id v v2 0 at k3; shelf = shelf },
+          subst (λ (m : ℕ). Holds (record { words = set s.words i m; homes = hs; views = views })) (sym (ap (λ (m : ℕ). bit_or m 8589934592) is)) record { log = last; depth = r.depth; keeps = recarry_new plan last r.depth (bare s) ws id v v2 0 at k3; shelf = shelf; settled = λ j. (let a = times_push (Act j Marked) (Act i left) log in let d = times_push (Done j) (Act i left) log in let a2 = times_push (Act j Marked) (Done i) mid in let d2 = times_push (Done j) (Done i) mid in let z = r.settled j in omega arith) },
           (
             refl,
             (
@@ -571,7 +575,7 @@ module _ {S : Type 0} (content : Slot S → Work) (good : Terms → ℕ → Slot
           w,
           gives,
           tt,
-          subst (λ (m : ℕ). Holds (record { words = set s.words i m; homes = hs; views = views })) (sym (ap (λ (m : ℕ). bit_or m 17179869184) is)) record { log = after; depth = r.depth; keeps = recarry_new plan after r.depth (bare s) ws id v w0 0 at g.0; shelf = shelf },
+          subst (λ (m : ℕ). Holds (record { words = set s.words i m; homes = hs; views = views })) (sym (ap (λ (m : ℕ). bit_or m 17179869184) is)) record { log = after; depth = r.depth; keeps = recarry_new plan after r.depth (bare s) ws id v w0 0 at g.0; shelf = shelf; settled = λ j. (let a = times_push (Act j Marked) (Fail i) log in let d = times_push (Done j) (Fail i) log in let z = r.settled j in omega arith) },
           (refl, (w0, refl, g.1)),
         )
 
@@ -609,7 +613,7 @@ module _ {S : Type 0} (content : Slot S → Work) (good : Terms → ℕ → Slot
           w,
           keeps,
           tt,
-          subst (λ (m : ℕ). Holds (record { words = set s.words j m; homes = s.homes; views = set s.views id w })) (sym down) record { log = after; depth = r.depth; keeps = g.0; shelf = shelf },
+          subst (λ (m : ℕ). Holds (record { words = set s.words j m; homes = s.homes; views = set s.views id w })) (sym down) record { log = after; depth = r.depth; keeps = g.0; shelf = shelf; settled = λ x. (let a = times_push (Act x Marked) (Release i j) log in let d = times_push (Done x) (Release i j) log in let z = r.settled x in omega arith) },
           (refl, g.1, subst (λ (p : Terms). n ≡ open_count p.plan after j + 1) (sym named) told),
         )
 
@@ -657,6 +661,6 @@ module _ {S : Type 0} (content : Slot S → Work) (good : Terms → ℕ → Slot
           w,
           takes k y,
           lies.1,
-          subst (λ (m : ℕ). Holds (record { words = set s.words k m; homes = hs; views = views })) (sym (ap (λ (m : ℕ). bit_or m 34359738368) is)) record { log = after; depth = r.depth; keeps = recarry_new plan after r.depth (bare s) ws id v w0 (suc k) at g.0; shelf = shelf },
+          subst (λ (m : ℕ). Holds (record { words = set s.words k m; homes = hs; views = views })) (sym (ap (λ (m : ℕ). bit_or m 34359738368) is)) record { log = after; depth = r.depth; keeps = recarry_new plan after r.depth (bare s) ws id v w0 (suc k) at g.0; shelf = shelf; settled = λ j. (let a = times_push (Act j Marked) (Take c k) log in let d = times_push (Done j) (Take c k) log in let z = r.settled j in omega arith) },
           (w0, refl, g.1, (y, left.0, refl, lies.2 ∙ left.2, Contains-from_Among after (Act k (Staged left.0)) (among_earlier (Act k (Staged left.0)) log (Take c k ∷ []) left.1))),
         )

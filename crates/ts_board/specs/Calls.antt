@@ -3,19 +3,17 @@
 --     IsPassOf id t p     the pass is one of the board with this table, which was opened for these terms
 --     seen p, mine p      the beginning of the history that the pass has seen, and its own steps in it
 --     Sees, Makes         what a call adds to them
-use Rattle.std.specs.Prelude.{◌≡◌, ℕ, List, ◌++◌, map, Bool, true, false, Option}
+use Rattle.std.specs.Prelude.{◌≡◌, ℕ, List, ◌++◌, true, false, Option}
 use Rattle.atomic_table.specs.Seated.{TableId}
 use Rattle.ts_model.specs.Trees.{Listing}
 use Rattle.ts_model.specs.Runs.{Run, WordsAllow}
 use Rattle.ts_model.specs.declared.step.Step.TheVariants.{Act}
 use Rattle.ts_model.specs.declared.step.Work.{Work}
 use Rattle.ts_model.specs.declared.step.Work.TheVariants.{Marked}
-use Rattle.ts_board.specs.declared.law.Key.{Key}
 use Rattle.ts_board.specs.declared.law.Slot.{Slot}
 use Rattle.ts_board.specs.declared.law.Terms.{Terms}
 use Rattle.ts_board.specs.declared.board.Held.{Held}
 use Rattle.ts_board.specs.declared.board.Pass.{Pass}
-use Rattle.ts_board.specs.Keys.{terms_of}
 use Rattle.ts_board.specs.Terms.{work_in, IsTold, IsLegalRun, Suits}
 use Rattle.ts_board.specs.Runs.{StartsWith}
 use Rattle.ts_board.specs.Kept as kept

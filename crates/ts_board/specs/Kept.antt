@@ -4,7 +4,7 @@ use mathlib.Core.Option.{some}
 use mathlib.Core.Option as maybe
 use lib.ListN.{get_elem?}
 use Rattle.atomic_table.specs.Table.{State, Me, Step, rest}
-use Rattle.ts_model.specs.Runs.{Run, word_after, open_count, IsPending, IsPieceOf, Has, HasNot, takes}
+use Rattle.ts_model.specs.Runs.{Run, word_after, open_count, IsPending, IsPieceOf, Has, HasNot, acts, finishes, takes}
 use Rattle.ts_model.specs.Runs as model
 use Rattle.ts_model.specs.declared.step.Step.TheVariants.{Claim, Take, Act, Done, Fail, Release}
 use Rattle.ts_model.specs.declared.step.Work.{Work}
@@ -14,7 +14,7 @@ use Rattle.ts_board.specs.declared.law.Slot.{Slot}
 use Rattle.ts_board.specs.declared.law.Slot.TheVariants.{Empty}
 use Rattle.ts_board.specs.declared.law.Sight.{Sight}
 use Rattle.ts_board.specs.declared.law.View.{View}
-use Rattle.ts_board.specs.Terms.{IsLegalRun, IsOrderly, preds, opening_work}
+use Rattle.ts_board.specs.Terms.{IsLegalRun, IsOrderly, opening_work}
 use Rattle.ts_board.specs.Runs.{times, taken, count, size, word_of, IsLegal, StartsWith, steps_by, bit, work_after}
 
 abbrev pub sight : Run → List ℕ → Sight
@@ -87,6 +87,8 @@ pub record Kept {S : Type 0} (content : Slot S → Work) (good : Terms → ℕ �
   pub depth : ℕ
   pub keeps : Keeps t log depth (bare s)
   pub shelf : Shelf content good t log s
+  -- an action acts and is done in one step
+  pub settled : (i : ℕ) → times (Act i Marked) log ≡ times (Done i) log
 
 -- the pass has seen this run, and has these actions
 abbrev pub moved : View → Run → List ℕ → View
@@ -198,11 +200,15 @@ IsMerged xs ys (z ∷ zs) = ((rest : Run) × (xs ≡ z ∷ rest) × IsMerged res
 abbrev pub IsWhole : View → Type 0
 IsWhole v = v.part ≡ 2 ^ v.cut
 
--- the words after a legal run that begins with what the pass has seen. A whole pass has seen it all, and all its steps are the pass's own
+-- the words are those after this run, which is legal, and in which all that acted is done
+pub record HasLeft (t : Terms) (words : List ℕ) (run : Run) : Type 0 where
+  pub legal : IsLegalRun t run
+  pub settled : (i : ℕ) → Has run (acts i) → Has run (finishes i)
+  pub words_are : (i : ℕ) → i < size t → slice_index words i ≡ word_after t.plan run i
+
+-- the run that left the words begins with what the pass has seen. A whole pass has seen it all, and all its steps are the pass's own
 abbrev pub EndsAt : Terms → View → List ℕ → Run → Type 0
-EndsAt t v words run =
-    IsLegalRun t run × StartsWith run v.sight.seen × ((i : ℕ) → i < size t → slice_index words i ≡ word_after t.plan run i)
-    × (IsWhole v → (run ≡ v.sight.seen) × (mine v ≡ v.sight.seen))
+EndsAt t v words run = HasLeft t words run × StartsWith run v.sight.seen × (IsWhole v → (run ≡ v.sight.seen) × (mine v ≡ v.sight.seen))
 
 -- what the slot of an action has then: what lay there at the start, where it is unclaimed or failed; else what its act left, once it is done and as long as it isn't taken
 pub record Rests {S : Type 0} (content : Slot S → Work) (fine : Slot S → Type 0) (t : Terms) (run : Run) (i : ℕ) (slot : Slot S) : Type 0 where

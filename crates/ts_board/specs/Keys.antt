@@ -1,5 +1,5 @@
 -- What the board of a key was opened for.
-use Rattle.std.specs.Prelude.{ℕ, List, map, Option}
+use Rattle.std.specs.Prelude.{ℕ, List, Option}
 use Rattle.ts_model.specs.Trees.{Listing}
 use Rattle.ts_board.specs.declared.law.Key.{Key}
 use Rattle.ts_board.specs.declared.law.Terms.{Terms}

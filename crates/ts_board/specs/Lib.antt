@@ -4,3 +4,4 @@ pub mod Runs
 pub mod Kept
 pub mod Calls
 pub mod Checks
+pub mod Archives

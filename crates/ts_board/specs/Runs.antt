@@ -4,7 +4,7 @@
 --     Allowed t past x    the step may follow
 --     steps_by claims r   the steps of these actions
 --     work_after w r i    what the slot of an action has after a run, where its bytes weren't taken
-use Rattle.std.specs.Prelude.{◌≡◌, ℕ, zero, suc, ◌+◌, ◌-◌, ◌*◌, ◌<◌, ◌≤◌, ◌⊎◌, Bool, true, false, ◌==◌, ◌&&◌, List, [], ◌∷◌, ◌++◌, length}
+use Rattle.std.specs.Prelude.{◌≡◌, ℕ, zero, suc, ◌+◌, ◌-◌, ◌*◌, ◌<◌, Bool, true, false, ◌==◌, ◌&&◌, List, [], ◌∷◌, ◌++◌, length}
 use Rattle.ts_model.specs.Runs.{takes, IsPieceOf}
 use Rattle.ts_model.specs.declared.step.Step.{Step}
 use Rattle.ts_model.specs.declared.step.Step.TheVariants.{Claim, Take, Act, Done, Fail, Release}

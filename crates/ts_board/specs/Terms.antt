@@ -9,10 +9,9 @@ use Rattle.ts_model.specs.Trees.{Listing, at}
 use Rattle.ts_model.specs.Sync.{Snapshot}
 use Rattle.ts_name.specs.Paths.{Path}
 use Rattle.ts_model.specs.Plans.{ActionIs, KindIs, Waits, AscendBelow}
-use Rattle.ts_model.specs.Runs.{Run, Fits, Legal, IsPieceOf, after_step}
+use Rattle.ts_model.specs.Runs.{Run, Fits, Legal, IsPieceOf}
 use Rattle.ts_model.specs.declared.plan.Plan.{Plan}
 use Rattle.ts_model.specs.declared.plan.Action.{Action}
-use Rattle.ts_model.specs.declared.plan.Kind.{Kind}
 use Rattle.ts_model.specs.declared.plan.Kind.TheVariants.{Piece, Commit, Mark}
 use Rattle.ts_model.specs.declared.row.Stamp.{Stamp}
 use Rattle.ts_model.specs.declared.step.Step.{Step}

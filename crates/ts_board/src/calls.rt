@@ -16,12 +16,16 @@ use crate::law::{
 use std::marker::Brand;
 use ts_site::Site;
 
+/// The bit of a word that says that its action is claimed. The 32 bits below count its open predecessors.
 pub const CLAIMED: u64 = 1 << 32;
 
+/// The bit that says that the action is done.
 pub const DONE: u64 = 1 << 33;
 
+/// The bit that says that the action failed.
 pub const FAILED: u64 = 1 << 34;
 
+/// The bit that says that the staged bytes of a piece were taken.
 pub const TAKEN: u64 = 1 << 35;
 
 impl<S: Site> Board<S> {

@@ -1,9 +1,13 @@
 //! The words of a plan's actions, shared by threads: each call is one step of one legal history.
 #![tactic(auto)]
 
+mod archive;
 pub mod board;
 pub mod calls;
 pub mod fault;
 pub mod law;
 mod open;
 mod placing;
+
+pub use board::{Board, Closed, Held, Pass};
+pub use fault::{ArchiveFault, OpenFault};

@@ -11,7 +11,7 @@ use Rattle.ts_board.specs.declared.law.Slot.TheVariants.{Empty}
 use Rattle.ts_board.specs.declared.law.Terms.{Terms}
 use Rattle.ts_board.specs.Terms.{work_in, IsTold, IsSited}
 use Rattle.ts_board.specs.Keys.{terms_of}
-use Rattle.ts_board.specs.Kept.{Kept, mine, gives_back, carrying}
+use Rattle.ts_board.specs.Kept.{Kept, mine, gives_back}
 use Rattle.ts_board.proofs.Sites.{same_front, sited_still}
 use Rattle.ts_board.proofs.Steps.{claiming, giving_held, carried_makes}
 use Rattle.ts_board.proofs.board.Board.claim.Goals as goal

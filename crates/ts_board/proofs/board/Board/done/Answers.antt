@@ -1,10 +1,9 @@
 use Rattle.std.proofs.Common.{◌≡◌, ◌<◌, suc, [], ◌∷◌, sym, ap, ◌∙◌, subst, arith, bit_or}
 use Rattle.atomic_table.specs.Table.{step, rest, Allows}
 use mathlib.Core.Option.{none}
-use Rattle.ts_model.specs.Runs.{IsPending, WordsAllow}
-use Rattle.ts_model.specs.declared.step.Step.TheVariants.{Act, Done, Fail}
+use Rattle.ts_model.specs.Runs.{WordsAllow}
+use Rattle.ts_model.specs.declared.step.Step.TheVariants.{Act, Done}
 use Rattle.ts_board.specs.declared.law.View.{View}
-use Rattle.ts_board.specs.declared.law.Terms.{Terms}
 use Rattle.ts_board.specs.Terms.{work_in, IsTold}
 use Rattle.ts_board.specs.Keys.{terms_of}
 use Rattle.ts_board.specs.Kept.{Kept, mine, carrying, does}

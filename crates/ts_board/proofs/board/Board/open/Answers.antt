@@ -1,6 +1,4 @@
-use Rattle.std.proofs.Common.{◌≡◌, sym, subst}
-use Rattle.ts_model.specs.Plans.{Valid}
-use Rattle.ts_model.specs.declared.plan.Plan.{Plan}
+use Rattle.std.proofs.Common.{sym, subst}
 use Rattle.ts_check.specs.Checkup.{snapshot_of}
 use Rattle.ts_board.specs.Terms.{IsOrderly}
 use Rattle.ts_board.proofs.Orderly.{orderly}

@@ -1,4 +1,4 @@
-use Rattle.std.proofs.Common.{◌≡◌, ◌+◌, ◌≤◌, List, ◌++◌, length, sym, ap, ◌∙◌, subst, arith}
+use Rattle.std.proofs.Common.{List, ◌++◌, length, sym, ap, ◌∙◌, subst, arith}
 use Rattle.std.specs.Prelude.{slice_index_or}
 use Rattle.ts_board.specs.declared.law.Slot.{Slot}
 use Rattle.ts_board.specs.declared.law.Slot.TheVariants.{Empty}

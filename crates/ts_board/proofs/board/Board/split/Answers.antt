@@ -1,4 +1,4 @@
-use Rattle.std.proofs.Common.{◌<◌, ap, ◌∙◌, arith}
+use Rattle.std.proofs.Common.{ap, ◌∙◌, arith}
 use Rattle.ts_board.specs.Terms.{work_in, IsTold}
 use Rattle.ts_board.specs.Keys.{terms_of}
 use Rattle.ts_board.specs.Kept.{mine, Seat}

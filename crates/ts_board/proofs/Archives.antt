@@ -1,0 +1,433 @@
+-- What the marks that are done leave of the archive: what the run that did them left.
+use Rattle.std.proofs.Common.{◌≡◌, ◌≢◌, ◌⊎◌, ℕ, suc, ◌+◌, ◌*◌, ◌<◌, ◌≤◌, ◌/◌, ◌%◌, Bool, true, false, leb, leb-true, leb-false, List, [], ◌∷◌, ◌++◌, length, sym, refl, ap, ◌∙◌, subst, inl, inr, append-nil, arith}
+use Rattle.std.specs.Prelude.{slice_index, slice_index_or, Result, Ok, Err, IfOk}
+use Rattle.std.specs.List.{AllByRecursion, list_any}
+use Rattle.std.specs.Int.{bit_at}
+use Rattle.std.proofs.lemmas.Nat.{div-mul-add}
+use Rattle.std.proofs.lemmas.Bool.{true≢false, cases_Bool, cases_eq, cases_order}
+use Rattle.std.proofs.lemmas.Option.{slice_get_within}
+use Rattle.ts_name.specs.Paths.{Name, Path, IsBefore}
+use Rattle.ts_model.specs.Trees.{Listing, Tree, Print, IsListing, at}
+use Rattle.ts_model.specs.Sync.{Snapshot, IsSnapshot, AreBothDirs, IsBelowDirs, HasReason, IsSkipped}
+use Rattle.ts_model.specs.Plans.{ActionIs, EntryIs, KindIs, AscendBelow, Valid}
+use Rattle.ts_model.specs.Runs as model
+use Rattle.ts_model.specs.Runs.{Run, Legal, Has, acts, claims, takes, fails, finishes, graft, marked, after, start, open_count, pred_count, word_after}
+use Rattle.ts_model.specs.declared.row.Content.TheVariants.{Absent, Dir}
+use Rattle.ts_model.specs.declared.row.Stamp.{Stamp}
+use Rattle.ts_model.specs.declared.plan.Reason.{Reason}
+use Rattle.ts_model.specs.declared.plan.Reason.TheVariants as reason
+use Rattle.ts_model.specs.declared.plan.Entry.{Entry}
+use Rattle.ts_model.specs.declared.plan.Action.{Action}
+use Rattle.ts_model.specs.declared.plan.Kind.TheVariants.{Mark}
+use Rattle.ts_model.specs.declared.plan.Plan.{Plan}
+use Rattle.ts_model.specs.declared.plan.PlanRule.TheVariants.{Limits}
+use Rattle.ts_table.specs.Tables.{IsPlace}
+use Rattle.ts_laws.proofs.Settings.{Setting}
+use Rattle.ts_laws.proofs.Basics.{by_each, stable, same_stamp_at, same_names}
+use Rattle.ts_laws.proofs.Paths.{last_name, snoc_not_empty, same_parent, before_itself, before_trans, before_below, below_before, graft_at}
+use Rattle.ts_laws.proofs.Lists.{find_index}
+use Rattle.ts_laws.proofs.Reasons.{IsWhole, IsWhole-from_snapshot, dirs_above, edge_not_above_dirs, Below-from, Place, inside, outside, place_of, IsEdge, Dir-dirs, Dir-new, decide_reason, decide_skipped, still_not_Dir}
+use Rattle.ts_laws.proofs.Steps.{same_entry, reason_holds, mark_is_marked}
+use Rattle.ts_laws.proofs.Plans.{in_order, one_place, one_mark, mark_exists, mark_waits_for_dir}
+use Rattle.ts_laws.proofs.Entries.{reason_has_entry, parent_is_nearest}
+use Rattle.ts_laws.proofs.Runs.{IsRun, IsRun-from_legal, waited_for, preds_ascend, pred_count_is}
+use Rattle.ts_laws.proofs.Marks.{entry_edge, over_is_Dir, mark_kept, mark_over, mark_over_mark, archive_kept, marked_after}
+use Rattle.ts_laws.proofs.Carried.{AreFrom, first_from, rest_from}
+use Rattle.ts_carry.specs.Edits.{marks, left_by, with_put, ComesFirst, MayFollow}
+use Rattle.ts_carry.proofs.Edits.{first_marks, are_trees}
+use Rattle.ts_check.specs.Checkup.{Checkup, snapshot_of}
+use Rattle.ts_board.specs.declared.law.Terms.{Terms}
+use Rattle.ts_board.specs.Checks.{IsFromCheck}
+use Rattle.ts_board.specs.Kept.{HasLeft}
+use Rattle.ts_board.specs.Archives.{AreMarked, picked}
+
+-- the mark of the entry at this place has acted
+abbrev pub IsMarkedIn : Plan → Run → ℕ → Type 0
+IsMarkedIn plan r e = (i : ℕ) × KindIs plan i (Mark e) × Has r (acts i)
+
+-- what holds of all entries holds of those that are picked
+picked_all : (P : Entry → Type 0) (xs : List Entry) (flags : List Bool) → AllByRecursion P xs → AllByRecursion P (picked xs flags)
+picked_all P [] flags h = tt
+picked_all P (x ∷ xs) [] h = tt
+picked_all P (x ∷ xs) (true ∷ flags) h = (h.0, picked_all P xs flags h.1)
+picked_all P (x ∷ xs) (false ∷ flags) h = picked_all P xs flags h.1
+
+-- what an entry that isn't skipped puts is its mark
+put_mark : (s : Snapshot) (t : Print) (p : Path) (r : Reason) → ¬ IsSkipped r → with_put t p (marks s.first s.second r p) ≡ graft t p (marked s r p)
+put_mark s t p reason.Same h = refl
+put_mark s t p reason.First h = refl
+put_mark s t p reason.Second h = refl
+put_mark s t p reason.Dir h = refl
+put_mark s t p reason.Conflict h = absurd (h (inl refl))
+put_mark s t p reason.Held h = absurd (h (inr refl))
+
+-- ---- marks in the entries' order
+
+module _ (given : Setting) (r : Run) (legal : Legal given.s given.plan r) where
+  open given use {s, plan, valid, lawful, a, b}
+
+  whole : IsWhole s
+  whole = IsWhole-from_snapshot s lawful
+
+  run : IsRun plan r
+  run = IsRun-from_legal s plan valid (start s a b) r legal
+
+  abbrev Chosen : ℕ → Type 0
+  Chosen e = IsMarkedIn plan r e
+
+  -- its entry isn't skipped
+  markable : (e : ℕ) (x : Entry) → EntryIs plan e x → Chosen e → ¬ IsSkipped x.reason
+  markable e x is chosen =
+      let found = mark_is_marked s plan valid chosen.0 e chosen.1 in
+      subst (λ z. ¬ IsSkipped z.reason) (same_entry plan e found.0 x found.1 is) found.2
+
+  -- t is the archive with the marks that acted of the entries before place k
+  pub record IsMarkedTo (k : ℕ) (t : Print) : Type 0 where
+    pub kept : (q : Path) → ((e : ℕ) (x : Entry) → e < k → EntryIs plan e x → Chosen e → (more : Path) → q ≡ x.path ++ more → (x.reason ≡ reason.Dir) × (more ≢ [])) → t q ≡ s.archive q
+    pub written : (e : ℕ) (x : Entry) (rest : Path) → e < k → EntryIs plan e x → Chosen e → (x.reason ≡ reason.Dir → rest ≡ []) → t (x.path ++ rest) ≡ marked s x.reason x.path rest
+
+  -- at the start
+  pub marked_start : IsMarkedTo 0 s.archive
+  marked_start = record { kept = λ q off. refl; written = λ e x rest less is chosen only. absurd (omega arith) }
+
+  -- after an entry whose mark hasn't acted
+  unmarked_next : (k : ℕ) (t : Print) → ¬ Chosen k → IsMarkedTo k t → IsMarkedTo (suc k) t
+  unmarked_next k t none before = record {
+    kept = λ q off. before.kept q (λ e x less is chosen more at. off e x (omega arith) is chosen more at);
+    written = λ e x rest less is chosen only. elim (cases_eq e k) [
+      | inl same ↦ absurd (none (subst (λ z. Chosen z) same chosen))
+      | inr differ ↦ (let earlier : e < k = omega arith in before.written e x rest earlier is chosen only)
+    ];
+  }
+
+  -- after an entry whose mark has
+  marked_next : (k : ℕ) (t : Print) (x : Entry) → EntryIs plan k x → Chosen k → IsMarkedTo k t → IsMarkedTo (suc k) (graft t x.path (marked s x.reason x.path))
+  marked_next k t x is chosen before = record {
+    kept = λ q off. mark_kept given q t k x is (λ more at. off k x (omega arith) is chosen more at)
+        (before.kept q (λ e y less is_y chosen_y more at. off e y (omega arith) is_y chosen_y more at));
+    written = λ e y rest less is_y chosen_y only. elim (cases_eq e k) [
+      | inl same ↦ (let one : y ≡ x = same_entry plan k y x (subst (λ z. EntryIs plan z y) same is_y) is in
+          subst (λ z. graft t x.path (marked s x.reason x.path) (z.path ++ rest) ≡ marked s z.reason z.path rest) (sym one) (graft_at t x.path (marked s x.reason x.path) rest))
+      | inr differ ↦ (let earlier : e < k = omega arith in
+          mark_over_mark given t e k y x rest is_y is only
+          (λ new over. before_itself y.path (before_trans y.path x.path y.path (in_order s plan valid e k y x is_y is earlier)
+          (subst (λ z. IsBefore x.path z) (sym over.is) (before_below x.path over.name over.rest))))
+          (before.written e y rest earlier is_y chosen_y only))
+    ];
+  }
+
+  -- ---- where a marked entry stands
+
+  module _ (k : ℕ) (x : Entry) (is : EntryIs plan k x) (chosen : Chosen k) where
+    is_below : IsBelowDirs s.first s.second x.path
+    is_below = Below-from s x.path x.reason (reason_holds s plan valid k x is)
+
+    -- only new directories are above a directory of both
+    above_is_Dir : (q : Path) → AreBothDirs s.first s.second q → (e : ℕ) (y : Entry) → EntryIs plan e y → (more : Path) → q ≡ y.path ++ more → y.reason ≡ reason.Dir
+    above_is_Dir q dirs e y is_y more at = stable (decide_reason y.reason reason.Dir) (λ ne. edge_not_above_dirs s whole y.path q (entry_edge given e y is_y ne) dirs more at)
+
+    -- the new directory that it is in stands before it
+    dir_before : (parent : Path) (name : Name) → x.path ≡ parent ++ name ∷ [] → (e : ℕ) (y : Entry) → EntryIs plan e y → y.path ≡ parent → e < k
+    dir_before parent name at e y is_y same = elim (cases_order e k) [
+      | inl e_is ↦ absurd (before_itself x.path (subst (λ z. IsBefore z.path x.path) (same_entry plan k y x (subst (λ z. EntryIs plan z y) e_is is_y) is) over))
+      | inr (inl less) ↦ less
+      | inr (inr more) ↦ absurd (before_itself y.path (before_trans y.path x.path y.path over (in_order s plan valid k e x y is is_y more)))
+    ]
+      where
+        over : IsBefore y.path x.path
+        over = subst (λ z. IsBefore y.path z) (ap (λ z. z ++ name ∷ []) same ∙ sym at) (before_below y.path name [])
+
+    -- and its mark has acted, so there is a directory by then
+    stands : (t : Print) → IsMarkedTo k t → IsPlace t x.path
+    stands t before = record { not_root = λ root. snoc_not_empty is_below.0 is_below.1 (sym is_below.2 ∙ root); parent = at_parent }
+      where
+        at_parent : (parent : Path) (name : Name) → x.path ≡ parent ++ name ∷ [] → t parent ≡ Dir
+        at_parent parent name at = elim (same_stamp_at (s.archive parent) Dir) [
+          | yes old ↦ before.kept parent (λ e y less is_y chosen_y more over. kept old e y is_y more over) ∙ old
+          | no new ↦ by_mark new (last_name parent)
+        ]
+          where
+            dirs : AreBothDirs s.first s.second parent
+            dirs = subst (λ z. AreBothDirs s.first s.second z) (same_parent is_below.0 parent is_below.1 name (sym is_below.2 ∙ at)) is_below.3
+
+            kept : s.archive parent ≡ Dir → (e : ℕ) (y : Entry) → EntryIs plan e y → (more : Path) → parent ≡ y.path ++ more → (y.reason ≡ reason.Dir) × (more ≢ [])
+            kept old e y is_y more over =
+                let why = above_is_Dir parent dirs e y is_y more over in (
+                  why,
+                  λ empty. Dir-new s y.path (subst (λ z. ¬ (¬ HasReason s y.path z)) why (reason_holds s plan valid e y is_y))
+                      (ap s.archive (sym (over ∙ ap (λ z. y.path ++ z) empty ∙ append-nil y.path)) ∙ old),
+                )
+
+            by_mark : s.archive parent ≢ Dir → (parent ≡ []) ⊎ ((above : Path) × (last : Name) × (parent ≡ above ++ last ∷ [])) → t parent ≡ Dir
+            by_mark new (inl root) = absurd (new (ap s.archive root ∙ lawful.archive.root))
+            by_mark new (inr (above, last, e)) =
+                let found = reason_has_entry s plan valid parent reason.Dir ((above, last, e, dirs_above s whole above parent last [] e dirs), (dirs, new)) in
+                let dir = found.1 in
+                let near = parent_is_nearest plan k found.0 x dir name is found.2 found.4 (at ∙ ap (λ z. z ++ name ∷ []) (sym found.3)) in
+                let mark = mark_exists s plan valid found.0 dir found.2 (λ skip. still_not_Dir dir.reason skip found.4) in
+                let waits = mark_waits_for_dir s plan valid chosen.0 k found.0 mark.0 chosen.1 near mark.1 in
+                let acted = waited_for plan r chosen.0 mark.0 run (run.ordered.acted chosen.0 chosen.2) waits in
+                ap t (sym found.3 ∙ sym (append-nil dir.path))
+                ∙ before.written found.0 dir [] (dir_before parent name at found.0 dir found.2 found.3) found.2 (mark.0, mark.1, acted) (λ _. refl)
+                ∙ ap (λ z. marked s z dir.path []) found.4
+
+    -- later entries come after it
+    ascends_to : (l : ℕ) (xs : List Entry) → k < l → AreFrom plan l xs → AllByRecursion (λ later. IsBefore x.path later.path) xs
+    ascends_to l [] less from = tt
+    ascends_to l (y ∷ ys) less from = (
+      in_order s plan valid k l x y is (first_from plan l y ys from) less,
+      ascends_to (suc l) ys (omega (arith, less)) (rest_from plan l y ys from),
+    )
+
+    -- and after what is below it, unless it is a new directory
+    apart_from : x.reason ≢ reason.Dir → (rest : Path) → (l : ℕ) (xs : List Entry) → k < l → AreFrom plan l xs → AllByRecursion (λ later. IsBefore (x.path ++ rest) later.path) xs
+    apart_from ne rest l [] less from = tt
+    apart_from ne rest l (y ∷ ys) less from = (
+      below_before x.path rest y.path first (λ above. not_above above.0 above.1),
+      apart_from ne rest (suc l) ys (omega (arith, less)) (rest_from plan l y ys from),
+    )
+      where
+        first : IsBefore x.path y.path
+        first = in_order s plan valid k l x y is (first_from plan l y ys from) less
+
+        not_above : (more : Path) → y.path ≡ x.path ++ more → ⊥
+        not_above [] at = before_itself y.path (subst (λ z. IsBefore z y.path) (sym (at ∙ append-nil x.path)) first)
+        not_above (name ∷ more) at = ne (over_is_Dir given k l x y is (first_from plan l y ys from) name more at)
+
+    comes_first : (xs : List Entry) (flags : List Bool) → AreFrom plan (suc k) xs → ComesFirst x.path (marks s.first s.second x.reason x.path) (picked xs flags)
+    comes_first xs flags from = first_marks s.first s.second x (picked xs flags)
+        (picked_all (λ later. IsBefore x.path later.path) xs flags (ascends_to (suc k) xs (omega arith) from))
+        (λ ne rest. picked_all (λ later. IsBefore (x.path ++ rest) later.path) xs flags (apart_from ne rest (suc k) xs (omega arith) from))
+
+  -- ---- all marked entries
+
+  -- the flags of the entries from place k on say whose marks have acted
+  abbrev pub FlagsAre : ℕ → List Entry → List Bool → Type 0
+  FlagsAre k [] flags = Unit {0}
+  FlagsAre k (x ∷ xs) [] = ⊥
+  FlagsAre k (x ∷ xs) (flag ∷ flags) = ((flag ≡ true → Chosen k) × (Chosen k → flag ≡ true)) × FlagsAre (suc k) xs flags
+
+  -- the entry at place k is marked next
+  marked_put : (k : ℕ) (t : Print) (x : Entry) → EntryIs plan k x → Chosen k → IsMarkedTo k t → IsMarkedTo (suc k) (with_put t x.path (marks s.first s.second x.reason x.path))
+  marked_put k t x is chosen before = subst (λ u. IsMarkedTo (suc k) u) (sym (put_mark s t x.path x.reason (markable k x is chosen))) (marked_next k t x is chosen before)
+
+  -- the picked entries' marks may be put one after another
+  pub follows : (t : Print) (k : ℕ) (xs : List Entry) (flags : List Bool) → AreFrom plan k xs → FlagsAre k xs flags → IsMarkedTo k t → MayFollow (marks s.first s.second) t (picked xs flags)
+  follows t k [] flags from are before = tt
+  follows t k (x ∷ xs) [] from are before = absurd are
+  follows t k (x ∷ xs) (true ∷ flags) from are before =
+      let is = first_from plan k x xs from in
+      let chosen = are.0.0 refl in (
+        stands k x is chosen t before,
+        comes_first k x is chosen xs flags (rest_from plan k x xs from),
+        follows (with_put t x.path (marks s.first s.second x.reason x.path)) (suc k) xs flags (rest_from plan k x xs from) are.1 (marked_put k t x is chosen before),
+      )
+  follows t k (x ∷ xs) (false ∷ flags) from are before =
+      follows t (suc k) xs flags (rest_from plan k x xs from) are.1 (unmarked_next k t (λ c. true≢false (sym (are.0.1 c))) before)
+
+  -- and leave all marks
+  pub ends_marked : (t : Print) (k : ℕ) (xs : List Entry) (flags : List Bool) → AreFrom plan k xs → FlagsAre k xs flags → IsMarkedTo k t
+      → IsMarkedTo (k + length xs) (left_by (marks s.first s.second) t (picked xs flags))
+  ends_marked t k [] flags from are before = let same : k ≡ k + 0 = omega arith in subst (λ n. IsMarkedTo n t) same before
+  ends_marked t k (x ∷ xs) [] from are before = absurd are
+  ends_marked t k (x ∷ xs) (true ∷ flags) from are before =
+      let same : suc k + length xs ≡ k + length (x ∷ xs) = omega arith in
+      let u = with_put t x.path (marks s.first s.second x.reason x.path) in
+      subst (λ n. IsMarkedTo n (left_by (marks s.first s.second) u (picked xs flags))) same
+      (ends_marked u (suc k) xs flags (rest_from plan k x xs from) are.1 (marked_put k t x (first_from plan k x xs from) (are.0.0 refl) before))
+  ends_marked t k (x ∷ xs) (false ∷ flags) from are before =
+      let same : suc k + length xs ≡ k + length (x ∷ xs) = omega arith in
+      subst (λ n. IsMarkedTo n (left_by (marks s.first s.second) t (picked xs flags))) same
+      (ends_marked t (suc k) xs flags (rest_from plan k x xs from) are.1 (unmarked_next k t (λ c. true≢false (sym (are.0.1 c))) before))
+
+  -- ---- that is the archive after the run
+
+  -- no mark that acted is of the entry at p, or one is
+  marked_or_not : (p : Path) → ((e : ℕ) (x : Entry) → EntryIs plan e x → Chosen e → x.path ≢ p) ⊎ ((e : ℕ) × (x : Entry) × EntryIs plan e x × (x.path ≡ p) × Chosen e)
+  marked_or_not p = go (find_index (λ x. x.path ≡ p) (λ x. same_names x.path p) plan.entries)
+    where
+      go : ((k : ℕ) × (x : Entry) × EntryIs plan k x × (x.path ≡ p)) ⊎ ((k : ℕ) (x : Entry) → EntryIs plan k x → x.path ≢ p)
+          → ((e : ℕ) (x : Entry) → EntryIs plan e x → Chosen e → x.path ≢ p) ⊎ ((e : ℕ) × (x : Entry) × EntryIs plan e x × (x.path ≡ p) × Chosen e)
+      go (inr none) = inl (λ e x is chosen. none e x is)
+      go (inl (k, x, is, at)) = elim (decide_skipped x.reason) [
+        | yes skip ↦ inl (λ e y is_y chosen same. markable k x is (here e y is_y chosen same) skip)
+        | no unskipped ↦ by_mark (mark_exists s plan valid k x is unskipped)
+      ]
+        where
+          here : (e : ℕ) (y : Entry) → EntryIs plan e y → Chosen e → y.path ≡ p → Chosen k
+          here e y is_y chosen same = subst (λ z. Chosen z) (one_place s plan valid e k y x is_y is (same ∙ sym at)) chosen
+
+          by_mark : (m : ℕ) × KindIs plan m (Mark k) → ((e : ℕ) (x : Entry) → EntryIs plan e x → Chosen e → x.path ≢ p) ⊎ ((e : ℕ) × (x : Entry) × EntryIs plan e x × (x.path ≡ p) × Chosen e)
+          by_mark (m, kind) = elim (cases_Bool (list_any (acts m) r)) [
+            | inl acted ↦ inr (k, x, is, at, (m, kind, acted))
+            | inr idle ↦ inl (λ e y is_y chosen same.
+                let this = here e y is_y chosen same in
+                true≢false (sym (subst (λ z. Has r (acts z)) (one_mark s plan valid this.0 m k this.1 kind) this.2) ∙ idle))
+          ]
+
+  pub archive_is : (t : Print) → IsMarkedTo (length plan.entries) t → t ≡ (after s plan (start s a b) r).archive
+  archive_is t before = by_each t (after s plan (start s a b) r).archive (λ q. at_place q (place_of s whole q))
+    where
+      at_path : (p rest : Path) → IsEdge s p ⊎ (AreBothDirs s.first s.second p × (rest ≡ [])) → t (p ++ rest) ≡ (after s plan (start s a b) r).archive (p ++ rest)
+      at_path p rest kind_of_p = elim (marked_or_not p) [
+        | inl others ↦ before.kept (p ++ rest) (λ e x less is chosen more at. mark_over given p rest kind_of_p e x is (others e x is chosen) more at)
+            ∙ sym (archive_kept given (p ++ rest) r legal (record { each = λ i e x acted kind is more at. mark_over given p rest kind_of_p e x is (others e x is (i, kind, acted)) more at }))
+        | inr found ↦ subst (λ z. t (z ++ rest) ≡ (after s plan (start s a b) r).archive (z ++ rest)) found.3
+            (before.written found.0 found.1 rest (slice_get_within plan.entries found.0 found.1 found.2) found.2 found.4 (only_root found.0 found.1 found.2 found.3)
+            ∙ sym (marked_after given found.4.0 found.0 found.1 rest found.4.1 found.2 (only_root found.0 found.1 found.2 found.3) r legal found.4.2))
+      ]
+        where
+          only_root : (e : ℕ) (x : Entry) → EntryIs plan e x → x.path ≡ p → x.reason ≡ reason.Dir → rest ≡ []
+          only_root e x is at new = elim kind_of_p [
+            | inr dirs ↦ dirs.1
+            | inl edge ↦ absurd (edge.no_dirs (Dir-dirs s p (subst (λ z. ¬ (¬ HasReason s z reason.Dir)) at (subst (λ z. ¬ (¬ HasReason s x.path z)) new (reason_holds s plan valid e x is)))))
+          ]
+
+      at_place : (q : Path) → Place s q → t q ≡ (after s plan (start s a b) r).archive q
+      at_place q (inside dirs) = subst (λ z. t z ≡ (after s plan (start s a b) r).archive z) (append-nil q) (at_path q [] (inr (dirs, refl)))
+      at_place q (outside p rest e edge) = subst (λ z. t z ≡ (after s plan (start s a b) r).archive z) (sym e) (at_path p rest (inl edge))
+
+-- ---- what words say
+
+-- ascending numbers below n are n at most
+ascend_few : (n x : ℕ) (xs : List ℕ) → AscendBelow n (x ∷ xs) → x + length (x ∷ xs) ≤ n
+ascend_few n x [] h = omega (arith, h)
+ascend_few n x (y ∷ ys) h = let less = h.0 in let more = ascend_few n y ys h.1 in omega arith
+
+few_below : (n : ℕ) (xs : List ℕ) → AscendBelow n xs → length xs ≤ n
+few_below n [] h = omega arith
+few_below n (x ∷ xs) h = let few = ascend_few n x xs h in omega arith
+
+-- a valid plan has few actions
+few_actions : (s : Snapshot) (plan : Plan) → Valid s plan → length plan.actions ≤ 1048576
+few_actions s plan valid = go (leb (length plan.actions) 1048576) refl
+  where
+    go : (few : Bool) → leb (length plan.actions) 1048576 ≡ few → length plan.actions ≤ 1048576
+    go true e = leb-true (length plan.actions) 1048576 e
+    go false e = absurd (valid Limits 0 (refl, λ w. (let most = w.actions in let many = leb-false (length plan.actions) 1048576 e in absurd (omega arith))))
+
+-- so an action has few predecessors
+few_open : (s : Snapshot) (plan : Plan) → Valid s plan → (r : Run) (i : ℕ) (action : Action) → ActionIs plan i action → open_count plan r i < 4294967296
+few_open s plan valid r i action is =
+    let few = few_actions s plan valid in let within = slice_get_within plan.actions i action is in
+    let below = few_below i action.preds (preds_ascend s plan valid i action is) in let count = pred_count_is plan i action is in
+    omega arith
+
+bit_in : (n k low : ℕ) → n ≡ k * 8589934592 + low → low < 8589934592 → bit_at n 33 ≡ k % 2
+bit_in n k low e less = ap (λ z. z / 8589934592 % 2) e ∙ ap (λ z. z % 2) (div-mul-add k 8589934592 low less)
+
+abbrev weight : Bool → ℕ
+weight true = 1
+weight false = 0
+
+done_bit : (free : ℕ) (c d f t : Bool) → free < 4294967296 → bit_at (free + model.bit 32 c + model.bit 33 d + model.bit 34 f + model.bit 35 t) 33 ≡ weight d
+done_bit free true true true true less = bit_in _ 7 (free + 4294967296) (omega arith) (omega arith)
+done_bit free true true true false less = bit_in _ 3 (free + 4294967296) (omega arith) (omega arith)
+done_bit free true true false true less = bit_in _ 5 (free + 4294967296) (omega arith) (omega arith)
+done_bit free true true false false less = bit_in _ 1 (free + 4294967296) (omega arith) (omega arith)
+done_bit free true false true true less = bit_in _ 6 (free + 4294967296) (omega arith) (omega arith)
+done_bit free true false true false less = bit_in _ 2 (free + 4294967296) (omega arith) (omega arith)
+done_bit free true false false true less = bit_in _ 4 (free + 4294967296) (omega arith) (omega arith)
+done_bit free true false false false less = bit_in _ 0 (free + 4294967296) (omega arith) (omega arith)
+done_bit free false true true true less = bit_in _ 7 free (omega arith) (omega arith)
+done_bit free false true true false less = bit_in _ 3 free (omega arith) (omega arith)
+done_bit free false true false true less = bit_in _ 5 free (omega arith) (omega arith)
+done_bit free false true false false less = bit_in _ 1 free (omega arith) (omega arith)
+done_bit free false false true true less = bit_in _ 6 free (omega arith) (omega arith)
+done_bit free false false true false less = bit_in _ 2 free (omega arith) (omega arith)
+done_bit free false false false true less = bit_in _ 4 free (omega arith) (omega arith)
+done_bit free false false false false less = bit_in _ 0 free (omega arith) (omega arith)
+
+-- the bit says whether the action is done
+done_word : (s : Snapshot) (plan : Plan) → Valid s plan → (r : Run) (i : ℕ) (action : Action) → ActionIs plan i action → bit_at (word_after plan r i) 33 ≡ weight (list_any (finishes i) r)
+done_word s plan valid r i action is =
+    done_bit (open_count plan r i) (list_any (claims i) r) (list_any (finishes i) r) (list_any (fails i) r) (list_any (takes i) r) (few_open s plan valid r i action is)
+
+from_weight : (b : Bool) → weight b ≡ 1 → b ≡ true
+from_weight true h = refl
+from_weight false h = absurd (omega arith)
+
+-- ---- what is left
+
+flags_from : (given : Setting) (r : Run) (legal : Legal given.s given.plan r) (k : ℕ) (xs : List Entry) (flags : List Bool) → length flags ≡ length xs
+    → ((j : ℕ) → j < length xs → (slice_index_or flags j false ≡ true → IsMarkedIn given.plan r (k + j)) × (IsMarkedIn given.plan r (k + j) → slice_index_or flags j false ≡ true)) → FlagsAre given r legal k xs flags
+flags_from given r legal k [] flags long each = tt
+flags_from given r legal k (x ∷ xs) [] long each = absurd (omega (arith, long))
+flags_from given r legal k (x ∷ xs) (flag ∷ flags) long each = (
+  (let here = each 0 (omega arith) in let same : k + 0 ≡ k = omega arith in ((λ h. subst (λ z. IsMarkedIn given.plan r z) same (here.0 h)), λ h. here.1 (subst (λ z. IsMarkedIn given.plan r z) (sym same) h))),
+  flags_from given r legal (suc k) xs flags (omega (arith, long)) (λ j less.
+      let there = each (suc j) (omega (arith, less)) in
+      let same : k + suc j ≡ suc k + j = omega arith in
+      ((λ h. subst (λ z. IsMarkedIn given.plan r z) same (there.0 h)), λ h. there.1 (subst (λ z. IsMarkedIn given.plan r z) (sym same) h))),
+)
+
+nowhere : Tree
+nowhere p = Absent
+
+module _ (k : Checkup) (words : List ℕ) (flags : List Bool) (archive : IsListing k.archive) (first : IsListing k.first) (second : IsListing k.second) (valid : Valid (snapshot_of k) k.plan)
+    (long : length flags ≡ length k.plan.entries) (marked : AreMarked k.plan words flags) (t : Terms) (run : Run) (from : IsFromCheck t k) (left : HasLeft t words run) where
+  lawful : IsSnapshot (snapshot_of k)
+  lawful = are_trees k.archive k.first k.second k.rules archive first second
+
+  abbrev setting : Tree → Tree → Setting
+  setting a b = record { s = snapshot_of k; plan = k.plan; valid = valid; lawful = lawful; a = a; b = b }
+
+  legal_run : Legal (snapshot_of k) k.plan run
+  legal_run = subst (λ p. Legal (snapshot_of k) p run) from.0 (left.legal (snapshot_of k) (sym (ap at from.1), sym (ap at from.2)))
+
+  ran : IsRun k.plan run
+  ran = IsRun-from_legal (snapshot_of k) k.plan valid (start (snapshot_of k) nowhere nowhere) run legal_run
+
+  -- the word of an action says whether it has acted
+  word_is : (i : ℕ) (action : Action) → ActionIs k.plan i action → bit_at (slice_index words i) 33 ≡ weight (list_any (finishes i) run)
+  word_is i action is =
+      let within = slice_get_within k.plan.actions i action is in
+      let size_is : length t.plan.actions ≡ length k.plan.actions = ap (λ p. length p.actions) from.0 in
+      ap (λ n. bit_at n 33) (left.words_are i (omega arith) ∙ ap (λ p. word_after p run i) from.0) ∙ done_word (snapshot_of k) k.plan valid run i action is
+
+  flags_are : (e : ℕ) → e < length k.plan.entries → (slice_index_or flags e false ≡ true → IsMarkedIn k.plan run e) × (IsMarkedIn k.plan run e → slice_index_or flags e false ≡ true)
+  flags_are e within = (
+    (λ set. let found = marked.only e set in (
+      found.0,
+      found.1,
+      ran.ordered.finished found.0 (from_weight (list_any (finishes found.0) run) (sym (word_is found.0 found.1.0 found.1.1) ∙ found.2)),
+    )),
+    λ (i, kind, acted). marked.all i e (slice_get_within k.plan.actions i kind.0 kind.1) kind (word_is i kind.0 kind.1 ∙ ap weight (left.settled i acted)) within,
+  )
+
+  flags_right : (a b : Tree) → FlagsAre (setting a b) run legal_run 0 k.plan.entries flags
+  flags_right a b = flags_from (setting a b) run legal_run 0 k.plan.entries flags long (λ j less.
+      let there = flags_are j less in
+      let same : j ≡ 0 + j = omega arith in
+      ((λ h. subst (λ z. IsMarkedIn k.plan run z) same (there.0 h)), λ h. there.1 (subst (λ z. IsMarkedIn k.plan run z) (sym same) h)))
+
+  all_from : AreFrom k.plan 0 k.plan.entries
+  all_from j x is = let same : j ≡ 0 + j = omega arith in subst (λ z. EntryIs k.plan z x) same is
+
+  -- the flagged marks may be put into the archive
+  pub marks_follow : MayFollow (marks (at k.first) (at k.second)) (at k.archive) (picked k.plan.entries flags)
+  marks_follow = follows (setting nowhere nowhere) run legal_run (at k.archive) 0 k.plan.entries flags all_from (flags_right nowhere nowhere) (marked_start (setting nowhere nowhere) run legal_run)
+
+  -- and leave the archive after the run
+  pub marks_leave : (a b : Tree) → left_by (marks (at k.first) (at k.second)) (at k.archive) (picked k.plan.entries flags) ≡ (after (snapshot_of k) k.plan (start (snapshot_of k) a b) run).archive
+  marks_leave a b =
+      let same : 0 + length k.plan.entries ≡ length k.plan.entries = omega arith in
+      let ended = ends_marked (setting a b) run legal_run (at k.archive) 0 k.plan.entries flags all_from (flags_right a b) (marked_start (setting a b) run legal_run) in
+      archive_is (setting a b) run legal_run (left_by (marks (at k.first) (at k.second)) (at k.archive) (picked k.plan.entries flags))
+      (subst (λ n. IsMarkedTo (setting a b) run legal_run n (left_by (marks (at k.first) (at k.second)) (at k.archive) (picked k.plan.entries flags))) same ended)
+
+  -- the same, of values that are these
+  pub follow_from : (arc fst snd : Listing Stamp) (entries : List Entry) (fs : List Bool) → arc ≡ k.archive → fst ≡ k.first → snd ≡ k.second → entries ≡ k.plan.entries → fs ≡ flags
+      → MayFollow (marks (at fst) (at snd)) (at arc) (picked entries fs)
+  follow_from arc fst snd entries fs arc_is fst_is snd_is entries_are fs_are =
+      subst (λ (x : Listing Stamp × Listing Stamp × Listing Stamp × List Entry × List Bool). MayFollow (marks (at x.1) (at x.2)) (at x.0) (picked x.3 x.4))
+      (λ i. (sym arc_is i, sym fst_is i, sym snd_is i, sym entries_are i, sym fs_are i)) marks_follow
+
+  pub leave_from : (arc fst snd : Listing Stamp) (entries : List Entry) (fs : List Bool) → arc ≡ k.archive → fst ≡ k.first → snd ≡ k.second → entries ≡ k.plan.entries → fs ≡ flags
+      → (a b : Tree) → left_by (marks (at fst) (at snd)) (at arc) (picked entries fs) ≡ (after (snapshot_of k) k.plan (start (snapshot_of k) a b) run).archive
+  leave_from arc fst snd entries fs arc_is fst_is snd_is entries_are fs_are a b =
+      (λ i. left_by (marks (at (fst_is i)) (at (snd_is i))) (at (arc_is i)) (picked (entries_are i) (fs_are i))) ∙ marks_leave a b
+
+pub if_ok : {A E : Type 0} (P Q : A → Type 0) (r : Result A E) → ((x : A) → P x → Q x) → IfOk r P → IfOk r Q
+if_ok P Q (Ok x) f h = f x h
+if_ok P Q (Err e) f h = h

@@ -1,0 +1,131 @@
+-- The loops over actions and entries: which entries are flagged, and the edits of those.
+use Rattle.std.proofs.Common.{◌≡◌, ◌≢◌, ℕ, zero, suc, ◌+◌, ◌*◌, ◌<◌, ◌≤◌, bit_and, Bool, true, false, cond, List, [], ◌∷◌, ◌++◌, length, drop, set, get_or, replicate, Option, Some, None, sym, refl, ap, ◌∙◌, subst, inl, inr, append_assoc, append-nil, drop-cons, arith}
+use Rattle.std.specs.Prelude.{slice_index}
+use Rattle.std.proofs.Math.ListN.{drop_of_length-le}
+use Rattle.std.specs.Int.{bit_at}
+use Rattle.std.proofs.lemmas.Nat.Bits.{and_pow, bit_at-lt}
+use Rattle.std.proofs.lemmas.Bool.{true≢false, cases_eq}
+use Rattle.std.proofs.lemmas.List.{get_or-set_same, get_or-set_other}
+use Rattle.ts_name.specs.Paths.{Path}
+use Rattle.ts_model.specs.Plans.{KindIs}
+use Rattle.ts_model.specs.declared.row.Content.{Content}
+use Rattle.ts_model.specs.declared.plan.Reason.{Reason}
+use Rattle.ts_model.specs.declared.plan.Entry.{Entry}
+use Rattle.ts_model.specs.declared.plan.Kind.{Kind}
+use Rattle.ts_model.specs.declared.plan.Kind.TheVariants.{Piece, Commit, Mark}
+use Rattle.ts_model.specs.declared.plan.Plan.{Plan}
+use Rattle.ts_table.specs.declared.splice.Edit.{Edit}
+use Rattle.ts_laws.proofs.Steps.{same_kind}
+use Rattle.ts_carry.specs.Edits.{Gives, AreEdits}
+use Rattle.ts_carry.proofs.Edits.{push_edit}
+use Rattle.ts_board.specs.Archives.{IsDone, AreMarkedBelow, picked}
+
+-- ---- flags
+
+-- the entry of a mark
+abbrev marked_entry : Kind → ℕ
+marked_entry (Mark e) = e
+marked_entry (Commit e) = 0
+marked_entry (Piece e offset size p) = 0
+
+one_entry : (plan : Plan) (n d e : ℕ) → KindIs plan n (Mark d) → KindIs plan n (Mark e) → d ≡ e
+one_entry plan n d e x y = ap marked_entry (same_kind plan n (Mark d) (Mark e) x y)
+
+-- action n is a mark and done, and its entry's flag is set
+pub flag_on : (plan : Plan) (words : List ℕ) (n e : ℕ) (flags : List Bool) → AreMarkedBelow n plan words flags → KindIs plan n (Mark e) → IsDone (slice_index words n) → e < length flags
+    → AreMarkedBelow (n + 1) plan words (set flags e true)
+flag_on plan words n e flags before kind done within = record {
+  only = λ d h. elim (cases_eq d e) [
+    | inl same ↦ (n, subst (λ z. KindIs plan n (Mark z)) (sym same) kind, done)
+    | inr differ ↦ before.only d (sym (get_or-set_other flags e d true false differ) ∙ h)
+  ];
+  all = λ i d less its is_done inside. elim (cases_eq d e) [
+    | inl same ↦ subst (λ z. get_or (set flags e true) z false ≡ true) (sym same) (get_or-set_same flags e true false within)
+    | inr differ ↦ get_or-set_other flags e d true false differ ∙ elim (cases_eq i n) [
+      | inl now ↦ absurd (differ (one_entry plan n d e (subst (λ z. KindIs plan z (Mark d)) now its) kind))
+      | inr other ↦ (let earlier : i < n = omega arith in before.all i d earlier its is_done inside)
+    ]
+  ];
+}
+
+-- action n is no mark that is done, of an entry
+pub flag_off : (plan : Plan) (words : List ℕ) (n : ℕ) (flags : List Bool) → AreMarkedBelow n plan words flags
+    → ((e : ℕ) → KindIs plan n (Mark e) → IsDone (slice_index words n) → e < length plan.entries → ⊥) → AreMarkedBelow (n + 1) plan words flags
+flag_off plan words n flags before none = record {
+  only = before.only;
+  all = λ i d less its is_done inside. elim (cases_eq i n) [
+    | inl now ↦ absurd (none d (subst (λ z. KindIs plan z (Mark d)) now its) (subst (λ z. IsDone (slice_index words z)) now is_done) inside)
+    | inr other ↦ (let earlier : i < n = omega arith in before.all i d earlier its is_done inside)
+  ];
+}
+
+-- ---- edits
+
+module _ {F : Type 0} (puts : Reason → Path → Option (Path → Content F)) (entries : List Entry) (flags : List Bool) (long : length flags ≡ length entries) where
+  -- those of the entries from here on, with the edits so far, are those of all
+  abbrev pub SoFar : ℕ → List (Edit F) → Type 0
+  SoFar i edits = (more : List (Edit F)) → AreEdits puts (picked (drop i entries) (drop i flags)) more → AreEdits puts (picked entries flags) (edits ++ more)
+
+  heads : (i : ℕ) (entry : Entry) (flag : Bool) → i < length entries → entry ≡ get_or entries i entry → get_or flags i false ≡ flag
+      → picked (drop i entries) (drop i flags) ≡ cond flag (entry ∷ picked (drop (i + 1) entries) (drop (i + 1) flags)) (picked (drop (i + 1) entries) (drop (i + 1) flags))
+  heads i entry flag within is flag_is =
+      let next : suc i ≡ i + 1 = omega arith in
+      (λ k. picked (drop-cons entries i entry within k) (drop-cons flags i false (omega arith) k))
+      ∙ (λ k. cond (flag_is k) (sym is k ∷ picked (drop (next k) entries) (drop (next k) flags)) (picked (drop (next k) entries) (drop (next k) flags)))
+
+  -- an entry that isn't flagged
+  pub passed : (i : ℕ) (entry : Entry) (edits : List (Edit F)) → i < length entries → entry ≡ get_or entries i entry → get_or flags i false ≡ false → SoFar i edits → SoFar (i + 1) edits
+  passed i entry edits within is off so_far more h = so_far more (subst (λ rest. AreEdits puts rest more) (sym (heads i entry false within is off)) h)
+
+  -- one that is
+  pub one_picked : (i : ℕ) (entry : Entry) (found : Option (Edit F)) (edits now : List (Edit F)) → i < length entries → entry ≡ get_or entries i entry → get_or flags i false ≡ true
+      → Gives (puts entry.reason entry.path) entry.path found → now ≡ edits ++ elim found [ None ↦ [] | Some one ↦ one ∷ [] ] → SoFar i edits → SoFar (i + 1) now
+  one_picked i entry found edits now within is on gives now_is so_far more h =
+      subst (λ es. AreEdits puts (picked entries flags) es) (sym (ap (λ z. z ++ more) now_is ∙ joined found))
+      (so_far _ (subst (λ rest. AreEdits puts rest (after found)) (sym (heads i entry true within is on))
+      (push_edit (puts entry.reason entry.path) entry.path found edits more (λ rest. AreEdits puts (picked (drop (i + 1) entries) (drop (i + 1) flags)) rest) gives h)))
+    where
+      after : Option (Edit F) → List (Edit F)
+      after o = elim o [ None ↦ more | Some one ↦ one ∷ more ]
+
+      joined : (o : Option (Edit F)) → (edits ++ elim o [ None ↦ [] | Some one ↦ one ∷ [] ]) ++ more ≡ edits ++ after o
+      joined None = ap (λ z. z ++ more) (append-nil edits)
+      joined (Some one) = append_assoc edits (one ∷ []) more
+
+  -- all were gone through
+  pub all_picked : (i : ℕ) (edits : List (Edit F)) → length entries ≤ i → SoFar i edits → AreEdits puts (picked entries flags) edits
+  all_picked i edits past so_far =
+      subst (λ es. AreEdits puts (picked entries flags) es) (append-nil edits)
+      (so_far [] (subst (λ rest. AreEdits {F = F} puts (picked rest (drop i flags)) []) (sym (drop_of_length-le entries past)) refl))
+
+-- ---- the bit of a done action
+
+bit_set : (m b : ℕ) → m ≡ b * 8589934592 → b < 2 → m ≢ 0 → b ≡ 1
+bit_set m b e less some = elim (cases_eq b 0) [
+  | inl none ↦ absurd (some (e ∙ ap (λ z. z * 8589934592) none))
+  | inr one ↦ omega arith
+]
+
+pub is_done : (word : ℕ) → bit_and word 8589934592 ≢ 0 → IsDone word
+is_done word some = bit_set (bit_and word 8589934592) (bit_at word 33) (and_pow word 33) (bit_at-lt word 33) some
+
+pub is_not_done : (word : ℕ) → bit_and word 8589934592 ≡ 0 → ¬ IsDone word
+is_not_done word none one = let e : 0 ≡ 1 * 8589934592 = sym none ∙ and_pow word 33 ∙ ap (λ z. z * 8589934592) one in absurd (omega arith)
+
+-- ---- the loop over actions
+
+unset : (n e : ℕ) → get_or (replicate n false) e false ≡ false
+unset zero e = refl
+unset (suc n) zero = refl
+unset (suc n) (suc e) = unset n e
+
+-- at the start no flag is set
+pub none_flagged : (plan : Plan) (words : List ℕ) (n : ℕ) (flags : List Bool) → flags ≡ replicate n false → AreMarkedBelow 0 plan words flags
+none_flagged plan words n flags same = record {
+  only = λ e h. absurd (true≢false (sym h ∙ ap (λ (l : List Bool). get_or l e false) same ∙ unset n e));
+  all = λ i e less its is_done inside. absurd (omega arith);
+}
+
+-- at the end all actions were looked at
+pub all_flagged : (plan : Plan) (words : List ℕ) (n m : ℕ) (flags : List Bool) → n ≤ m → AreMarkedBelow m plan words flags → AreMarkedBelow n plan words flags
+all_flagged plan words n m flags most marked = record { only = marked.only; all = λ i e less its is_done inside. (let earlier : i < m = omega arith in marked.all i e earlier its is_done inside) }

@@ -1,0 +1,165 @@
+//! The archive that a closed board leaves.
+ghost use Rattle.std.specs.Prelude.{ℕ, List, ◌≡◌, ◌<◌, ◌≤◌, IfOk, IfSome, IfNone, length, slice_index};
+ghost use Rattle.std.specs.Mem.Slots.{slots_items, slots_len};
+ghost use Rattle.ts_board.specs.Archives.{AreMarked, HasEnded, IsDone, LeftArchive, picked};
+ghost use Rattle.ts_carry.specs.Edits.{AreEdits, Gives, IsPart, MayFollow, left_by, marks};
+ghost use Rattle.ts_model.specs.Runs.{bare_directory};
+ghost use Rattle.ts_model.specs.Trees.{at, sub};
+ghost use Rattle.ts_model.specs.declared.plan.Kind.TheVariants.{Mark};
+ghost use Rattle.ts_name.specs.Paths.{IsPath};
+
+use crate::board::Closed;
+use crate::calls::DONE;
+use crate::fault::ArchiveFault;
+use std::alloc::Global;
+use ts_check::Checked;
+use ts_model::plan::{Action, Entry, Kind, Plan, Reason};
+use ts_model::row::Stamp;
+use ts_name::Path;
+use ts_print::{Print, PrintFault};
+use ts_site::Site;
+use ts_table::{Edit, SubTable};
+
+impl<S: Site> Closed<S> {
+    /// The archive that the plan was checked against, with the mark of each action that is done: the archive after the run
+    /// that left the words. All marks are made in one pass over the entries, which ascend by path.
+    ///
+    /// # Errors
+    ///
+    /// Want of memory alone.
+    pub fn archive(&self, alloc: Global, checked: &Checked<'_>) -> Result<Print, ArchiveFault>
+        requires words { length checked.now.plan.actions ≤ slots_len self.now.row.words }
+        requires ended { HasEnded checked.now (slots_items self.now.row.words) }
+        ensures { IfOk result (λ print. LeftArchive checked.now (slots_items self.now.row.words) print) }
+    {
+        let plan = checked.plan();
+        let marked = self.marked_entries(alloc, plan)?;
+        let archive = checked.archive();
+        let (first, second) = (checked.first(), checked.second());
+        let _archive = archive.rows();
+        let _first = first.rows();
+        let _second = second.rows();
+        let entries = plan.entries.as_slice();
+        with_marks(alloc, entries, marked.as_slice(), archive, first, second)
+    }
+
+    /// For each entry, whether its mark is done.
+    fn marked_entries(&self, alloc: Global, plan: &Plan) -> Result<Vec<bool>, ArchiveFault>
+        requires { length plan.now.actions ≤ slots_len self.now.row.words }
+        ensures count { IfOk result (λ flags. length flags.items ≡ length plan.now.entries) }
+        ensures marked { IfOk result (λ flags. AreMarked plan.now (slots_items self.now.row.words) flags.items) }
+    {
+        let mut flags = vec![in alloc; false; plan.entries.as_slice().len()]?;
+        for (i, action) in plan.actions.as_slice().iter().enumerate() {
+            if let Some(entry) = self.done_mark(i, action) {
+                let e = entry as usize;
+                if e < flags.len() {
+                    flags[e] = true;
+                }
+            }
+        }
+        Ok(flags)
+    }
+
+    /// The entry of an action that is a mark and is done.
+    fn done_mark(&self, i: usize, action: &Action) -> Option<u32>
+        requires { i < slots_len self.now.row.words }
+        ensures some { IfSome result (λ e. (action.now.kind ≡ Mark e) × IsDone (slice_index (slots_items self.now.row.words) i)) }
+        ensures none { IfNone result ((e : ℕ) → action.now.kind ≡ Mark e → ¬ IsDone (slice_index (slots_items self.now.row.words) i)) }
+    {
+        match action.kind {
+            Kind::Mark { entry } if self.row.word(i) & DONE != 0 => Some(entry),
+            _ => None,
+        }
+    }
+}
+
+/// The archive with the marks of the entries that are flagged, in one pass.
+fn with_marks(
+    alloc: Global,
+    entries: &[Entry],
+    flags: &[bool],
+    archive: &Print,
+    first: &Print,
+    second: &Print,
+) -> Result<Print, ArchiveFault>
+    requires follow { MayFollow (marks (at first.now) (at second.now)) (at archive.now) (picked entries.now flags.now) }
+    requires count { length flags.now ≡ length entries.now }
+    ensures { IfOk result (λ print. at print ≡ left_by (marks (at first.now) (at second.now)) (at archive.now) (picked entries.now flags.now)) }
+{
+    let edits = mark_edits(alloc, entries, flags, first, second)?;
+    let Ok(mut print) = archive.copy(alloc) else {
+        return Err(ArchiveFault::OutOfMemory);
+    };
+    match print.splice(alloc, edits) {
+        Ok(()) => Ok(print),
+        Err(PrintFault::TooLong) => unreachable!(),
+        Err(_) => Err(ArchiveFault::OutOfMemory),
+    }
+}
+
+/// The marks of the entries that are flagged, in their order.
+fn mark_edits(
+    alloc: Global,
+    entries: &[Entry],
+    flags: &[bool],
+    first: &Print,
+    second: &Print,
+) -> Result<Vec<Edit<Stamp>>, ArchiveFault>
+    requires { length flags.now ≡ length entries.now }
+    ensures { IfOk result (λ edits. AreEdits (marks (at first.now) (at second.now)) (picked entries.now flags.now) edits.items) }
+{
+    let mut edits = Vec::new(alloc);
+    for (e, entry) in entries.iter().enumerate() {
+        if flags[e] {
+            if let Some(edit) = mark_of(alloc, entry, first, second)? {
+                edits.push(edit)?;
+            }
+        }
+    }
+    Ok(edits)
+}
+
+/// What a mark puts into the archive, where the entry has one.
+fn mark_of(
+    alloc: Global,
+    entry: &Entry,
+    first: &Print,
+    second: &Print,
+) -> Result<Option<Edit<Stamp>>, ArchiveFault>
+    ensures { IfOk result (λ edit. Gives (marks (at first.now) (at second.now) entry.now.reason entry.now.path) entry.now.path edit) }
+{
+    let Ok(path) = entry.path.copy(alloc) else {
+        return Err(ArchiveFault::OutOfMemory);
+    };
+    let part = match entry.reason {
+        Reason::Dir => new_dir(alloc, &path)?,
+        Reason::Same | Reason::First => subtree(alloc, first, &path)?,
+        Reason::Second => subtree(alloc, second, &path)?,
+        Reason::Conflict | Reason::Held => return Ok(None),
+    };
+    Ok(Some(Edit { path, part }))
+}
+
+/// A directory without children, at a path.
+fn new_dir(alloc: Global, path: &Path) -> Result<SubTable<Stamp>, ArchiveFault>
+    requires { IsPath path.now }
+    ensures { IfOk result (IsPart path.now bare_directory) }
+{
+    let Ok(part) = SubTable::dir(alloc) else {
+        return Err(ArchiveFault::OutOfMemory);
+    };
+    let _rows = part.rows();
+    Ok(part)
+}
+
+/// What a print has at a path and below it.
+fn subtree(alloc: Global, print: &Print, path: &Path) -> Result<SubTable<Stamp>, ArchiveFault>
+    ensures { IfOk result (IsPart path.now (sub (at print.now) path.now)) }
+{
+    let Ok(part) = print.sub_table(alloc, path) else {
+        return Err(ArchiveFault::OutOfMemory);
+    };
+    let _rows = part.rows();
+    Ok(part)
+}

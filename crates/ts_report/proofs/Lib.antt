@@ -1,0 +1,2 @@
+mod Fated
+mod Sent
