@@ -17,8 +17,8 @@ const OWN: &str = ".twosync";
 
 /// A directory of the file system and what is below it, by the leave to use files that it keeps.
 ///
-/// No link is followed: before each call it is looked at what stands at the path and above it. Whoever puts a link there
-/// between the look and the call is followed. `.twosync` in the root is left out.
+/// No link is followed but the root: before each call it is looked at what stands at the path and above it. Whoever puts a
+/// link there between the look and the call is followed. `.twosync` in the root is left out.
 #[derive(Drop)]
 pub struct DiskFolder<R> {
     files: R,
@@ -49,8 +49,7 @@ impl<R: Files + AllocGlobal + Clone + Drop + Sync> Folder for DiskFolder<R> {
 
     fn list(&self, alloc: Global, path: &Path) -> Result<Vec<(Name, Kind)>, FolderFault> {
         let spelled = spell(alloc, self.root.as_str(), path)?;
-        look_above(&self.files, spelled.as_str(), self.root.len())?;
-        if kind_at(&self.files, spelled.as_str())? == Kind::File {
+        if kind_below(&self.files, spelled.as_str(), self.root.len())? == Kind::File {
             return Err(FolderFault::NotThere);
         }
         let mut names = read_names(alloc, &self.files, spelled.as_str(), path.is_root())?;
@@ -64,8 +63,7 @@ impl<R: Files + AllocGlobal + Clone + Drop + Sync> Folder for DiskFolder<R> {
 
     fn open_file(&self, alloc: Global, path: &Path) -> Result<R::File, FolderFault> {
         let spelled = spell(alloc, self.root.as_str(), path)?;
-        look_above(&self.files, spelled.as_str(), self.root.len())?;
-        if kind_at(&self.files, spelled.as_str())? == Kind::Dir {
+        if kind_below(&self.files, spelled.as_str(), self.root.len())? == Kind::Dir {
             return Err(FolderFault::NotThere);
         }
         match fs::open(&self.files, spelled.as_str()) {
@@ -99,7 +97,20 @@ fn spell(alloc: Global, root: &str, path: &Path) -> Result<String, FolderFault> 
     }
 }
 
-/// That each place above the last, from the root down, is a directory and no link. The root may be reached by links.
+/// Whether a directory or a file stands at a place of the folder, with no link on the way from the root down. The root may
+/// be a link itself.
+fn kind_below<R: Files>(files: &R, spelled: &str, root: usize) -> Result<Kind, FolderFault> {
+    if spelled.len() > root {
+        look_above(files, spelled, root)?;
+        return kind_at(files, spelled);
+    }
+    match fs::metadata(files, spelled) {
+        Ok(metadata) => kind_of(&metadata.file_type()),
+        Err(e) => Err(fault_of(&e)),
+    }
+}
+
+/// That each place above the last, from the root down, is a directory and no link.
 fn look_above<R: Files>(files: &R, spelled: &str, root: usize) -> Result<(), FolderFault> {
     for end in 0..spelled.len() {
         if end > root {
@@ -147,7 +158,8 @@ fn fault_of(e: &io::Error) -> FolderFault {
     }
 }
 
-/// The same where a directory is listed: one that must not be listed, and a name that is no text, are unreadable.
+/// The same where a directory is listed: one that must not be listed, or in which nothing may be looked at, and a name that
+/// is no text, are unreadable.
 fn listing_fault(e: &io::Error) -> FolderFault {
     match e.kind() {
         ErrorKind::PermissionDenied | ErrorKind::InvalidFilename => FolderFault::Unreadable,
@@ -192,7 +204,7 @@ fn child_of<R: Files>(
     };
     match entry.file_type() {
         Ok(file_type) => Ok((name, kind_of(&file_type)?)),
-        Err(e) => Err(fault_of(&e)),
+        Err(e) => Err(listing_fault(&e)),
     }
 }
 

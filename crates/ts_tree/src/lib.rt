@@ -18,3 +18,6 @@ pub use frame::Frame;
 pub use reader::TreeReader;
 pub use subtree::SubTree;
 pub use tree::{Node, Tree};
+
+#[cfg(test)]
+mod tests;

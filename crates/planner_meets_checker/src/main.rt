@@ -1,0 +1,88 @@
+//! Meets the planner with the checker, on generated cases: nested trees, archives that partly match them, and hold rules.
+//! In each the reasons are those that a search over all paths finds by the definitions, and the plan for what is there
+//! passes the checker.
+#![tactic(auto)]
+
+mod cases;
+mod reasons;
+
+use anyhow::{Result, bail, ensure};
+use cases::{Case, places};
+use rand_pcg::Pcg32;
+use reasons::{is_same, searched};
+use std::alloc::Global;
+use ts_check::check;
+use ts_dirty::detect;
+use ts_model::plan::{Entry, Reason};
+use ts_resume::resume;
+
+/// How many cases are tried.
+const CASES: u32 = 2_000;
+
+/// Which reasons were met.
+#[derive(Clone, Copy, Default)]
+struct Met {
+    same: bool,
+    first: bool,
+    second: bool,
+    conflict: bool,
+    held: bool,
+    dir: bool,
+}
+
+impl Met {
+    fn note(&mut self, entries: &[Entry]) {
+        for entry in entries {
+            match entry.reason {
+                Reason::Same => self.same = true,
+                Reason::First => self.first = true,
+                Reason::Second => self.second = true,
+                Reason::Conflict => self.conflict = true,
+                Reason::Held => self.held = true,
+                Reason::Dir => self.dir = true,
+            }
+        }
+    }
+
+    fn is_each(&self) -> bool {
+        self.same && self.first && self.second && self.conflict && self.held && self.dir
+    }
+}
+
+/// Tries the planner on a case, whose reasons are wanted, and the checker on its plan.
+fn try_case(alloc: Global, case: &Case, wanted: &[Entry]) -> Result<()> {
+    let marks = detect(alloc, &case.archive, &case.first, &case.second, &case.holds)?;
+    let found = ts_recon::reasons(alloc, &case.archive, &case.first, &case.second, &marks)?;
+    ensure!(is_same(found.as_slice(), wanted), "other reasons");
+    let plan = resume(alloc, &case.archive, &case.first, &case.second, &case.holds)?;
+    ensure!(is_same(plan.entries.as_slice(), wanted), "other entries");
+    match check(
+        alloc,
+        &plan,
+        &case.archive,
+        &case.first,
+        &case.second,
+        &case.holds,
+    ) {
+        Ok(_) => Ok(()),
+        Err(fault) => bail!("{fault}"),
+    }
+}
+
+fn main(rt: HostRuntime) -> Result<()> {
+    let alloc = rt.alloc();
+    let places = places(alloc)?;
+    let mut random = Pcg32::new(2_026, 11);
+    let mut met = Met::default();
+    for number in 0..CASES {
+        let case = Case::random(alloc, places.as_slice(), &mut random)?;
+        let wanted = searched(alloc, &case, places.as_slice())?;
+        met.note(wanted.as_slice());
+        if let Err(fault) = try_case(alloc, &case, wanted.as_slice()) {
+            bail!("case {number}: {fault}");
+        }
+    }
+    ensure!(met.is_each(), "a reason was never met");
+    println!(rt; "{CASES} cases: reasons as defined, plans accepted")?;
+    Ok(())
+}
