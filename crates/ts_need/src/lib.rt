@@ -10,3 +10,6 @@ pub mod state;
 pub use broken::Broken;
 pub use fault::NeedFault;
 pub use rules::first_wrong;
+
+#[cfg(test)]
+mod tests;

@@ -1,16 +1,21 @@
-//! The program `twosync`: reads its words, runs `trial` from standard input to standard output, and prints a fault
-//! on standard error.
+//! The program `twosync`: reads its words, and does what they ask for.
 #![tactic(auto)]
 
 ghost use Rattle.std.specs.Prelude.{◌≡◌};
 ghost use Rattle.twosync.specs.Faults.{fault_number};
 
+use std::alloc::AllocError;
 use std::env;
+use std::fs::Files;
 use std::io::{self, BufWriter, Input, Write};
 use std::process::ExitCode;
 use std::rt::Env;
-use ts_text::{Counted, Lines};
-use ts_trial::trial;
+use std::thread::Threads;
+use ts_command::{Command, CommandFault, command};
+use ts_folder::Folder;
+use ts_perform::performing::REFUSED;
+use ts_perform::{Disk, perform};
+use ts_text::{Counted, Sink, write_all};
 
 /// Why the program ends without an answer: the number that it prints.
 #[derive(Clone, Copy, Debug, PartialEq, Eq)]
@@ -33,40 +38,48 @@ impl Fault {
     }
 }
 
-/// The exit status of a refusal.
-const REFUSED: u8 = 3;
-
-/// Whether the program was called with the one word `trial`.
-fn asks_for_trial<R: Env + AllocGlobal>(rt: &R) -> io::Result<bool> {
-    let mut words = env::args(rt)?.skip(1);
-    let Some(word) = words.next() else {
-        return Ok(false);
-    };
-    Ok(word.as_str() == "trial" && words.next().is_none())
+impl From<AllocError> for Fault {
+    fn from(_fault: AllocError) -> Fault {
+        Fault::OutOfMemory
+    }
 }
 
-/// Runs the command that the words name, and answers the exit status.
-fn run<R: Env + Input + Print + AllocGlobal>(rt: &R) -> Result<u8, Fault> {
-    if !asks_for_trial(rt).map_err(|_| Fault::OutOfMemory)? {
-        return Err(Fault::Usage);
+/// Reads the words and does what they ask for. Answers the exit status.
+fn run<R, E: Sink>(rt: &R, err: &mut E) -> Result<u8, Fault>
+where
+    R: Env + Input + Print + Disk + Files + AllocGlobal + Threads + Clone + Drop + Sync,
+    <R::Folder as Folder>::File: Send,
+{
+    let words = env::args(rt).map_err(|_| Fault::OutOfMemory)?;
+    let words: Vec<String> = words.collect(rt.alloc())?;
+    match command(rt.alloc(), words.as_slice()) {
+        Ok(command) => answer(rt, &command, err),
+        Err(CommandFault::OutOfMemory) => Err(Fault::OutOfMemory),
+        Err(CommandFault::Usage { message }) => {
+            let text = format!(in rt.alloc(); "{message}")?;
+            let _ = write_all(err, text.as_bytes());
+            Err(Fault::Usage)
+        }
     }
+}
+
+/// Does what a command asks for, and sees that all of its answer goes out.
+fn answer<R, E: Sink>(rt: &R, command: &Command<'_>, err: &mut E) -> Result<u8, Fault>
+where
+    R: Input + Print + Disk + Files + AllocGlobal + Threads + Clone + Drop + Sync,
+    <R::Folder as Folder>::File: Send,
+{
     let out = BufWriter::new(rt.alloc(), io::writer(rt)).map_err(|_| Fault::OutOfMemory)?;
-    let mut writer = Counted::new(out);
-    let mut reader = Lines::new(rt.alloc(), Counted::new(rt.reader())).map_err(
-        |_| Fault::OutOfMemory,
-    )?;
-    let status = trial(rt.alloc(), &mut reader, &mut writer).map_err(
-        |fault| match fault.number() {
-            1 => Fault::OutOfMemory,
-            _ => Fault::Failed,
-        },
-    )?;
-    writer.inner.flush().map_err(|_| Fault::Failed)?;
+    let mut out = Counted::new(out);
+    let input = Counted::new(rt.reader());
+    let status = perform(rt, command, input, &mut out, err);
+    out.inner.flush().map_err(|_| Fault::Failed)?;
     Ok(status)
 }
 
 fn main(rt: HostRuntime) -> ExitCode {
-    match run(&rt) {
+    let mut err = Counted::new(rt.stderr());
+    match run(&rt, &mut err) {
         Ok(status) => ExitCode::from(status),
         Err(fault) => {
             let number = fault.number();

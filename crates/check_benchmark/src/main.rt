@@ -1,0 +1,268 @@
+//! Checks two large plans. The first copies many new files of two pieces each, side by side. The second copies many new
+//! files of one piece out of a directory that stands deep below new ones. Without an argument it checks small plans of both
+//! kinds; after the word `wide` or `deep` comes a number of files, and then it also says how long that took and how much
+//! memory.
+#![tactic(auto)]
+
+ghost use Rattle.std.specs.Prelude.{◌≡◌, ◌-◌, None, Some, IfNone, IfSome};
+
+use anyhow::{Context, Result, bail};
+use std::alloc::Global;
+use std::rt::{Clock, Env, Files};
+use std::time::{Duration, Instant};
+use std::{env, fs};
+use ts_check::{CheckFault, check};
+use ts_hold::Holds;
+use ts_model::items::Items;
+use ts_model::plan::{Action, Entry, Kind, Plan, Reason};
+use ts_name::Path;
+use ts_print::PrintReader;
+
+/// How many files there are where no number is given.
+const FEW: u32 = 500;
+
+/// How many new directories stand one in another.
+const DEPTH: u32 = 60;
+
+const PIECE: u64 = 1_048_576;
+
+/// The prints of both replicas, and a plan for them over an empty archive.
+#[derive(Drop)]
+struct Work {
+    first: ts_print::Print,
+    second: ts_print::Print,
+    plan: Plan,
+}
+
+/// A print that is read line by line, and a plan that grows with it.
+#[derive(Drop)]
+struct Draft {
+    first: PrintReader,
+    second: PrintReader,
+    entries: Vec<Entry>,
+    actions: Vec<Action>,
+}
+
+impl Draft {
+    fn new(alloc: Global) -> Self {
+        Draft {
+            first: PrintReader::new(alloc),
+            second: PrintReader::new(alloc),
+            entries: Vec::new(alloc),
+            actions: Vec::new(alloc),
+        }
+    }
+
+    fn act(&mut self, kind: Kind, preds: Vec<u32>) -> Result<u32> {
+        let number = u32::try_from(self.actions.len()).context("counting actions")?;
+        let preds = Items::new(preds);
+        self.actions.push(Action { kind, preds })?;
+        Ok(number)
+    }
+
+    fn enter(&mut self, alloc: Global, path: &str, reason: Reason) -> Result<u32> {
+        let number = u32::try_from(self.entries.len()).context("counting entries")?;
+        let path = Path::parse_text(alloc, path.as_bytes())?;
+        self.entries.push(Entry { path, reason })?;
+        Ok(number)
+    }
+
+    /// A directory that both replicas have and the archive hasn't. The answer is its mark.
+    fn add_dir(&mut self, alloc: Global, path: &str, above: Option<u32>) -> Result<u32> {
+        let line = format!(in alloc; "d {path}")?;
+        self.first.line(alloc, line.as_bytes())?;
+        self.second.line(alloc, line.as_bytes())?;
+        let entry = self.enter(alloc, path, Reason::Dir)?;
+        let mut preds = Vec::new(alloc);
+        if let Some(mark) = above {
+            preds.push(mark)?;
+        }
+        self.act(Kind::Mark { entry }, preds)
+    }
+
+    /// A file that only the first replica has, with its pieces, its commit and its mark.
+    fn add_file(&mut self, alloc: Global, path: &str, size: u64, above: Option<u32>) -> Result<()> {
+        let line = format!(in alloc; "f {path} {size} {size:064}")?;
+        self.first.line(alloc, line.as_bytes())?;
+        let entry = self.enter(alloc, path, Reason::First)?;
+        let mut pieces = Vec::new(alloc);
+        for number in 0..size.div_ceil(PIECE) {
+            let offset = number.wrapping_mul(PIECE);
+            let kind = Kind::Piece {
+                entry,
+                offset,
+                length: PIECE.min(size.wrapping_sub(offset)),
+                path: Path::parse_text(alloc, path.as_bytes())?,
+            };
+            let piece = self.act(kind, Vec::new(alloc))?;
+            pieces.push(piece)?;
+        }
+        let commit = self.act(Kind::Commit { entry }, pieces)?;
+        let mut preds = Vec::new(alloc);
+        if let Some(mark) = above {
+            preds.push(mark)?;
+        }
+        preds.push(commit)?;
+        self.act(Kind::Mark { entry }, preds)?;
+        Ok(())
+    }
+
+    fn done(self) -> Result<Work> {
+        let Draft {
+            first,
+            second,
+            entries,
+            actions,
+        } = self;
+        Ok(Work {
+            first: first.finish()?,
+            second: second.finish()?,
+            plan: Plan {
+                entries: Items::new(entries),
+                actions: Items::new(actions),
+            },
+        })
+    }
+}
+
+/// Files side by side, of two pieces each: four actions an entry.
+fn wide(alloc: Global, count: u32) -> Result<Work> {
+    let mut draft = Draft::new(alloc);
+    for number in 0..count {
+        let path = format!(in alloc; "/file{number:08}")?;
+        draft.add_file(alloc, path.as_str(), PIECE + 1, None)?;
+    }
+    draft.done()
+}
+
+/// Files of one piece in the last of a chain of new directories.
+fn deep(alloc: Global, count: u32) -> Result<Work> {
+    let mut draft = Draft::new(alloc);
+    let mut dir = String::new(alloc);
+    let mut above = None;
+    for _ in 0..DEPTH {
+        dir.push_str("/d")?;
+        above = Some(draft.add_dir(alloc, dir.as_str(), above)?);
+    }
+    for number in 0..count {
+        let path = format!(in alloc; "{dir}/file{number:08}")?;
+        draft.add_file(alloc, path.as_str(), 1, above)?;
+    }
+    draft.done()
+}
+
+/// What checking a plan took.
+#[derive(Drop)]
+struct Measured {
+    actions: u32,
+    took: Duration,
+    /// How many KiB more the process held after checking, where the system tells it.
+    held: Option<u64>,
+}
+
+/// How many KiB the process holds, where the system tells it.
+fn held<R: Files + AllocGlobal>(rt: &R) -> Option<u64> {
+    let status = fs::read_to_string(rt, "/proc/self/status").ok()?;
+    let line = status
+        .as_str()
+        .lines()
+        .find(|line| line.starts_with("VmRSS:"))?;
+    line.split_whitespace().nth(1)?.parse::<u64>().ok()
+}
+
+/// How many KiB more there are now, where both are told; 0 where there are fewer.
+fn more(before: Option<u64>, after: Option<u64>) -> Option<u64>
+    ensures both { IfSome before (λ b. IfSome after (λ a. result ≡ Some (a - b))) }
+    ensures no_before { IfNone before (result ≡ None) }
+    ensures no_after { IfNone after (result ≡ None) }
+{
+    Some(after?.saturating_sub(before?))
+}
+
+/// Checks a plan, which has to be valid.
+fn judge<R: Clock + Files + AllocGlobal>(rt: &R, work: &Work) -> Result<Measured> {
+    let alloc = rt.alloc();
+    let archive = ts_print::Print::empty(alloc);
+    let holds = Holds::parse(alloc, b"path /held\nname *.part\n")?;
+    let before = held(rt);
+    let start = Instant::now(rt)?;
+    let answer = check(
+        alloc,
+        &work.plan,
+        &archive,
+        &work.first,
+        &work.second,
+        &holds,
+    );
+    let took = start.elapsed(rt)?;
+    let after = held(rt);
+    match answer {
+        Ok(checked) => Ok(Measured {
+            actions: checked.action_count(),
+            took,
+            held: more(before, after),
+        }),
+        Err(CheckFault::Broken { rule, place }) => bail!("{rule:?} is broken at {place}"),
+        Err(fault) => bail!("{fault}"),
+    }
+}
+
+/// What is asked for.
+#[derive(Drop)]
+enum Asked {
+    /// A few of both kinds.
+    Nothing,
+    Wide(u32),
+    Deep(u32),
+}
+
+/// What the words ask for.
+fn wanted<R: Env + AllocGlobal>(rt: &R) -> Result<Asked> {
+    let mut words = env::args(rt)?.skip(1);
+    let Some(kind) = words.next() else {
+        return Ok(Asked::Nothing);
+    };
+    let Some(number) = words.next() else {
+        bail!("a number is missing");
+    };
+    let number = number.as_str().parse::<u32>().context("reading a number")?;
+    match kind.as_str() {
+        "wide" => Ok(Asked::Wide(number)),
+        "deep" => Ok(Asked::Deep(number)),
+        _ => bail!("neither wide nor deep"),
+    }
+}
+
+/// Says what was checked, and in one more line, where it is asked for, what it took.
+fn tell(rt: &impl Print, title: &str, measured: &Measured, is_asked: bool) -> Result<()> {
+    let actions = measured.actions;
+    println!(rt; "{title}: {actions} actions, valid")?;
+    if is_asked {
+        let took = measured.took.as_millis();
+        println!(rt; "checked in {took} ms")?;
+        if let Some(held) = measured.held {
+            println!(rt; "held {held} KiB more after checking")?;
+        }
+    }
+    Ok(())
+}
+
+fn main(rt: HostRuntime) -> Result<()> {
+    let alloc = rt.alloc();
+    match wanted(&rt)? {
+        Asked::Nothing => {
+            let side_by_side = judge(&rt, &wide(alloc, FEW)?)?;
+            tell(&rt, "side by side", &side_by_side, false)?;
+            let chain = judge(&rt, &deep(alloc, FEW)?)?;
+            tell(&rt, "in a chain", &chain, false)
+        }
+        Asked::Wide(count) => {
+            let measured = judge(&rt, &wide(alloc, count)?)?;
+            tell(&rt, "side by side", &measured, true)
+        }
+        Asked::Deep(count) => {
+            let measured = judge(&rt, &deep(alloc, count)?)?;
+            tell(&rt, "in a chain", &measured, true)
+        }
+    }
+}

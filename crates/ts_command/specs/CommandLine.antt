@@ -1,0 +1,54 @@
+-- What clap is told of the command line.
+use Rattle.std.specs.Prelude.{◌≡◌, List, [], ◌∷◌, Some, true, false, codes, pos}
+use Rattle.clap.specs.Words.{App, Rule, Shape, Text, new_rule}
+use Rattle.clap.specs.Simple.{new_shape}
+use Rattle.clap.specs.declared.builder.command.Command.{Command}
+use Rattle.clap.specs.declared.builder.command.Command.TheViews.{out-Command}
+use Rattle.clap.specs.declared.builder.value_parser.ValueParser.TheVariants as parser
+
+-- a file or a folder that has to be named
+abbrev pub place_rule : Text → Rule
+place_rule id = record (new_rule id) { required = true }
+
+abbrev pub workers_rule : Rule
+workers_rule = record (new_rule (codes "workers")) {
+  long = Some (codes "workers");
+  value_names = 1;
+  parser = Some (parser.Signed (pos 1) (pos 64));
+  defaults = codes "4" ∷ [];
+}
+
+abbrev pub holds_rule : Rule
+holds_rule = record (new_rule (codes "holds")) { long = Some (codes "holds"); value_names = 1 }
+
+-- the command has no argument that its subcommands share
+abbrev pub IsLocal : Command → Type 0
+IsLocal c = (out-Command c).has_globals ≡ false
+
+-- a command and what it takes
+abbrev pub taking : Text → List Rule → Shape
+taking name rules = record (new_shape name) { rules = rules }
+
+abbrev pub pair_rules : List Rule
+pair_rules = place_rule (codes "FIRST") ∷ place_rule (codes "SECOND") ∷ place_rule (codes "ARCHIVE") ∷ holds_rule ∷ workers_rule ∷ []
+
+abbrev pub planned_pair_rules : List Rule
+planned_pair_rules = place_rule (codes "FIRST") ∷ place_rule (codes "SECOND") ∷ place_rule (codes "ARCHIVE") ∷ holds_rule ∷ workers_rule ∷ place_rule (codes "PLAN") ∷ []
+
+abbrev pub command_line : App
+command_line = record {
+  top = record (new_shape (codes "twosync")) {
+    is_leaf = false;
+    has_version = true;
+    subcommand_required = true;
+    disable_help_subcommand = true;
+  };
+  subs = taking (codes "trial") (workers_rule ∷ [])
+      ∷ taking (codes "scan") (place_rule (codes "DIR") ∷ workers_rule ∷ [])
+      ∷ taking (codes "show") (place_rule (codes "ARCHIVE") ∷ [])
+      ∷ taking (codes "plan") pair_rules
+      ∷ taking (codes "check") planned_pair_rules
+      ∷ taking (codes "run") planned_pair_rules
+      ∷ taking (codes "sync") pair_rules
+      ∷ [];
+}

@@ -1,0 +1,122 @@
+//! The command line as clap reads it, with its help.
+ghost use Rattle.std.specs.Prelude.{◌≡◌, [], false, IfOk};
+ghost use Rattle.clap.specs.Words.{app_of, rule_of};
+ghost use Rattle.ts_command.specs.CommandLine.{IsLocal, command_line, holds_rule, pair_rules, place_rule, planned_pair_rules, taking, workers_rule};
+
+use clap::{Arg, Command, value_parser};
+use std::alloc::{AllocError, Global};
+
+/// What stands below the list of commands.
+const EXAMPLE: &str = "\
+FIRST and SECOND are folders, ARCHIVE is a file that tells what both had in common; it is made where
+it isn't there. Keep it outside of both folders: inside, it would be copied like any other file.
+Permissions, times and links are not synchronized; a link ends the command. What changed on both
+sides is left alone and told as a conflict.
+
+Example:
+  twosync sync ~/notes /mnt/stick/notes ~/.notes.archive
+
+To see what would be done before it is done:
+  twosync plan ~/notes /mnt/stick/notes ~/.notes.archive > plan
+  twosync run ~/notes /mnt/stick/notes ~/.notes.archive plan
+
+Exit status: 0 all is done, 1 conflicts or held paths are left, 2 something failed, 3 refused.";
+
+/// A file or a folder that a command needs.
+fn place<'a>(alloc: Global, name: &'a str, help: &'a str) -> Arg<'a>
+    ensures rule { rule_of result ≡ place_rule name.now }
+    ensures local { result.global ≡ false }
+{
+    Arg::new(alloc, name).required(true).help(help)
+}
+
+/// `--workers`.
+fn workers<'a>(alloc: Global) -> Arg<'a>
+    ensures rule { rule_of result ≡ workers_rule }
+    ensures local { result.global ≡ false }
+{
+    Arg::new(alloc, "workers")
+        .long("workers")
+        .value_name("N")
+        .value_parser(value_parser!(u32).range(1..=64))
+        .default_value("4")
+        .help("How many threads work, 1 to 64")
+}
+
+/// `--holds`.
+fn holds<'a>(alloc: Global) -> Arg<'a>
+    ensures rule { rule_of result ≡ holds_rule }
+    ensures local { result.global ≡ false }
+{
+    Arg::new(alloc, "holds")
+        .long("holds")
+        .value_name("FILE")
+        .help("Rules, one a line: `path /a/b` or `name *.o`. What they name stays untouched")
+}
+
+/// The subcommand of this name, with FIRST, SECOND, ARCHIVE, `--holds` and `--workers`.
+fn on_pair<'a>(alloc: Global, name: &'a str, about: &'a str) -> Result<Command<'a>, AllocError>
+    ensures shape { IfOk result (λ c. app_of c ≡ record { top = taking name.now pair_rules; subs = [] }) }
+    ensures local { IfOk result IsLocal }
+{
+    Command::new(alloc, name)
+        .about(about)
+        .arg(place(alloc, "FIRST", "A folder"))?
+        .arg(place(alloc, "SECOND", "The other folder"))?
+        .arg(place(alloc, "ARCHIVE", "What both had in common"))?
+        .arg(holds(alloc))?
+        .arg(workers(alloc))
+}
+
+/// The same, with PLAN.
+fn on_pair_with_plan<'a>(
+    alloc: Global,
+    name: &'a str,
+    about: &'a str,
+) -> Result<Command<'a>, AllocError>
+    ensures shape { IfOk result (λ c. app_of c ≡ record { top = taking name.now planned_pair_rules; subs = [] }) }
+    ensures local { IfOk result IsLocal }
+{
+    on_pair(alloc, name, about)?.arg(place(alloc, "PLAN", "A plan, as `plan` prints it"))
+}
+
+/// The whole command line.
+pub(crate) fn described<'a>(alloc: Global) -> Result<Command<'a>, AllocError>
+    ensures { IfOk result (λ c. app_of c ≡ command_line) }
+{
+    let trial = Command::new(alloc, "trial")
+        .about("Answers a bundle of archive, folders, rules and plan on standard input")
+        .arg(workers(alloc))?;
+    let scan = Command::new(alloc, "scan")
+        .about("Prints the archive of a folder as it is now")
+        .arg(place(alloc, "DIR", "A folder"))?
+        .arg(workers(alloc))?;
+    let show = Command::new(alloc, "show")
+        .about("Prints what an archive has, a path a line")
+        .arg(place(alloc, "ARCHIVE", "An archive"))?;
+    Command::new(alloc, "twosync")
+        .about("Keeps two folders alike, by plans that are checked before they are carried out")
+        .version("0.1.0")
+        .after_help(EXAMPLE)
+        .subcommand_required(true)
+        .disable_help_subcommand(true)
+        .subcommand(trial)?
+        .subcommand(scan)?
+        .subcommand(show)?
+        .subcommand(on_pair(
+            alloc,
+            "plan",
+            "Prints what has to be done to make both folders alike",
+        )?)?
+        .subcommand(on_pair_with_plan(
+            alloc,
+            "check",
+            "Says whether a plan is valid for what is there",
+        )?)?
+        .subcommand(on_pair_with_plan(
+            alloc,
+            "run",
+            "Checks a plan, carries it out, and writes the archive",
+        )?)?
+        .subcommand(on_pair(alloc, "sync", "Plans and runs: makes both folders alike")?)
+}

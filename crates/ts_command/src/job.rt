@@ -1,0 +1,43 @@
+//! What the program may be asked to do.
+ghost use Rattle.std.specs.Prelude.{◌≤◌};
+
+/// The two replicas, their archive, and the hold rules. Each is a path of the file system.
+#[derive(Drop)]
+pub struct Pair<'a> {
+    pub first: &'a str,
+    pub second: &'a str,
+    /// The archive file. One that isn't there stands for an archive without paths.
+    pub archive: &'a str,
+    /// A file of hold rules, if there are any.
+    pub holds: Option<&'a str>,
+}
+
+/// What is to be done.
+#[derive(Drop)]
+pub enum Job<'a> {
+    /// Prints the help or the version that the words ask for.
+    Tell { text: clap::Error },
+    /// Answers the bundle on standard input.
+    Trial,
+    /// Prints the archive that a folder would give.
+    Scan { folder: &'a str },
+    /// Prints an archive's body.
+    Show { archive: &'a str },
+    /// Prints a plan for the pair.
+    Plan { pair: Pair<'a> },
+    /// Says whether a plan is valid for the pair.
+    Check { pair: Pair<'a>, plan: &'a str },
+    /// Checks a plan and carries it out.
+    Run { pair: Pair<'a>, plan: &'a str },
+    /// Makes a plan and carries it out.
+    Sync { pair: Pair<'a> },
+}
+
+/// A job, and by how many threads it is done: 1 to 64.
+#[derive(Drop)]
+pub struct Command<'a> {
+    pub job: Job<'a>,
+    pub workers: u32,
+    pub ghost some: { 1 ≤ workers },
+    pub ghost few: { workers ≤ 64 },
+}

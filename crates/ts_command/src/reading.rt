@@ -1,0 +1,157 @@
+//! From words to commands.
+ghost use Rattle.std.specs.Prelude.{◌≡◌, ◌≢◌, ◌≤◌, ℕ, List, Some, true, map, IfErr, IfNone, IfOk, IfSome, option_map};
+ghost use Rattle.clap.specs.Words.{first_of, found_of, kind_of, rows_of, subcommand_rows_of, takes};
+ghost use Rattle.ts_command.specs.CommandLine.{command_line};
+ghost use Rattle.ts_command.specs.Readings.{AreWorkers, AsksToTell, Gives, HasWorkers, IsAsked, IsJob, IsNoCommand, IsPair};
+ghost use Rattle.ts_command.specs.declared.fault.CommandFault.TheVariants.{OutOfMemory};
+ghost use Rattle.ts_command.specs.declared.job.Command.{Command};
+ghost use Rattle.ts_command.specs.declared.job.Job.{Job};
+ghost use Rattle.ts_command.specs.declared.job.Pair.{Pair};
+
+use crate::described::described;
+use crate::fault::CommandFault;
+use crate::job::{Command, Job, Pair};
+use clap::ArgMatches;
+use clap::error::ErrorKind;
+use std::alloc::Global;
+use std::convert::AsStr;
+
+/// How many threads work where the words don't say.
+const USUAL_WORKERS: u32 = 4;
+
+/// The command that the words name; the first word is the program's name. Words that ask for help or the version are a
+/// command that tells it.
+///
+/// # Errors
+///
+/// `Usage` where clap doesn't take the words. And want of memory.
+pub fn command<'a, S: AsStr>(alloc: Global, words: &'a [S]) -> Result<Command<'a>, CommandFault>
+    ensures asked { IfOk result (IsAsked (map S.text words.entry.now)) }
+    ensures usage { IfErr result (λ e. e ≢ OutOfMemory → IsNoCommand (map S.text words.entry.now)) }
+{
+    let line = described(alloc)?;
+    match line.try_get_matches_from(words) {
+        Ok(matches) => given(alloc, &matches),
+        Err(message) => tell(message),
+    }
+}
+
+/// The command that clap's reading gives, or that it gives none.
+fn given<'a>(alloc: Global, matches: &ArgMatches<'a>) -> Result<Command<'a>, CommandFault>
+    ensures asked { IfOk result (Gives (subcommand_rows_of matches.now)) }
+    ensures usage { IfErr result (λ e. e ≢ OutOfMemory → (command : Command) → ¬ Gives (subcommand_rows_of matches.now) command) }
+{
+    match read_command(matches) {
+        Some(command) => Ok(command),
+        None => Err(without_value(alloc)?),
+    }
+}
+
+/// That a value is missing or past its limits.
+fn without_value(alloc: Global) -> Result<CommandFault, CommandFault>
+    ensures { IfErr result (λ e. e ≡ OutOfMemory) }
+{
+    let mut line = described(alloc)?;
+    let said = "a value is missing or past its limits";
+    let message = line.error(ErrorKind::InvalidValue, said)?;
+    Ok(CommandFault::Usage { message })
+}
+
+/// What is answered where clap gives no matches: help and version are told, all else is a mistake in the words.
+fn tell<'a>(message: clap::Error) -> Result<Command<'a>, CommandFault>
+    ensures asked { (words : List (List ℕ)) → (takes command_line words ≡ true → kind_of message ≡ ErrorKind.OutOfMemory) → IfOk result (λ command. AsksToTell words command.job) }
+    ensures usage { (words : List (List ℕ)) → (takes command_line words ≡ true → kind_of message ≡ ErrorKind.OutOfMemory) → IfErr result (λ e. e ≢ OutOfMemory → takes command_line words ≢ true) }
+{
+    match message.kind() {
+        ErrorKind::OutOfMemory => Err(CommandFault::OutOfMemory),
+        ErrorKind::DisplayHelp | ErrorKind::DisplayVersion => Ok(Command {
+            job: Job::Tell { text: message },
+            workers: USUAL_WORKERS,
+        }),
+        _ => Err(CommandFault::Usage { message }),
+    }
+}
+
+/// The command that clap's reading gives.
+fn read_command<'a>(matches: &ArgMatches<'a>) -> Option<Command<'a>>
+    ensures some { IfSome result (Gives (subcommand_rows_of matches.now)) }
+    ensures none { IfNone result ((command : Command) → ¬ Gives (subcommand_rows_of matches.now) command) }
+{
+    let (name, inner) = matches.subcommand()?;
+    let job = read_job(name, inner)?;
+    let workers = read_workers(inner)?;
+    Some(Command { job, workers })
+}
+
+/// The value of this name.
+fn value<'a>(matches: &ArgMatches<'a>, id: &str) -> Option<&'a str>
+    ensures { option_map (λ s. s.now) result ≡ first_of id.now (rows_of (found_of matches.now)) }
+{
+    matches.get_str(id)
+}
+
+/// How many threads are asked for.
+fn read_workers(matches: &ArgMatches<'_>) -> Option<u32>
+    ensures some { IfSome result (HasWorkers (rows_of (found_of matches.now))) }
+    ensures none { IfNone result ((n : ℕ) → ¬ HasWorkers (rows_of (found_of matches.now)) n) }
+{
+    match value(matches, "workers") {
+        None => Some(USUAL_WORKERS),
+        Some(text) => read_count(text),
+    }
+}
+
+/// The number from 1 to 64 that a text tells.
+fn read_count(text: &str) -> Option<u32>
+    ensures some { IfSome result (AreWorkers (Some text.now)) }
+    ensures none { IfNone result ((n : ℕ) → ¬ AreWorkers (Some text.now) n) }
+{
+    match text.parse::<u32>() {
+        Ok(count) if count >= 1 && count <= 64 => Some(count),
+        _ => None,
+    }
+}
+
+/// The job of this name.
+fn read_job<'a>(name: &str, matches: &ArgMatches<'a>) -> Option<Job<'a>>
+    ensures some { IfSome result (IsJob name.now (rows_of (found_of matches.now))) }
+    ensures none { IfNone result ((job : Job) → ¬ IsJob name.now (rows_of (found_of matches.now)) job) }
+{
+    match name {
+        "trial" => Some(Job::Trial),
+        "scan" => Some(Job::Scan {
+            folder: value(matches, "DIR")?,
+        }),
+        "show" => Some(Job::Show {
+            archive: value(matches, "ARCHIVE")?,
+        }),
+        "plan" => Some(Job::Plan {
+            pair: read_pair(matches)?,
+        }),
+        "check" => Some(Job::Check {
+            pair: read_pair(matches)?,
+            plan: value(matches, "PLAN")?,
+        }),
+        "run" => Some(Job::Run {
+            pair: read_pair(matches)?,
+            plan: value(matches, "PLAN")?,
+        }),
+        "sync" => Some(Job::Sync {
+            pair: read_pair(matches)?,
+        }),
+        _ => None,
+    }
+}
+
+/// The pair that a command works on.
+fn read_pair<'a>(matches: &ArgMatches<'a>) -> Option<Pair<'a>>
+    ensures some { IfSome result (IsPair (rows_of (found_of matches.now))) }
+    ensures none { IfNone result ((pair : Pair) → ¬ IsPair (rows_of (found_of matches.now)) pair) }
+{
+    Some(Pair {
+        first: value(matches, "FIRST")?,
+        second: value(matches, "SECOND")?,
+        archive: value(matches, "ARCHIVE")?,
+        holds: value(matches, "holds"),
+    })
+}

@@ -1,0 +1,132 @@
+//! A site on a disk.
+ghost use Rattle.std.specs.Prelude.{◌≡◌, ◌≢◌, IfErr, IfOk};
+
+use crate::compare::compare;
+use crate::fault::DiskFault;
+use crate::places::DiskPlaces;
+use std::alloc::Global;
+use ts_folder::DiskFolder;
+use ts_name::Path;
+use ts_print::{Staged, SubPrint};
+use ts_site::{Site, SiteFault};
+use ts_swap::{Places, Spot, recover, replace};
+
+/// The place of one entry's commit in a replica on a disk, by the leave to use files that it keeps. It tells nothing of what
+/// is there.
+///
+/// A commit that the device fails at tries to leave what was there: it brings its swap to an end once more. That this
+/// succeeded, and that the disk returns what was written to it, is for its user to know. Where the device has failed
+/// 2^64 - 1 times, each commit answers want of memory.
+#[derive(Drop)]
+pub struct DiskSite<R> {
+    files: R,
+    root: String,
+    path: Path,
+    entry: u32,
+    failures: u64,
+}
+
+impl<R: Drop> DiskSite<R> {
+    /// The place below the root for the entry of this number and path. Nothing is looked at yet.
+    pub fn new(
+        alloc: Global,
+        files: R,
+        root: &str,
+        path: &Path,
+        entry: u32,
+    ) -> Result<DiskSite<R>, DiskFault>
+        ensures failures { IfOk result (λ site. site.failures ≡ 0) }
+        ensures fault { IfErr result (λ e. e ≡ DiskFault.OutOfMemory) }
+    {
+        let Ok(path) = path.copy(alloc) else {
+            return Err(DiskFault::OutOfMemory);
+        };
+        let root = String::from_str(alloc, root)?;
+        Ok(DiskSite {
+            files,
+            root,
+            path,
+            entry,
+            failures: 0,
+        })
+    }
+}
+
+impl DiskSite<HostRuntime> {
+    /// Replaces what is there, which is first looked at. It is not looked at whether the staged files fit their stamps.
+    fn swap(&self, alloc: Global, before: &SubPrint<'_>, staged: &Staged) -> Result<(), SiteFault>
+        ensures { IfErr result (λ e. e ≢ SiteFault.Misfit) }
+    {
+        let mut places = self.places(alloc)?;
+        if is_taken(&places, Spot::New) || is_taken(&places, Spot::Old) {
+            return Err(SiteFault::Device);
+        }
+        let folder = self.folder(alloc)?;
+        compare(&folder, alloc, before)?;
+        if replace(&mut places, staged.rows()).is_err() {
+            let _ = recover(&mut places);
+            return Err(SiteFault::Device);
+        }
+        Ok(())
+    }
+
+    fn places(&self, alloc: Global) -> Result<DiskPlaces<HostRuntime>, SiteFault>
+        ensures { IfErr result (λ e. e ≢ SiteFault.Misfit) }
+    {
+        let Ok(files) = self.files.clone() else {
+            return Err(SiteFault::OutOfMemory);
+        };
+        match DiskPlaces::new(alloc, files, self.root.as_str(), &self.path, self.entry) {
+            Ok(places) => Ok(places),
+            Err(DiskFault::OutOfMemory) => Err(SiteFault::OutOfMemory),
+            Err(_) => Err(SiteFault::Device),
+        }
+    }
+
+    fn folder(&self, alloc: Global) -> Result<DiskFolder<HostRuntime>, SiteFault>
+        ensures { IfErr result (λ e. e ≢ SiteFault.Misfit) }
+    {
+        let Ok(files) = self.files.clone() else {
+            return Err(SiteFault::OutOfMemory);
+        };
+        match DiskFolder::new(alloc, files, self.root.as_str()) {
+            Ok(folder) => Ok(folder),
+            Err(_) => Err(SiteFault::OutOfMemory),
+        }
+    }
+}
+
+/// Whether something may lie at a spot.
+fn is_taken<P: Places>(places: &P, spot: Spot) -> bool {
+    places.present(spot).unwrap_or(true)
+}
+
+impl Site for DiskSite<HostRuntime> {
+    ghost use Rattle.std.specs.Prelude.{None};
+
+    ghost content = { λ _. None };
+
+    ghost failures = { λ s. s.failures };
+
+    fn commit(
+        &mut self,
+        alloc: Global,
+        before: &SubPrint<'_>,
+        staged: Staged,
+    ) -> Result<(), SiteFault> {
+        if !staged.is_complete() {
+            return Err(SiteFault::Misfit);
+        }
+        // a failure more couldn't be counted
+        let Some(next) = self.failures.checked_add(1) else {
+            return Err(SiteFault::OutOfMemory);
+        };
+        match self.swap(alloc, before, &staged) {
+            Err(SiteFault::Device) => {
+                self.failures = next;
+                Err(SiteFault::Device)
+            }
+            done => done,
+        }
+    }
+}

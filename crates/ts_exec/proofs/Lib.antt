@@ -1,0 +1,9 @@
+pub mod Steps
+pub mod Tries
+pub mod Runs
+pub mod Rows
+pub mod Claims
+pub mod Closing
+pub mod Shares
+pub mod Failing
+pub mod Noting

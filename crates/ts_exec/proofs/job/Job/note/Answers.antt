@@ -1,0 +1,29 @@
+use Rattle.std.proofs.Common.{◌<◌, List, length, Some, sym, subst, ◌∙◌, arith, length-set}
+use Rattle.std.proofs.lemmas.List.{take_all}
+use Rattle.std.specs.Prelude.{slice_index_or}
+use Rattle.ts_board.specs.Keys.{terms_of}
+use Rattle.ts_exec.specs.Failures.{setting_of}
+use Rattle.ts_exec.specs.Tidy.{IsListed}
+use Rattle.ts_exec.specs.declared.crew.Failure.{Failure}
+use Rattle.ts_exec.specs.declared.fault.ActFault.TheVariants as fault
+use Rattle.ts_exec.proofs.Noting.{fault_kept, got_index, noted_more}
+use Rattle.ts_exec.proofs.job.Job.note.Goals as goal
+
+pub loop-failure-preserved : goal.loop-failure-preserved
+loop-failure-preserved g c =
+    let j = c.args.self.now in let fs = c.args.failures.now in let n = c.loop-failure.failure-index in let inv = c.loop-failure.invariant in let faults = c.loop-failure.faults.items in
+    let x = setting_of g.S.Site.failures g.F.Folder.tells g.F.Folder.lets j.checked.now j.first.now j.second.now (terms_of g.S.Site.content j.board.now.table.shared.key).told in
+    let e : Failure = slice_index_or fs n (record { action = 0; fault = fault.OutOfMemory }) in
+    let h : n < length fs = c.loop-failure-test.true in
+    let at = got_index fs n (record { action = 0; fault = fault.OutOfMemory }) h in
+    let may = c.requires.may n e at in let room = c.requires.room in let same = inv.0 in let less = may.0 in
+    let within : e.action < length faults = omega arith in (
+      length-set faults e.action (Some e.fault) ∙ inv.0,
+      (λ i had. fault_kept x faults e.action e.fault within may.1 i (inv.1 i had)),
+      noted_more x faults fs n e at within may.1 inv.2,
+    )
+
+pub returns-clause-noted : goal.returns-clause-noted
+returns-clause-noted g c = λ i listed.
+    let fs = c.args.failures.now in let n = c.loop-failure.failure-index in
+    c.loop-failure.invariant.2 i (subst (λ (z : List Failure). IsListed i z) (sym (take_all n fs c.loop-failure-test.false)) listed)

@@ -1,0 +1,5 @@
+pub mod Faults
+pub mod Failures
+pub mod Acts
+pub mod Tidy
+pub mod Outcomes

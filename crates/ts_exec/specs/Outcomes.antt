@@ -1,0 +1,51 @@
+-- What comes of a plan.
+--     IsEnd plan r words faults       the words and faults after a run in which everything was tried
+--     ResultIs plan r faults i res    what came of action i in the run r, by these faults
+--     ResultFits x r i res            what came of action i in the run r
+--     IsOutcome                       all results and sites are those after one legal run
+use Rattle.std.specs.Prelude.{◌≡◌, ℕ, ◌<◌, List, Some, length, slice_get, slice_index, slice_index_or, Option}
+use Rattle.ts_model.specs.Trees.{Listing}
+use Rattle.ts_model.specs.Plans.{Waits}
+use Rattle.ts_model.specs.Runs.{Run, Has, HasNot, claims, finishes, fails, open_count, word_after}
+use Rattle.ts_model.specs.declared.plan.Plan.{Plan}
+use Rattle.ts_board.specs.Terms.{IsLegalRun, IsTold, work_in}
+use Rattle.ts_board.specs.Runs.{size}
+use Rattle.ts_board.specs.Kept.{Rests}
+use Rattle.ts_board.specs.declared.law.Slot.{Slot}
+use Rattle.ts_board.specs.declared.law.Slot.TheVariants.{Empty}
+use Rattle.ts_board.specs.declared.law.Terms.{Terms}
+use Rattle.ts_exec.specs.Failures.{Setting, MayFail}
+use Rattle.ts_exec.specs.Tidy.{IsTidy}
+use Rattle.ts_exec.specs.declared.fault.ActFault.{ActFault}
+use Rattle.ts_exec.specs.declared.outcome.ActionResult.{ActionResult}
+use Rattle.ts_exec.specs.declared.outcome.ActionResult.TheVariants.{Done, Failed, Blocked}
+
+pub record IsEnd (plan : Plan) (r : Run) (words : List ℕ) (faults : List (Option ActFault)) : Type 0 where
+  pub words_are : (i : ℕ) → i < length plan.actions → slice_index words i ≡ word_after plan r i
+  pub tidy : IsTidy plan r
+  pub small : (i : ℕ) → open_count plan r i < 4294967296
+  pub noted : (i : ℕ) → Has r (fails i) → (f : ActFault) × (slice_get faults i ≡ Some (Some f))
+  pub blocked : (i : ℕ) → i < length plan.actions → HasNot r (claims i) → (k : ℕ) × Waits plan i k × HasNot r (finishes k)
+
+-- the action waits for k, the least of those that aren't done
+pub record IsLeastOpen (plan : Plan) (r : Run) (i k : ℕ) : Type 0 where
+  pub waits : Waits plan i k
+  pub not_done : HasNot r (finishes k)
+  pub least : (j : ℕ) → Waits plan i j → j < k → Has r (finishes j)
+
+abbrev pub ResultIs : Plan → Run → List (Option ActFault) → ℕ → ActionResult → Type 0
+ResultIs plan r faults i Done = Has r (finishes i)
+ResultIs plan r faults i (Failed f) = Has r (fails i) × (slice_get faults i ≡ Some (Some f))
+ResultIs plan r faults i (Blocked k) = HasNot r (claims i) × IsLeastOpen plan r i k
+
+abbrev pub ResultFits : Setting → Run → ℕ → ActionResult → Type 0
+ResultFits x r i Done = Has r (finishes i)
+ResultFits x r i (Failed f) = Has r (fails i) × MayFail x i f
+ResultFits x r i (Blocked k) = HasNot r (claims i) × IsLeastOpen x.checkup.plan r i k
+
+pub record IsOutcome {S : Type 0} (content : S → Option (Listing (List ℕ))) (x : Setting) (t : Terms) (results : List ActionResult) (slots : List (Slot S)) : Type 0 where
+  pub run : Run
+  pub legal : IsLegalRun t run
+  pub count : length results ≡ size t
+  pub each : (i : ℕ) (result : ActionResult) → slice_get results i ≡ Some result → ResultFits x run i result
+  pub sites : (i : ℕ) → i < size t → Rests work_in (IsTold content t i) t run i (slice_index_or slots i Empty)

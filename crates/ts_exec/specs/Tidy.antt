@@ -1,0 +1,64 @@
+-- What a worker keeps between two tries.
+--     IsTidy plan own          of these steps: what is claimed in them is ended, and what is done is released
+--     AreTakes, AreReleases    the takes of a commit, the releases of what is done
+--     IsTry plan i fault b     the steps b of one try of action i, which failed with this fault or didn't fail
+--     Listed, Noted            why each action failed is known
+--     Swept                    the actions below this number were tried in order
+use Rattle.std.specs.Prelude.{◌≡◌, ◌≢◌, ◌⊎◌, ℕ, ◌<◌, ◌*◌, ◌^◌, length, List, [], ◌∷◌, Option, Some, IsSome, slice_get}
+use Rattle.ts_model.specs.Plans.{Waits}
+use Rattle.ts_model.specs.Runs.{Run, Has, claims, finishes, fails, releases, takes, word_after, IsPieceOf}
+use Rattle.ts_model.specs.declared.plan.Plan.{Plan}
+use Rattle.ts_model.specs.declared.step.Step.TheVariants.{Take, Release}
+use Rattle.ts_board.specs.Runs.{StartsWith}
+use Rattle.ts_board.specs.declared.board.Pass.{Pass}
+use Rattle.ts_exec.specs.Failures.{Setting, MayFail}
+use Rattle.ts_exec.specs.declared.fault.ActFault.{ActFault}
+use Rattle.ts_exec.specs.declared.crew.Failure.{Failure}
+
+pub record IsTidy (plan : Plan) (own : Run) : Type 0 where
+  pub ended : (i : ℕ) → Has own (claims i) → Has own (finishes i) ⊎ Has own (fails i)
+  pub released : (k j : ℕ) → Has own (finishes k) → Waits plan j k → Has own (releases k j)
+  pub taken : (k : ℕ) → Has own (takes k) → (c : ℕ) × IsPieceOf plan c k × Has own (claims c)
+
+abbrev pub AreTakes : Plan → ℕ → Run → Type 0
+AreTakes plan c [] = Unit {0}
+AreTakes plan c (x ∷ xs) = ((k : ℕ) × (x ≡ Take c k) × IsPieceOf plan c k) × AreTakes plan c xs
+
+abbrev pub AreReleases : ℕ → Run → Type 0
+AreReleases i [] = Unit {0}
+AreReleases i (x ∷ xs) = ((j : ℕ) × (x ≡ Release i j)) × AreReleases i xs
+
+pub record IsTry (plan : Plan) (i : ℕ) (fault : Option ActFault) (block : Run) : Type 0 where
+  pub tidy : IsTidy plan block
+  pub done : (k : ℕ) → Has block (finishes k) → k ≡ i
+  pub failed : (k : ℕ) → Has block (fails k) → (k ≡ i) × IsSome fault
+
+-- the number of the failed action is in the list
+abbrev pub IsListed : ℕ → List Failure → Type 0
+IsListed i failures = (m : ℕ) × (e : Failure) × (slice_get failures m ≡ Some e) × (e.action ≡ i)
+
+-- each failed action is in the list, and what is in it may have failed so
+pub record Listed (x : Setting) (own : Run) (failures : List Failure) : Type 0 where
+  pub each : (i : ℕ) → Has own (fails i) → IsListed i failures
+  pub may : (m : ℕ) (e : Failure) → slice_get failures m ≡ Some e → (e.action < length x.checkup.plan.actions) × MayFail x e.action e.fault
+
+-- at the place of the action stands a fault that it may have
+abbrev pub HasFault : Setting → List (Option ActFault) → ℕ → Type 0
+HasFault x faults i = (f : ActFault) × (slice_get faults i ≡ Some (Some f)) × MayFail x i f
+
+-- each failed action has its fault at its place
+abbrev pub Noted : Setting → Run → List (Option ActFault) → Type 0
+Noted x own faults = (i : ℕ) → Has own (fails i) → HasFault x faults i
+
+-- both passes have the same share of the board
+abbrev pub IsSameShare : {S : Type 0} → Pass S → Pass S → Type 0
+IsSameShare p q = q.seat.me.0.part * 2 ^ p.seat.me.0.cut ≡ p.seat.me.0.part * 2 ^ q.seat.me.0.cut
+
+-- the action is claimed, or it waited for something when all that was done before it had been released
+abbrev pub WasTried : Plan → Run → Run → ℕ → Type 0
+WasTried plan own seen j =
+    Has own (claims j)
+    ⊎ ((then : Run) × StartsWith seen then × (word_after plan then j ≢ 0) × ((k : ℕ) → Waits plan j k → Has own (finishes k) → Has then (releases k j)))
+
+abbrev pub Swept : Plan → ℕ → Run → Run → Type 0
+Swept plan n own seen = (j : ℕ) → j < n → WasTried plan own seen j

@@ -1,0 +1,170 @@
+//! The acts of pieces, commits and marks.
+ghost use Rattle.std.specs.Prelude.{ℕ, ◌≡◌, ◌<◌, ◌+◌, ◌++◌, length, IfErr, OnErr, OnOk};
+ghost use Rattle.ts_board.specs.Calls.{HasActed, IsFresh, IsPassOf, IsSamePart, mine, seen};
+ghost use Rattle.ts_board.specs.Keys.{terms_of};
+ghost use Rattle.ts_board.specs.Runs.{StartsWith};
+ghost use Rattle.ts_board.specs.Terms.{IsSited};
+ghost use Rattle.ts_check.specs.Checkup.{IsCommit};
+ghost use Rattle.ts_exec.specs.Acts.{HasAll, IsActed, MayGoOn};
+ghost use Rattle.ts_exec.specs.Failures.{MayFail, setting_of};
+ghost use Rattle.ts_exec.specs.Tidy.{AreTakes};
+ghost use Rattle.ts_exec.specs.declared.fault.ActFault.TheVariants as fault;
+ghost use Rattle.ts_model.specs.Plans.{KindIs};
+ghost use Rattle.ts_model.specs.Runs.{HasNot, IsPending, IsPieceOf, Run, takes};
+ghost use Rattle.ts_model.specs.declared.plan.Kind.TheVariants.{Piece};
+
+use crate::fault::ActFault;
+use crate::gate::Gate;
+use crate::job::Job;
+use std::alloc::Global;
+use ts_board::{Held, Pass};
+use ts_folder::Folder;
+use ts_model::plan::Kind;
+use ts_name::Path;
+use ts_print::Staged;
+use ts_site::Site;
+
+impl<'a, 'b, S: Site, F: Folder + Sync, G: Gate + Sync> Job<'a, 'b, S, F, G> {
+    /// Makes the act of a claimed action, of which nothing was taken yet. After a fault it has not acted.
+    pub fn act(&self, pass: &mut Pass<S>, held: &mut Held<S>) -> Result<(), ActFault>
+        requires pass { IsPassOf self.now.board.now.table.shared.table_id (terms_of S.content self.now.board.now.table.shared.key) pass.old }
+        requires action { held.old.action < length self.now.checked.now.plan.actions }
+        requires held { IsPending (mine pass.old) held.old.action }
+        requires fresh { IsFresh S.content (terms_of S.content self.now.board.now.table.shared.key) held.old }
+        requires site { IsSited self.now.checked.now.plan held.old.action held.old.slot }
+        requires untaken { (k : ℕ) → IsPieceOf self.now.checked.now.plan held.old.action k → HasNot (mine pass.old) (takes k) }
+        ensures pass { IsPassOf self.now.board.now.table.shared.table_id (terms_of S.content self.now.board.now.table.shared.key) pass.new × IsSamePart pass.old pass.new }
+        ensures seen { StartsWith (seen pass.new) (seen pass.old) }
+        ensures steps { (more : Run) × (mine pass.new ≡ mine pass.old ++ more) × AreTakes self.now.checked.now.plan held.old.action more }
+        ensures action { held.new.action ≡ held.old.action }
+        ensures ok { OnOk result (HasActed S.content (terms_of S.content self.now.board.now.table.shared.key) (mine pass.new) held.new) }
+        ensures err { OnErr result (MayGoOn S.content (terms_of S.content self.now.board.now.table.shared.key) (mine pass.new) held.new) }
+        ensures fault { IfErr result (MayFail (setting_of S.failures F.tells F.lets self.now.checked.now self.now.first.now self.now.second.now (terms_of S.content self.now.board.now.table.shared.key).told) held.old.action) }
+    {
+        match self.kind(held.action()) {
+            Kind::Piece {
+                entry,
+                offset,
+                length,
+                path,
+            } => self.stage(held, *entry, *offset, *length, path),
+            Kind::Commit { entry: _ } => self.commit(pass, held),
+            Kind::Mark { entry: _ } => {
+                held.mark();
+                Ok(())
+            }
+        }
+    }
+
+    /// Stages the bytes of a piece, read in one range. Where the file ends before the piece does they don't fit.
+    fn stage(
+        &self,
+        held: &mut Held<S>,
+        entry: u32,
+        offset: u64,
+        length: u64,
+        path: &Path,
+    ) -> Result<(), ActFault>
+        requires kind { KindIs self.now.checked.now.plan held.old.action (Piece entry offset length path.now) }
+        requires fresh { IsFresh S.content (terms_of S.content self.now.board.now.table.shared.key) held.old }
+        requires site { IsSited self.now.checked.now.plan held.old.action held.old.slot }
+        ensures action { held.new.action ≡ held.old.action }
+        ensures ok { OnOk result (IsActed S.content (terms_of S.content self.now.board.now.table.shared.key) held.new) }
+        ensures err { OnErr result (held.new ≡ held.old) }
+        ensures fault { IfErr result (MayFail (setting_of S.failures F.tells F.lets self.now.checked.now self.now.first.now self.now.second.now (terms_of S.content self.now.board.now.table.shared.key).told) held.old.action) }
+    {
+        let bytes = self
+            .source(entry)
+            .read(self.alloc, path, offset, length as u32)?;
+        if bytes.len() as u64 != length {
+            return Err(ActFault::Misfit);
+        }
+        held.stage(bytes);
+        Ok(())
+    }
+
+    /// Takes the pieces of a commit, and puts what they staged in place.
+    fn commit(&self, pass: &mut Pass<S>, held: &mut Held<S>) -> Result<(), ActFault>
+        requires pass { IsPassOf self.now.board.now.table.shared.table_id (terms_of S.content self.now.board.now.table.shared.key) pass.old }
+        requires commit { IsCommit self.now.checked.now.plan held.old.action }
+        requires held { IsPending (mine pass.old) held.old.action }
+        requires fresh { IsFresh S.content (terms_of S.content self.now.board.now.table.shared.key) held.old }
+        requires site { IsSited self.now.checked.now.plan held.old.action held.old.slot }
+        requires untaken { (k : ℕ) → IsPieceOf self.now.checked.now.plan held.old.action k → HasNot (mine pass.old) (takes k) }
+        ensures pass { IsPassOf self.now.board.now.table.shared.table_id (terms_of S.content self.now.board.now.table.shared.key) pass.new × IsSamePart pass.old pass.new }
+        ensures seen { StartsWith (seen pass.new) (seen pass.old) }
+        ensures steps { (more : Run) × (mine pass.new ≡ mine pass.old ++ more) × AreTakes self.now.checked.now.plan held.old.action more }
+        ensures action { held.new.action ≡ held.old.action }
+        ensures ok { OnOk result (HasActed S.content (terms_of S.content self.now.board.now.table.shared.key) (mine pass.new) held.new) }
+        ensures err { OnErr result (MayGoOn S.content (terms_of S.content self.now.board.now.table.shared.key) (mine pass.new) held.new) }
+        ensures fault { IfErr result (MayFail (setting_of S.failures F.tells F.lets self.now.checked.now self.now.first.now self.now.second.now (terms_of S.content self.now.board.now.table.shared.key).told) held.old.action) }
+    {
+        let Ok(mut staged) = self.checked.staged(self.alloc, held.action()) else {
+            return Err(ActFault::OutOfMemory);
+        };
+        self.take_all(pass, held, &mut staged)?;
+        held.commit(self.alloc, self.checked, staged)?;
+        Ok(())
+    }
+
+    /// Takes what the pieces of a commit have staged, by path and then by offset.
+    fn take_all(
+        &self,
+        pass: &mut Pass<S>,
+        held: &mut Held<S>,
+        staged: &mut Staged,
+    ) -> Result<(), ActFault>
+        requires pass { IsPassOf self.now.board.now.table.shared.table_id (terms_of S.content self.now.board.now.table.shared.key) pass.old }
+        requires held { IsPending (mine pass.old) held.old.action }
+        requires untaken { (k : ℕ) → IsPieceOf self.now.checked.now.plan held.old.action k → HasNot (mine pass.old) (takes k) }
+        ensures pass { IsPassOf self.now.board.now.table.shared.table_id (terms_of S.content self.now.board.now.table.shared.key) pass.new × IsSamePart pass.old pass.new }
+        ensures seen { StartsWith (seen pass.new) (seen pass.old) }
+        ensures steps { (more : Run) × (mine pass.new ≡ mine pass.old ++ more) × AreTakes self.now.checked.now.plan held.old.action more }
+        ensures held { held.new ≡ held.old }
+        ensures wanted { staged.new.wanted ≡ staged.old.wanted }
+        ensures all { OnOk result (HasAll self.now.checked.now.plan held.old.action (mine pass.new)) }
+        ensures fault { IfErr result (λ e. e ≡ ActFault.OutOfMemory) }
+    {
+        let pieces = self.checked.pieces(held.action());
+        for k in pieces {
+            let bytes = self.board.take(pass, held, *k);
+            self.add(staged, *k, bytes)?;
+        }
+        Ok(())
+    }
+
+    /// Puts the bytes of a piece at the end of its file, which has all bytes before them so far.
+    fn add(&self, staged: &mut Staged, k: u32, bytes: Vec<u8>) -> Result<(), ActFault>
+        requires { k < length self.now.checked.now.plan.actions }
+        ensures wanted { staged.new.wanted ≡ staged.old.wanted }
+        ensures fault { IfErr result (λ e. e ≡ ActFault.OutOfMemory) }
+    {
+        let Kind::Piece { path, offset, .. } = self.kind(k) else {
+            return Ok(());
+        };
+        append(self.alloc, staged, path, *offset, bytes)
+    }
+}
+
+/// Puts bytes at the end of a file that has `offset` bytes so far. Where it hasn't, they are left out, and the assembly isn't
+/// complete.
+fn append(
+    alloc: Global,
+    staged: &mut Staged,
+    path: &Path,
+    offset: u64,
+    bytes: Vec<u8>,
+) -> Result<(), ActFault>
+    ensures wanted { staged.new.wanted ≡ staged.old.wanted }
+    ensures fault { IfErr result (λ e. e ≡ ActFault.OutOfMemory) }
+{
+    match staged.has_so_far(alloc, path, offset) {
+        Ok(true) => {}
+        Ok(false) => return Ok(()),
+        Err(_) => return Err(ActFault::OutOfMemory),
+    }
+    match staged.put(alloc, path, offset, bytes) {
+        Ok(()) => Ok(()),
+        Err(_) => Err(ActFault::OutOfMemory),
+    }
+}

@@ -1,0 +1,49 @@
+//! What all workers share.
+ghost use Rattle.std.specs.Prelude.{◌≡◌, ◌<◌, length};
+ghost use Rattle.ts_exec.specs.Failures.{of_side};
+ghost use Rattle.ts_check.specs.Checkup.{snapshot_of};
+ghost use Rattle.ts_model.specs.Plans.{Copies, KindIs, Valid};
+ghost use Rattle.ts_model.specs.declared.plan.Entry.{Entry};
+ghost use Rattle.ts_model.specs.declared.plan.Side.{Side};
+
+use std::alloc::Global;
+use ts_board::Board;
+use ts_check::Checked;
+use ts_model::plan::{Kind, Reason};
+use ts_site::Site;
+
+/// What all workers share: the checked plan, its board, the folders that pieces are read from, and the gate.
+#[derive(Drop)]
+pub struct Job<'a, 'b, S: Site, F, G> {
+    pub alloc: Global,
+    pub checked: &'a Checked<'a>,
+    pub board: &'b Board<S>,
+    pub first: &'a F,
+    pub second: &'a F,
+    pub gate: &'a G,
+    pub ghost plan: { board.now.table.shared.key.plan.value ≡ checked.now.plan },
+    pub ghost first_print: { board.now.table.shared.key.first.value ≡ checked.now.first },
+    pub ghost valid: { Valid (snapshot_of checked.now) checked.now.plan },
+    pub ghost second_print: { board.now.table.shared.key.second.value ≡ checked.now.second },
+}
+
+impl<'a, 'b, S: Site, F, G> Job<'a, 'b, S, F, G> {
+    /// What an action does.
+    pub fn kind(&self, i: u32) -> &'a Kind
+        requires { i < length self.now.checked.now.plan.actions }
+        ensures { KindIs self.now.checked.now.plan i result.now }
+    {
+        &self.checked.plan().actions.as_slice()[i as usize].kind
+    }
+
+    /// The folder that a copied entry is copied from.
+    pub fn source(&self, entry: u32) -> &'a F
+        requires { (copied : Entry) × (from : Side) × Copies self.now.checked.now.plan entry copied from }
+        ensures { (copied : Entry) × (from : Side) × Copies self.now.checked.now.plan entry copied from × (result.now ≡ of_side self.now.first.now self.now.second.now from) }
+    {
+        match self.checked.plan().entries.as_slice()[entry as usize].reason {
+            Reason::Second => self.second,
+            _ => self.first,
+        }
+    }
+}

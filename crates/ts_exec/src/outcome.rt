@@ -1,0 +1,135 @@
+//! What came of a plan.
+ghost use Rattle.std.specs.Prelude.{ℕ, List, ◌≡◌, ◌<◌, ◌≤◌, [], Some, length, slice_get, slice_index_or, slice_set, vec_capacity};
+ghost use Rattle.std.specs.Mem.Slots.{slots_items, slots_len};
+ghost use Rattle.ts_board.specs.Terms.{site_in};
+ghost use Rattle.ts_board.specs.declared.law.Slot.TheVariants.{Empty};
+ghost use Rattle.ts_exec.specs.Outcomes.{IsEnd, IsLeastOpen, ResultIs};
+ghost use Rattle.ts_exec.specs.declared.outcome.ActionResult.{ActionResult};
+ghost use Rattle.ts_model.specs.Runs.{HasNot, Run, claims};
+
+use crate::fault::ActFault;
+use ts_board::Closed;
+use ts_board::calls::{DONE, FAILED};
+use ts_check::Checked;
+use ts_site::Site;
+
+/// What came of an action.
+#[derive(Clone, Copy, Debug, PartialEq, Eq, Drop)]
+pub enum ActionResult {
+    /// It has acted.
+    Done,
+    /// It has not acted, for this reason.
+    Failed(ActFault),
+    /// It was never claimed, since it waits for this action, the least of those that aren't done.
+    Blocked(u32),
+}
+
+/// What came of a plan: the result of each action, and the sites of its commits.
+#[derive(Drop)]
+pub struct Outcome<S: Site> {
+    results: Vec<ActionResult>,
+    closed: Closed<S>,
+}
+
+impl<S: Site> Outcome<S> {
+    pub(crate) fn new(results: Vec<ActionResult>, closed: Closed<S>) -> Outcome<S>
+        ensures results { result.results.items ≡ results.items }
+        ensures closed { result.closed ≡ closed }
+    {
+        Outcome { results, closed }
+    }
+
+    /// What came of an action.
+    pub fn result(&self, i: u32) -> ActionResult
+        requires { i < length self.now.results.items }
+        ensures { slice_get self.now.results.items i ≡ Some result }
+    {
+        self.results[i as usize]
+    }
+
+    /// Takes the site of a commit. A second time there is none.
+    pub fn take_site(&mut self, c: u32) -> Option<S>
+        requires { c < slots_len self.old.closed.row.slots }
+        ensures site { result ≡ site_in (slice_index_or (slots_items self.old.closed.row.slots) c Empty) }
+        ensures others { slots_items self.new.closed.row.slots ≡ slice_set (slots_items self.old.closed.row.slots) c Empty }
+        ensures words { slots_items self.new.closed.row.words ≡ slots_items self.old.closed.row.words }
+        ensures counts { (slots_len self.new.closed.row.words ≡ slots_len self.old.closed.row.words) × (slots_len self.new.closed.row.slots ≡ slots_len self.old.closed.row.slots) }
+        ensures results { self.new.results ≡ self.old.results }
+    {
+        self.closed.take_site(c)
+    }
+}
+
+/// The results of all actions, in a list that has room for them.
+pub fn results_of<S: Site>(
+    checked: &Checked<'_>,
+    closed: &Closed<S>,
+    faults: &[Option<ActFault>],
+    mut results: Vec<ActionResult>,
+) -> Vec<ActionResult>
+    requires words { length checked.now.plan.actions ≤ slots_len closed.now.row.words }
+    requires end { (run : Run) × IsEnd checked.now.plan run (slots_items closed.now.row.words) faults.now }
+    requires empty { results.items ≡ [] }
+    requires room { length checked.now.plan.actions ≤ vec_capacity results }
+    ensures count { length result.items ≡ length checked.now.plan.actions }
+    ensures each { (run : Run) → IsEnd checked.now.plan run (slots_items closed.now.row.words) faults.now → (i : ℕ) (r : ActionResult) → slice_get result.items i ≡ Some r → ResultIs checked.now.plan run faults.now i r }
+{
+    for i in 0..checked.action_count() {
+        results.push_reserved(result_of(checked, closed, faults, i));
+    }
+    results
+}
+
+/// What came of an action, by its word.
+fn result_of<S: Site>(
+    checked: &Checked<'_>,
+    closed: &Closed<S>,
+    faults: &[Option<ActFault>],
+    i: u32,
+) -> ActionResult
+    requires action { i < length checked.now.plan.actions }
+    requires words { length checked.now.plan.actions ≤ slots_len closed.now.row.words }
+    requires end { (run : Run) × IsEnd checked.now.plan run (slots_items closed.now.row.words) faults.now }
+    ensures { (run : Run) → IsEnd checked.now.plan run (slots_items closed.now.row.words) faults.now → ResultIs checked.now.plan run faults.now i result }
+{
+    let word = closed.word(i);
+    if word & DONE != 0 {
+        return ActionResult::Done;
+    }
+    if word & FAILED == 0 {
+        return ActionResult::Blocked(least_not_done(checked, closed, faults, i));
+    }
+    match fault_at(faults, i) {
+        Some(fault) => ActionResult::Failed(fault),
+        None => unreachable!(),
+    }
+}
+
+/// Why an action failed, where that was noted.
+fn fault_at(faults: &[Option<ActFault>], i: u32) -> Option<ActFault>
+    requires { i < length faults.now }
+    ensures { slice_get faults.now i ≡ Some result }
+{
+    faults[i as usize]
+}
+
+/// The least action that isn't done of those that an unclaimed action waits for.
+fn least_not_done<S: Site>(
+    checked: &Checked<'_>,
+    closed: &Closed<S>,
+    faults: &[Option<ActFault>],
+    i: u32,
+) -> u32
+    requires action { i < length checked.now.plan.actions }
+    requires words { length checked.now.plan.actions ≤ slots_len closed.now.row.words }
+    requires end { (run : Run) × IsEnd checked.now.plan run (slots_items closed.now.row.words) faults.now × HasNot run (claims i) }
+    ensures { (run : Run) → IsEnd checked.now.plan run (slots_items closed.now.row.words) faults.now → IsLeastOpen checked.now.plan run i result }
+{
+    let preds = checked.preds(i);
+    for k in preds {
+        if closed.word(*k) & DONE == 0 {
+            return *k;
+        }
+    }
+    unreachable!()
+}

@@ -1,0 +1,132 @@
+//! Workers claim actions, act, and release what waited for them.
+ghost use Rattle.std.specs.Prelude.{ℕ, List, ◌≡◌, ◌≢◌, ◌⊎◌, ◌<◌, ◌≤◌, ◌++◌, [], length, IfSome, vec_len, vec_capacity};
+ghost use Rattle.ts_board.specs.Calls.{HasPart, IsPassOf, IsSamePart, mine, seen};
+ghost use Rattle.ts_board.specs.Keys.{terms_of};
+ghost use Rattle.ts_board.specs.Runs.{StartsWith};
+ghost use Rattle.ts_exec.specs.Failures.{MayFail, setting_of};
+ghost use Rattle.ts_exec.specs.Tidy.{AreReleases, IsTidy, IsTry, Listed, Noted};
+ghost use Rattle.ts_model.specs.Plans.{Waits};
+ghost use Rattle.ts_model.specs.Runs.{Has, HasNot, Run, claims, finishes, releases, word_after};
+
+use crate::crew::{Failure, Member, next_hint};
+use crate::fault::ActFault;
+use crate::gate::Gate;
+use crate::job::Job;
+use crossbeam_deque::{Stealer, Worker};
+use std::thread;
+use ts_board::Pass;
+use ts_folder::Folder;
+use ts_site::Site;
+
+/// After so many looks in a row that find no hint a worker ends.
+const PATIENCE: u32 = 64;
+
+/// What a worker ends with.
+pub struct Worked<S> {
+    pub pass: Pass<S>,
+    pub failures: Vec<Failure>,
+}
+
+impl<'a, 'b, S: Site, F: Folder + Sync, G: Gate + Sync> Job<'a, 'b, S, F, G> {
+    /// Tries an action. Who claims it makes all its steps, and leaves a hint at each action that it freed. Answers the fault
+    /// where it was claimed and failed.
+    pub fn attempt(&self, pass: &mut Pass<S>, i: u32, freed: &mut Worker<u32>) -> Option<ActFault>
+        requires pass { IsPassOf self.now.board.now.table.shared.table_id (terms_of S.content self.now.board.now.table.shared.key) pass.old }
+        requires action { i < length self.now.checked.now.plan.actions }
+        requires tidy { IsTidy self.now.checked.now.plan (mine pass.old) }
+        ensures pass { IsPassOf self.now.board.now.table.shared.table_id (terms_of S.content self.now.board.now.table.shared.key) pass.new × IsSamePart pass.old pass.new }
+        ensures seen { StartsWith (seen pass.new) (seen pass.old) }
+        ensures steps { (block : Run) × (mine pass.new ≡ mine pass.old ++ block) × IsTry self.now.checked.now.plan i result block }
+        ensures tried { Has (mine pass.new) (claims i) ⊎ ((mine pass.new ≡ mine pass.old) × (word_after self.now.checked.now.plan (seen pass.new) i ≢ 0)) }
+        ensures fault { IfSome result (MayFail (setting_of S.failures F.tells F.lets self.now.checked.now self.now.first.now self.now.second.now (terms_of S.content self.now.board.now.table.shared.key).told) i) }
+    {
+        let mut held = self.board.claim(pass, i)?;
+        self.gate.pass(i);
+        match self.act(pass, &mut held) {
+            Ok(()) => {
+                self.board.done(pass, held);
+                self.release_all(pass, i, freed);
+                None
+            }
+            Err(fault) => {
+                self.board.fail(pass, held);
+                Some(fault)
+            }
+        }
+    }
+
+    /// Takes a done action off what its successors wait for.
+    fn release_all(&self, pass: &mut Pass<S>, i: u32, freed: &mut Worker<u32>)
+        requires pass { IsPassOf self.now.board.now.table.shared.table_id (terms_of S.content self.now.board.now.table.shared.key) pass.old }
+        requires done { Has (mine pass.old) (finishes i) }
+        requires fresh { (j : ℕ) → HasNot (mine pass.old) (releases i j) }
+        ensures pass { IsPassOf self.now.board.now.table.shared.table_id (terms_of S.content self.now.board.now.table.shared.key) pass.new × IsSamePart pass.old pass.new }
+        ensures seen { StartsWith (seen pass.new) (seen pass.old) }
+        ensures steps { (more : Run) × (mine pass.new ≡ mine pass.old ++ more) × AreReleases i more × ((j : ℕ) → Waits self.now.checked.now.plan j i → Has more (releases i j)) }
+    {
+        let successors = self.checked.successors(i);
+        for j in successors {
+            if self.board.release(pass, i, *j) {
+                // A hint that finds no room is dropped: the sweep comes to its action.
+                let _ = freed.push(*j);
+            }
+        }
+    }
+
+    /// Follows hints until none has come for a while.
+    pub fn work(&self, stealers: &[Stealer<u32>], member: Member, pass: Pass<S>) -> Worked<S>
+        requires pass { IsPassOf self.now.board.now.table.shared.table_id (terms_of S.content self.now.board.now.table.shared.key) pass }
+        requires tidy { IsTidy self.now.checked.now.plan (mine pass) }
+        requires listed { Listed (setting_of S.failures F.tells F.lets self.now.checked.now self.now.first.now self.now.second.now (terms_of S.content self.now.board.now.table.shared.key).told) (mine pass) member.failures.items }
+        ensures pass { IsPassOf self.now.board.now.table.shared.table_id (terms_of S.content self.now.board.now.table.shared.key) result.pass × IsSamePart pass result.pass }
+        ensures tidy { IsTidy self.now.checked.now.plan (mine result.pass) }
+        ensures listed { Listed (setting_of S.failures F.tells F.lets self.now.checked.now self.now.first.now self.now.second.now (terms_of S.content self.now.board.now.table.shared.key).told) (mine result.pass) result.failures.items }
+    {
+        let Member {
+            mut hints,
+            failures,
+        } = member;
+        let mut worked = Worked { pass, failures };
+        let mut idle = 0;
+        'turns: for _ in 0..self.turns() {
+            // There is room for all actions, and each fails once.
+            if idle >= PATIENCE || worked.failures.len() >= worked.failures.capacity() {
+                return worked;
+            }
+            match next_hint(&mut hints, stealers) {
+                Some(i) => {
+                    idle = 0;
+                    self.follow(&mut worked, i, &mut hints);
+                }
+                None => {
+                    idle += 1;
+                    thread::yield_now();
+                }
+            }
+        }
+        worked
+    }
+
+    /// How often a worker looks for a hint at most.
+    fn turns(&self) -> u64 {
+        u64::from(PATIENCE + 1) * (u64::from(self.checked.action_count()) + 1)
+    }
+
+    /// Tries the action of a hint, if there is one of this number.
+    fn follow(&self, worked: &mut Worked<S>, i: u32, hints: &mut Worker<u32>)
+        requires pass { IsPassOf self.now.board.now.table.shared.table_id (terms_of S.content self.now.board.now.table.shared.key) worked.old.pass }
+        requires room { vec_len worked.old.failures < vec_capacity worked.old.failures }
+        requires tidy { IsTidy self.now.checked.now.plan (mine worked.old.pass) }
+        requires listed { Listed (setting_of S.failures F.tells F.lets self.now.checked.now self.now.first.now self.now.second.now (terms_of S.content self.now.board.now.table.shared.key).told) (mine worked.old.pass) worked.old.failures.items }
+        ensures pass { IsPassOf self.now.board.now.table.shared.table_id (terms_of S.content self.now.board.now.table.shared.key) worked.new.pass × IsSamePart worked.old.pass worked.new.pass }
+        ensures tidy { IsTidy self.now.checked.now.plan (mine worked.new.pass) }
+        ensures listed { Listed (setting_of S.failures F.tells F.lets self.now.checked.now self.now.first.now self.now.second.now (terms_of S.content self.now.board.now.table.shared.key).told) (mine worked.new.pass) worked.new.failures.items }
+    {
+        if i >= self.checked.action_count() {
+            return;
+        }
+        if let Some(fault) = self.attempt(&mut worked.pass, i, hints) {
+            worked.failures.push_reserved(Failure { action: i, fault });
+        }
+    }
+}

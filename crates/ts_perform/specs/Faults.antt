@@ -1,0 +1,86 @@
+-- The faults of commands: their numbers, and what becomes of the faults of the crates below.
+use Rattle.std.specs.Prelude.{ℕ}
+use Rattle.ts_archive.specs.declared.fault.ArchiveFault.{ArchiveFault}
+use Rattle.ts_archive.specs.declared.fault.ArchiveFault.TheVariants as archive
+use Rattle.ts_check.specs.declared.fault.CheckFault.{CheckFault}
+use Rattle.ts_check.specs.declared.fault.CheckFault.TheVariants as check
+use Rattle.ts_disk.specs.declared.fault.DiskFault.{DiskFault}
+use Rattle.ts_disk.specs.declared.fault.DiskFault.TheVariants as disk
+use Rattle.ts_hold.specs.declared.faults.HoldFault.{HoldFault}
+use Rattle.ts_hold.specs.declared.faults.HoldFault.TheVariants as hold
+use Rattle.ts_plan.specs.declared.fault.PlanFault.{PlanFault}
+use Rattle.ts_plan.specs.declared.fault.PlanFault.TheVariants as plan
+use Rattle.ts_print.specs.declared.fault.PrintFault.{PrintFault}
+use Rattle.ts_print.specs.declared.fault.PrintFault.TheVariants as print
+use Rattle.ts_report.specs.declared.fault.ReportFault.{ReportFault}
+use Rattle.ts_report.specs.declared.fault.ReportFault.TheVariants as report
+use Rattle.ts_resume.specs.declared.fault.ResumeFault.{ResumeFault}
+use Rattle.ts_resume.specs.declared.fault.ResumeFault.TheVariants as resume
+use Rattle.ts_scan.specs.Faults.{fault_number as scan_number}
+use Rattle.ts_text.specs.declared.fault.TextFault.{TextFault}
+use Rattle.ts_text.specs.declared.fault.TextFault.TheVariants as text
+use Rattle.ts_trial.specs.declared.fault.TrialFault.{TrialFault}
+use Rattle.ts_trial.specs.declared.fault.TrialFault.TheVariants as trial
+use Rattle.ts_perform.specs.declared.fault.PerformFault.{PerformFault}
+use Rattle.ts_perform.specs.declared.fault.PerformFault.TheVariants as fault
+
+abbrev pub fault_number : PerformFault → ℕ
+fault_number fault.OutOfMemory = 1
+fault_number fault.Failed = 5
+fault_number fault.NotCanonical = 6
+fault_number fault.WrongEnd = 7
+fault_number fault.Device = 8
+fault_number fault.NotThere = 9
+fault_number (fault.BadRule line) = 11
+fault_number fault.PastLimit = 12
+fault_number (fault.Broken rule place) = 13
+fault_number (fault.Scan scan) = scan_number scan
+
+abbrev pub fault_of_text : TextFault → PerformFault
+fault_of_text text.OutOfMemory = fault.OutOfMemory
+fault_of_text text.Failed = fault.Failed
+fault_of_text text.NotCanonical = fault.NotCanonical
+
+abbrev pub fault_of_archive : ArchiveFault → PerformFault
+fault_of_archive archive.OutOfMemory = fault.OutOfMemory
+fault_of_archive archive.Failed = fault.Failed
+fault_of_archive archive.NotCanonical = fault.NotCanonical
+fault_of_archive archive.WrongEnd = fault.WrongEnd
+
+abbrev pub fault_of_hold : HoldFault → PerformFault
+fault_of_hold hold.OutOfMemory = fault.OutOfMemory
+fault_of_hold (hold.BadRule line) = fault.BadRule line
+
+abbrev pub fault_of_plan : PlanFault → PerformFault
+fault_of_plan plan.OutOfMemory = fault.OutOfMemory
+fault_of_plan plan.Failed = fault.Failed
+fault_of_plan plan.NotCanonical = fault.NotCanonical
+fault_of_plan plan.PastLimit = fault.PastLimit
+
+abbrev pub fault_of_resume : ResumeFault → PerformFault
+fault_of_resume resume.OutOfMemory = fault.OutOfMemory
+fault_of_resume resume.PastLimit = fault.PastLimit
+
+abbrev pub fault_of_check : CheckFault → PerformFault
+fault_of_check check.OutOfMemory = fault.OutOfMemory
+fault_of_check (check.Broken rule place) = fault.Broken rule place
+
+abbrev pub fault_of_trial : TrialFault → PerformFault
+fault_of_trial trial.OutOfMemory = fault.OutOfMemory
+fault_of_trial trial.Failed = fault.Failed
+
+abbrev pub fault_of_print : PrintFault → PerformFault
+fault_of_print print.OutOfMemory = fault.OutOfMemory
+fault_of_print print.TooLong = fault.OutOfMemory
+fault_of_print print.Failed = fault.Failed
+fault_of_print print.NotCanonical = fault.NotCanonical
+
+abbrev pub fault_of_disk : DiskFault → PerformFault
+fault_of_disk disk.OutOfMemory = fault.OutOfMemory
+fault_of_disk disk.Failed = fault.Failed
+fault_of_disk disk.Device = fault.Device
+fault_of_disk disk.Locked = fault.Device
+
+abbrev pub fault_of_report : ReportFault → PerformFault
+fault_of_report report.OutOfMemory = fault.OutOfMemory
+fault_of_report report.Failed = fault.Failed

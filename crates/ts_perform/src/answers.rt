@@ -1,0 +1,57 @@
+//! The lines that tell faults and verdicts.
+ghost use Rattle.std.specs.Prelude.{◌≡◌, ◌∷◌, ◌++◌, [], codes, decimal, OnOk};
+ghost use Rattle.ts_model.specs.Texts.{text};
+ghost use Rattle.ts_name.specs.Paths.{path_text};
+ghost use Rattle.ts_text.specs.Sources.{Writes};
+ghost use Rattle.ts_trial.specs.Answers.{refusal};
+
+use crate::fault::PerformFault;
+use std::alloc::{AllocError, Global};
+use ts_model::plan::PlanRule;
+use ts_name::Path;
+use ts_text::{Sink, push_decimal, write_line};
+
+/// Tells which rule a plan breaks first, and where.
+pub(crate) fn write_refusal<W: Sink>(
+    alloc: Global,
+    rule: PlanRule,
+    place: u64,
+    out: &mut W,
+) -> Result<(), PerformFault>
+    ensures { Writes (W.holds out.old) (W.holds out.new) (text (refusal rule place ∷ [])) result }
+{
+    let mut line = Vec::new(alloc);
+    push_refusal(rule, place, &mut line)?;
+    write_line(out, &line)?;
+    Ok(())
+}
+
+/// Appends the line that refuses a plan.
+fn push_refusal(rule: PlanRule, place: u64, line: &mut Vec<u8>) -> Result<(), AllocError>
+    ensures { OnOk result (line.new.items ≡ line.old.items ++ refusal rule place) }
+{
+    line.extend_from_slice(b"refused ")?;
+    push_decimal(line, u64::from(rule.number()))?;
+    line.push(b' ')?;
+    push_decimal(line, place)
+}
+
+/// Tells a fault by its number and, where it has a path other than the root, by that path.
+pub(crate) fn write_fault<W: Sink>(
+    alloc: Global,
+    number: u8,
+    path: Option<&Path>,
+    err: &mut W,
+) -> Result<(), PerformFault> {
+    let mut line = Vec::new(alloc);
+    line.extend_from_slice(b"twosync: fault ")?;
+    push_decimal(&mut line, u64::from(number))?;
+    if let Some(path) = path
+        && !path.is_root()
+    {
+        line.push(b' ')?;
+        path.write_text(&mut line)?;
+    }
+    write_line(err, &line)?;
+    Ok(())
+}

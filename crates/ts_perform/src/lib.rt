@@ -1,0 +1,13 @@
+//! What the program does for each command.
+#![tactic(auto)]
+
+mod answers;
+pub mod disk;
+pub mod fault;
+mod inputs;
+pub mod performing;
+mod running;
+
+pub use disk::Disk;
+pub use fault::PerformFault;
+pub use performing::{REFUSED, perform};

@@ -1,0 +1,368 @@
+#!/usr/bin/env bash
+# Runs the built program's commands on real folders, as a user would, and compares what they print, their status and what
+# they leave in the folders. What is wanted is written out here, or made by other tools (sha256sum, diff).
+# usage: tests/commands.sh [PROGRAM]
+set -u
+cd "$(dirname "$0")/.."
+program=$(realpath "${1:-crates/twosync/out/twosync}")
+# After `rt ci` the program stands there; else it is built.
+[ -x "$program" ] || (cd crates/twosync && rt run -- trial <stdin >/dev/null)
+work=$(mktemp -d)
+trap 'chmod -R u+rwx "$work"; rm -rf "$work"' EXIT
+chmod 755 "$work"
+cd "$work" || exit 1
+passed=0
+failed=0
+# The digests of the one-byte files `a` and `b`.
+SA=ca978112ca1bbdcafac231b39a23dc4da786eff8147c4e72b9807785afee48bb
+SB=3e23e8160039594a33894f6564e1b1348bbd7a0088d42c4acb73eeaed59c009d
+
+ok() { passed=$((passed + 1)); }
+bad() {
+  failed=$((failed + 1))
+  echo "FAILED: $*"
+}
+
+# fresh: empty replicas, no archive
+fresh() {
+  chmod -R u+rwx first second 2>/dev/null
+  rm -rf first second archive archive.new plan holds
+  mkdir first second
+}
+
+# expect NAME STATUS OUT ERR WORDS..: what the program prints for these words, and its status
+expect() {
+  local name=$1 status=$2 out=$3 err=$4 got
+  shift 4
+  "$program" "$@" >out 2>err
+  got=$?
+  if [ "$got" = "$status" ] && [ "$(cat out)" = "$out" ] && [ "$(cat err)" = "$err" ]; then
+    ok
+  else
+    bad "$name: status $got, wanted $status"
+    diff <(printf '%s' "$out") <(printf '%s' "$(cat out)") | head -n 8
+    diff <(printf '%s' "$err") <(printf '%s' "$(cat err)") | head -n 8
+  fi
+}
+
+# holds_true NAME COMMAND..: the command succeeds
+holds_true() {
+  local name=$1
+  shift
+  if "$@"; then ok; else bad "$name"; fi
+}
+
+# alike NAME: both replicas hold the same, and nothing of a run is left in them
+alike() {
+  local name=$1
+  if ! diff -r -x .twosync first second >differences; then
+    bad "$name: the replicas differ: $(head -n 3 differences)"
+  elif [ -n "$(find first/.twosync second/.twosync -name 'new-*' -o -name 'old-*' -o -name plan 2>/dev/null)" ]; then
+    bad "$name: something is left in .twosync"
+  elif [ -e archive.new ]; then
+    bad "$name: archive.new is left"
+  else
+    ok
+  fi
+}
+
+# archive_of BODY: an archive file with this body, by sha256sum
+archive_of() {
+  local lines=0
+  [ -z "$1" ] || lines=$(printf '%s\n' "$1" | wc -l)
+  {
+    echo 'twosync-archive 1'
+    [ -z "$1" ] || printf '%s\n' "$1"
+  } >front
+  cat front
+  echo "end $lines $(sha256sum <front | cut -c1-64)"
+}
+
+sync=(sync first second archive)
+
+# ---- a first sync, and one with nothing to do
+fresh
+printf a >first/a
+expect 'first sync' 0 $'done first /a\ntotal 1 done 1 skipped 0 failed 0 blocked 0' '' "${sync[@]}"
+alike 'first sync'
+expect 'nothing to do' 0 'total 0 done 0 skipped 0 failed 0 blocked 0' '' "${sync[@]}"
+expect 'show' 0 "f /a 1 $SA" '' show archive
+expect 'scan' 0 "$(archive_of "f /a 1 $SA")" '' scan first
+expect 'scan by one worker' 0 "$(archive_of "f /a 1 $SA")" '' scan second --workers 1
+holds_true 'the archive file' cmp -s archive <(archive_of "f /a 1 $SA")
+
+# ---- conflicts are left alone
+printf b >first/a
+printf c >second/a
+expect 'conflict' 1 $'skip conflict /a\ntotal 1 done 0 skipped 1 failed 0 blocked 0' '' "${sync[@]}"
+holds_true 'the first side of a conflict' test "$(cat first/a)" = b
+holds_true 'the second side of a conflict' test "$(cat second/a)" = c
+expect 'the archive of a conflict' 0 "f /a 1 $SA" '' show archive
+cp first/a second/a
+expect 'a conflict settled by hand' 0 $'done same /a\ntotal 1 done 1 skipped 0 failed 0 blocked 0' '' "${sync[@]}"
+
+# ---- empty files and folders, and files of one and more pieces
+fresh
+: >first/e
+mkdir -p first/d/d
+head -c 1048576 /dev/zero >first/f
+head -c 3145729 /dev/urandom >second/g
+expect 'files of many sizes' 0 $'done first /d\ndone first /e\ndone first /f\ndone second /g\ntotal 4 done 4 skipped 0 failed 0 blocked 0' '' "${sync[@]}"
+alike 'files of many sizes'
+
+# ---- changes on both sides
+fresh
+mkdir first/d second/d
+printf a >first/d/x
+printf b >second/d/y
+expect 'both sides' 0 $'done dir /d\ndone first /d/x\ndone second /d/y\ntotal 3 done 3 skipped 0 failed 0 blocked 0' '' "${sync[@]}"
+alike 'both sides'
+expect 'show a folder' 0 "d /d
+f /d/x 1 $SA
+f /d/y 1 $SB" '' show archive
+printf bb >first/d/x
+rm second/d/y
+expect 'a change here, a deletion there' 0 $'done first /d/x\ndone second /d/y\ntotal 2 done 2 skipped 0 failed 0 blocked 0' '' "${sync[@]}"
+alike 'a change here, a deletion there'
+holds_true 'the deletion' test ! -e first/d/y
+rm -r second/d
+expect 'a deleted folder' 0 $'done second /d\ntotal 1 done 1 skipped 0 failed 0 blocked 0' '' "${sync[@]}"
+alike 'a deleted folder'
+holds_true 'the folder is gone' test ! -e first/d
+
+# ---- a file that became a folder, and the reverse
+fresh
+printf a >first/a
+"$program" "${sync[@]}" >/dev/null 2>&1
+rm first/a
+mkdir first/a
+printf b >first/a/b
+expect 'a file became a folder' 0 $'done first /a\ntotal 1 done 1 skipped 0 failed 0 blocked 0' '' "${sync[@]}"
+alike 'a file became a folder'
+rm -r second/a
+printf a >second/a
+expect 'a folder became a file' 0 $'done second /a\ntotal 1 done 1 skipped 0 failed 0 blocked 0' '' "${sync[@]}"
+alike 'a folder became a file'
+holds_true 'the file' test "$(cat first/a)" = a
+
+# ---- names
+fresh
+printf a >"first/a b%"
+printf b >"first/$(printf 'x\ny')"
+printf c >"first/ü"
+expect 'names' 0 $'done first /a%20b%25\ndone first /x%0Ay\ndone first /ü\ntotal 3 done 3 skipped 0 failed 0 blocked 0' '' "${sync[@]}"
+alike 'names'
+
+# ---- held paths
+fresh
+mkdir first/n
+printf a >first/n/x.o
+printf b >first/b
+echo 'name *.o' >holds
+expect 'held' 1 $'done first /b\nskip held /n\ntotal 2 done 1 skipped 1 failed 0 blocked 0' '' "${sync[@]}" --holds holds
+holds_true 'what is held stays' test ! -e second/n
+echo 'path /n' >holds
+expect 'held by path' 1 $'skip held /n\ntotal 1 done 0 skipped 1 failed 0 blocked 0' '' "${sync[@]}" --holds holds
+printf 'name *.o\nname **\n' >holds
+expect 'a bad rule' 3 '' 'twosync: fault 11' "${sync[@]}" --holds holds
+expect 'no rules there' 3 '' 'twosync: fault 9' "${sync[@]}" --holds nowhere
+
+# ---- a plan carried by hand
+fresh
+printf a >first/a
+want="twosync-plan 1
+entry first /a
+piece 0 0 1 /a
+commit 0
+p 0
+mark 0
+p 1
+end 1 3"
+expect 'plan' 0 "$want" '' plan first second archive
+holds_true 'a plan changes nothing' test ! -e second/a -a ! -e archive -a ! -e first/.twosync
+echo "$want" >plan
+expect 'check' 0 'valid' '' check first second archive plan
+expect 'run' 0 $'done first /a\ntotal 1 done 1 skipped 0 failed 0 blocked 0' '' run first second archive plan
+alike 'run'
+expect 'the same plan again' 3 'refused 3 0' '' run first second archive plan
+fresh
+printf a >first/a
+"$program" plan first second archive >plan
+printf b >first/b
+expect 'check after a change' 3 'refused 4 1' '' check first second archive plan
+expect 'run after a change' 3 'refused 4 1' '' run first second archive plan
+holds_true 'a refused plan changes nothing' test ! -e second/a -a ! -e archive
+printf 'twosync-plan 1\nend 0 00\n' >plan
+expect 'no plan text' 3 '' 'twosync: fault 6' run first second archive plan
+rm plan
+expect 'no plan there' 3 '' 'twosync: fault 9' check first second archive plan
+
+# ---- the order of refusals, and archives that can't be read
+fresh
+printf a >first/a
+archive_of "f /a 1 $SA" >archive
+head -c 80 archive >cut
+expect 'a cut archive' 3 '' 'twosync: fault 6' sync first second cut
+sed 's/^f .a 1/f \/a 2/' archive >changed
+expect 'a changed archive' 3 '' 'twosync: fault 7' sync first second changed
+(cat archive && printf x) >longer
+expect 'a byte after the archive' 3 '' 'twosync: fault 6' show longer
+expect 'no archive to show' 3 '' 'twosync: fault 9' show nowhere
+expect 'a folder as archive' 3 '' 'twosync: fault 5' sync first second first
+expect 'no first folder' 3 '' 'twosync: fault 9' sync nowhere second archive
+expect 'the archive comes first' 3 '' 'twosync: fault 6' sync nowhere second cut --holds nowhere
+expect 'the rules come next' 3 '' 'twosync: fault 9' check nowhere second archive nowhere --holds nowhere
+holds_true 'refusals change nothing' test ! -e second/a
+
+# ---- what can't be scanned
+fresh
+mkfifo first/p
+printf a >first/a
+expect 'a fifo' 3 '' 'twosync: fault 10' "${sync[@]}"
+rm first/p
+mkdir first/d
+ln -s ../a first/d/l
+expect 'a link' 3 '' 'twosync: fault 10 /d' "${sync[@]}"
+
+# ---- usage
+usage() {
+  local name=$1 got
+  shift
+  "$program" "$@" >out 2>err
+  got=$?
+  if [ "$got" = 3 ] && [ "$(tail -n 1 err)" = 'twosync: fault 16' ] && [ "$(wc -l <err)" -gt 1 ] && [ ! -s out ]; then
+    ok
+  else
+    bad "$name: status $got, $(tail -n 1 err)"
+  fi
+}
+usage 'no words'
+usage 'no command of this name' synchronize first second archive
+usage 'no workers' "${sync[@]}" --workers 0
+usage 'too many workers' "${sync[@]}" --workers 65
+usage 'workers that are no number' "${sync[@]}" --workers four
+usage 'too few files' sync first second
+usage 'too many files' scan first second
+usage 'an option of no command' scan first --holds holds
+"$program" --help >out 2>err
+got=$?
+if [ "$got" = 0 ] && [ ! -s err ] && [ "$(wc -l <out)" -le 40 ]; then ok; else bad "help: status $got, $(wc -l <out) lines"; fi
+for name in trial scan show plan check run sync ARCHIVE 'twosync sync'; do
+  holds_true "help tells of $name" grep -q -- "$name" out
+done
+expect 'version' 0 'twosync 0.1.0' '' --version
+
+# ---- recovery: a run was stopped between the two renames of a swap
+fresh
+printf a >second/a
+mkdir first/a
+printf b >first/a/b
+archive_of "f /a 1 $SA" >archive
+mkdir first/.twosync second/.twosync
+tee first/.twosync/plan >second/.twosync/plan <<'P'
+twosync-plan 1
+entry first /a
+piece 0 0 1 /a/b
+commit 0
+p 0
+mark 0
+p 1
+end 1 3
+P
+mv second/a second/.twosync/old-0
+mkdir second/.twosync/new-0
+expect 'recovery' 0 $'done first /a\ntotal 1 done 1 skipped 0 failed 0 blocked 0' '' "${sync[@]}"
+alike 'recovery'
+fresh
+printf a >first/a
+mkdir second/.twosync
+printf 'twosync-pl' >second/.twosync/plan
+expect 'a plan file that was cut' 0 $'done first /a\ntotal 1 done 1 skipped 0 failed 0 blocked 0' '' "${sync[@]}"
+alike 'a plan file that was cut'
+
+# ---- a run that is ended by a signal while it writes, at several moments
+for delay in 0.02 0.05 0.1 0.2 0.4; do
+  fresh
+  mkdir first/d
+  for k in 1 2 3 4; do head -c 30000000 /dev/urandom >"first/d/f$k"; done
+  printf b >second/b
+  "$program" "${sync[@]}" >/dev/null 2>&1 &
+  child=$!
+  for _ in $(seq 1000); do
+    [ ! -e second/.twosync/plan ] || break
+    sleep 0.005
+  done
+  sleep "$delay"
+  kill -KILL $child
+  wait $child 2>/dev/null
+  "$program" "${sync[@]}" >out 2>err
+  got=$?
+  if [ "$got" = 0 ] && [ ! -s err ]; then ok; else bad "after a signal at $delay: status $got, $(cat err)"; fi
+  alike "after a signal at $delay"
+done
+
+# ---- two runs at once
+fresh
+for k in 1 2 3 4 5 6 7 8; do head -c 30000000 /dev/urandom >"first/f$k"; done
+"$program" "${sync[@]}" >theirs 2>&1 &
+child=$!
+for _ in $(seq 1000); do
+  [ ! -e second/.twosync/plan ] || break
+  sleep 0.005
+done
+kill -STOP $child
+mkdir third
+expect 'a second run' 3 '' 'twosync: fault 8' "${sync[@]}"
+expect 'a second run with another replica' 3 '' 'twosync: fault 8' sync third second other
+kill -CONT $child
+wait $child
+got=$?
+if [ "$got" = 0 ] && [ "$(tail -n 1 theirs)" = 'total 8 done 8 skipped 0 failed 0 blocked 0' ]; then
+  ok
+else
+  bad "the first run: status $got"
+fi
+alike 'two runs'
+
+# ---- what must not be read or written; who may do everything runs this part as nobody
+as=(env)
+[ "$(id -u)" != 0 ] || as=(setpriv --reuid=65534 --regid=65534 --clear-groups)
+if "${as[@]}" true 2>/dev/null && "${as[@]}" "$program" --version >/dev/null 2>&1; then
+  mkdir open
+  chmod 777 open
+  cd open || exit 1
+  own() { "${as[@]}" bash -c "$1"; }
+  own 'mkdir first second && printf a >first/ok && printf a >first/shut && chmod 000 first/shut'
+  "${as[@]}" "$program" "${sync[@]}" >../out 2>../err
+  got=$?
+  if [ "$got" = 3 ] && [ "$(cat ../err)" = 'twosync: fault 8 /shut' ] && [ ! -s ../out ] && [ ! -e second/ok ]; then
+    ok
+  else
+    bad "an unreadable file: status $got, $(cat ../err)"
+  fi
+  own 'rm -f first/shut && mkdir first/d second/d && printf a >first/d/x && chmod 555 second/d'
+  "${as[@]}" "$program" "${sync[@]}" >../out 2>../err
+  got=$?
+  if [ "$got" = 2 ] && [ "$(cat ../err)" = 'twosync: fault 8 /d/x' ] && [ "$(cat ../out)" = "done dir /d
+failed first /d/x
+done first /ok
+total 3 done 2 skipped 0 failed 1 blocked 0" ] && [ "$(cat second/ok)" = a ]; then
+    ok
+  else
+    bad "a folder that must not be written: status $got, $(cat ../err), $(cat ../out)"
+  fi
+  own 'chmod 755 second/d && mkdir shut && chmod 555 shut && rm -rf first/.twosync second/.twosync'
+  "${as[@]}" "$program" sync first second shut/archive >../out 2>../err
+  got=$?
+  if [ "$got" = 2 ] && [ "$(cat ../err)" = 'twosync: fault 5' ] && diff -r -x .twosync first second >/dev/null; then
+    ok
+  else
+    bad "an archive that can't be written: status $got, $(cat ../err)"
+  fi
+  cd ..
+else
+  echo 'skipped: no other user to run as, so what must not be read or written is not tried'
+fi
+
+echo "commands: $passed passed, $failed failed"
+[ "$failed" = 0 ]
