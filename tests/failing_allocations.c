@@ -1,5 +1,5 @@
-/* Preloaded into a program: the allocation of the number that FAIL_ALLOCATION names is refused, and no other. Where the
-   program ends before that one, the file that ALLOCATIONS_ENDED names is made. */
+/* Preloaded into a program: the allocation of the number that FAIL_ALLOCATION names is refused, and no other. Where that
+   refusal was made, the file that ALLOCATION_REFUSED names is made. */
 #define _GNU_SOURCE
 #include <dlfcn.h>
 #include <errno.h>
@@ -14,13 +14,10 @@ __attribute__((constructor)) static void begin(void) {
   left = number ? atol(number) : 0;
 }
 
-__attribute__((destructor)) static void end(void) {
-  const char *name = getenv("ALLOCATIONS_ENDED");
-  if (name && left > 0) close(open(name, O_CREAT | O_WRONLY, 0600));
-}
-
 static int refused(void) {
   if (left == 0 || --left > 0) return 0;
+  const char *name = getenv("ALLOCATION_REFUSED");
+  if (name) close(open(name, O_CREAT | O_WRONLY, 0600));
   errno = ENOMEM;
   return 1;
 }

@@ -18,9 +18,11 @@ for name in copy_new_file new_directory_on_both_sides chain_through_all_actions;
   number=0
   good=1
   # No bundle here needs 100,000 allocations; the run that meets no refusal ends the series.
-  while [ ! -e "$work/ended" ] && [ "$number" -lt 100000 ]; do
+  touch "$work/refused"
+  while [ -e "$work/refused" ] && [ "$number" -lt 100000 ]; do
     number=$((number + 1))
-    LD_PRELOAD=$work/refuse.so FAIL_ALLOCATION=$number ALLOCATIONS_ENDED=$work/ended \
+    rm "$work/refused"
+    LD_PRELOAD=$work/refuse.so FAIL_ALLOCATION=$number ALLOCATION_REFUSED=$work/refused \
       "$program" trial <"$bundles/$name.in" >"$work/got" 2>"$work/err"
     status=$?
     if [ "$status" = 0 ] && cmp -s "$work/got" "$want" && [ ! -s "$work/err" ]; then continue; fi
@@ -30,13 +32,12 @@ for name in copy_new_file new_directory_on_both_sides chain_through_all_actions;
     echo "FAILED: $name, allocation $number: status $status, $(head -c 200 "$work/err")"
   done
   # The last run met no refusal, so it gave the whole answer; one allocation at least was refused before.
-  if [ "$good" = 1 ] && [ -e "$work/ended" ] && [ "$status" = 0 ] && [ "$number" -gt 1 ]; then
+  if [ "$good" = 1 ] && [ ! -e "$work/refused" ] && [ "$status" = 0 ] && [ "$number" -gt 1 ]; then
     passed=$((passed + 1))
     echo "$name: $((number - 1)) allocations refused in turn"
   else
     failed=$((failed + 1))
   fi
-  rm -f "$work/ended"
 done
 echo "failing allocations: $passed passed, $failed failed"
 [ "$failed" = 0 ]
