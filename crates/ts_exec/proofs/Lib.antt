@@ -4,6 +4,9 @@ pub mod Runs
 pub mod Rows
 pub mod Claims
 pub mod Closing
+pub mod Ending
 pub mod Shares
 pub mod Failing
 pub mod Noting
+pub mod Teams
+pub mod Crossing

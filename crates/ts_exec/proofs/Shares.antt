@@ -18,3 +18,11 @@ whole_share a c b d whole same =
 
 pub same_part_share : (a c b d : ℕ) → b ≡ a → d ≡ c → b * 2 ^ c ≡ a * 2 ^ d
 same_part_share a c b d e f = (λ i. e i * 2 ^ (sym f i))
+
+-- the same by what is known of the passes: both halves, what became of them, and the two put together
+pub halves_share : (a c o oc t tc w wc b d r rc : ℕ) → o ≡ a → oc ≡ c + 1 → t ≡ a → tc ≡ c + 1 → w ≡ t → wc ≡ tc → b * 2 ^ oc ≡ o * 2 ^ d → r ≡ b * 2 ^ wc + w * 2 ^ d → rc ≡ d + wc → r * 2 ^ c ≡ a * 2 ^ rc
+halves_share a c o oc t tc w wc b d r rc o_is oc_is t_is tc_is w_is wc_is same r_is rc_is =
+    let deep : wc ≡ c + 1 = wc_is ∙ tc_is in
+    let half : b * 2 ^ (c + 1) ≡ a * 2 ^ d = ap (λ (z : ℕ). b * 2 ^ z) (sym oc_is) ∙ same ∙ ap (λ (z : ℕ). z * 2 ^ d) o_is in
+    let whole : r ≡ b * 2 ^ (c + 1) + a * 2 ^ d = r_is ∙ ap (λ (z : ℕ). b * 2 ^ z + w * 2 ^ d) deep ∙ ap (λ (z : ℕ). b * 2 ^ (c + 1) + z * 2 ^ d) (w_is ∙ t_is) in
+    ap (λ (z : ℕ). z * 2 ^ c) whole ∙ fork_share a c b d half ∙ ap (λ (z : ℕ). a * 2 ^ (d + z)) (sym deep) ∙ ap (λ (z : ℕ). a * 2 ^ z) (sym rc_is)

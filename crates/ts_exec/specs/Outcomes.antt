@@ -8,9 +8,9 @@ use Rattle.ts_model.specs.Trees.{Listing}
 use Rattle.ts_model.specs.Plans.{Waits}
 use Rattle.ts_model.specs.Runs.{Run, Has, HasNot, claims, finishes, fails, open_count, word_after}
 use Rattle.ts_model.specs.declared.plan.Plan.{Plan}
-use Rattle.ts_board.specs.Terms.{IsLegalRun, IsTold, work_in}
+use Rattle.ts_board.specs.Terms.{IsTold, work_in}
 use Rattle.ts_board.specs.Runs.{size}
-use Rattle.ts_board.specs.Kept.{Rests}
+use Rattle.ts_board.specs.Kept.{HasLeft, Rests}
 use Rattle.ts_board.specs.declared.law.Slot.{Slot}
 use Rattle.ts_board.specs.declared.law.Slot.TheVariants.{Empty}
 use Rattle.ts_board.specs.declared.law.Terms.{Terms}
@@ -43,9 +43,10 @@ ResultFits x r i Done = Has r (finishes i)
 ResultFits x r i (Failed f) = Has r (fails i) × MayFail x i f
 ResultFits x r i (Blocked k) = HasNot r (claims i) × IsLeastOpen x.checkup.plan r i k
 
-pub record IsOutcome {S : Type 0} (content : S → Option (Listing (List ℕ))) (x : Setting) (t : Terms) (results : List ActionResult) (slots : List (Slot S)) : Type 0 where
+-- one legal run, with the words and the slots that it left
+pub record IsOutcome {S : Type 0} (content : S → Option (Listing (List ℕ))) (x : Setting) (t : Terms) (results : List ActionResult) (words : List ℕ) (slots : List (Slot S)) : Type 0 where
   pub run : Run
-  pub legal : IsLegalRun t run
+  pub left : HasLeft t words run
   pub count : length results ≡ size t
   pub each : (i : ℕ) (result : ActionResult) → slice_get results i ≡ Some result → ResultFits x run i result
   pub sites : (i : ℕ) → i < size t → Rests work_in (IsTold content t i) t run i (slice_index_or slots i Empty)

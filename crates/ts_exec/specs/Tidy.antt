@@ -4,13 +4,17 @@
 --     IsTry plan i fault b     the steps b of one try of action i, which failed with this fault or didn't fail
 --     Listed, Noted            why each action failed is known
 --     Swept                    the actions below this number were tried in order
+--     KeepsList, KeepsNotes    a pass of this board is tidy, and Listed or Noted
 use Rattle.std.specs.Prelude.{◌≡◌, ◌≢◌, ◌⊎◌, ℕ, ◌<◌, ◌*◌, ◌^◌, length, List, [], ◌∷◌, Option, Some, IsSome, slice_get}
+use Rattle.atomic_table.specs.Seated.{TableId}
 use Rattle.ts_model.specs.Plans.{Waits}
 use Rattle.ts_model.specs.Runs.{Run, Has, claims, finishes, fails, releases, takes, word_after, IsPieceOf}
 use Rattle.ts_model.specs.declared.plan.Plan.{Plan}
 use Rattle.ts_model.specs.declared.step.Step.TheVariants.{Take, Release}
 use Rattle.ts_board.specs.Runs.{StartsWith}
+use Rattle.ts_board.specs.Calls.{IsPassOf, mine}
 use Rattle.ts_board.specs.declared.board.Pass.{Pass}
+use Rattle.ts_board.specs.declared.law.Terms.{Terms}
 use Rattle.ts_exec.specs.Failures.{Setting, MayFail}
 use Rattle.ts_exec.specs.declared.fault.ActFault.{ActFault}
 use Rattle.ts_exec.specs.declared.crew.Failure.{Failure}
@@ -49,6 +53,19 @@ HasFault x faults i = (f : ActFault) × (slice_get faults i ≡ Some (Some f)) �
 -- each failed action has its fault at its place
 abbrev pub Noted : Setting → Run → List (Option ActFault) → Type 0
 Noted x own faults = (i : ℕ) → Has own (fails i) → HasFault x faults i
+
+-- what a worker has between two tries
+pub record KeepsList {S : Type 0} (id : TableId) (t : Terms) (x : Setting) (pass : Pass S) (failures : List Failure) : Type 0 where
+  pub of_board : IsPassOf id t pass
+  pub tidy : IsTidy x.checkup.plan (mine pass)
+  pub listed : Listed x (mine pass) failures
+
+-- what workers leave behind together
+pub record KeepsNotes {S : Type 0} (id : TableId) (t : Terms) (x : Setting) (pass : Pass S) (faults : List (Option ActFault)) : Type 0 where
+  pub of_board : IsPassOf id t pass
+  pub tidy : IsTidy x.checkup.plan (mine pass)
+  pub room : length faults ≡ length x.checkup.plan.actions
+  pub noted : Noted x (mine pass) faults
 
 -- both passes have the same share of the board
 abbrev pub IsSameShare : {S : Type 0} → Pass S → Pass S → Type 0

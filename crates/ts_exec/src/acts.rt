@@ -1,16 +1,17 @@
 //! The acts of pieces, commits and marks.
 ghost use Rattle.std.specs.Prelude.{ℕ, ◌≡◌, ◌<◌, ◌+◌, ◌++◌, length, IfErr, OnErr, OnOk};
-ghost use Rattle.ts_board.specs.Calls.{HasActed, IsFresh, IsPassOf, IsSamePart, mine, seen};
+ghost use Rattle.ts_board.specs.Calls.{HasActed, IsFresh, IsPassOf, IsSamePart, mine, seen, work_of};
 ghost use Rattle.ts_board.specs.Keys.{terms_of};
 ghost use Rattle.ts_board.specs.Runs.{StartsWith};
 ghost use Rattle.ts_board.specs.Terms.{IsSited};
 ghost use Rattle.ts_check.specs.Checkup.{IsCommit};
-ghost use Rattle.ts_exec.specs.Acts.{HasAll, IsActed, MayGoOn};
+ghost use Rattle.ts_exec.specs.Acts.{HasAll, HasRead, IsActed, MayGoOn};
 ghost use Rattle.ts_exec.specs.Failures.{MayFail, setting_of};
 ghost use Rattle.ts_exec.specs.Tidy.{AreTakes};
 ghost use Rattle.ts_exec.specs.declared.fault.ActFault.TheVariants as fault;
 ghost use Rattle.ts_model.specs.Plans.{KindIs};
 ghost use Rattle.ts_model.specs.Runs.{HasNot, IsPending, IsPieceOf, Run, takes};
+ghost use Rattle.ts_model.specs.declared.plan.Kind.{Kind};
 ghost use Rattle.ts_model.specs.declared.plan.Kind.TheVariants.{Piece};
 
 use crate::fault::ActFault;
@@ -38,6 +39,7 @@ impl<'a, 'b, S: Site, F: Folder + Sync, G: Gate + Sync> Job<'a, 'b, S, F, G> {
         ensures steps { (more : Run) × (mine pass.new ≡ mine pass.old ++ more) × AreTakes self.now.checked.now.plan held.old.action more }
         ensures action { held.new.action ≡ held.old.action }
         ensures ok { OnOk result (HasActed S.content (terms_of S.content self.now.board.now.table.shared.key) (mine pass.new) held.new) }
+        ensures read { OnOk result ((kind : Kind) × KindIs self.now.checked.now.plan held.old.action kind × HasRead (setting_of S.failures F.tells F.lets self.now.checked.now self.now.first.now self.now.second.now (terms_of S.content self.now.board.now.table.shared.key).told) kind (work_of held.new)) }
         ensures err { OnErr result (MayGoOn S.content (terms_of S.content self.now.board.now.table.shared.key) (mine pass.new) held.new) }
         ensures fault { IfErr result (MayFail (setting_of S.failures F.tells F.lets self.now.checked.now self.now.first.now self.now.second.now (terms_of S.content self.now.board.now.table.shared.key).told) held.old.action) }
     {
@@ -70,6 +72,7 @@ impl<'a, 'b, S: Site, F: Folder + Sync, G: Gate + Sync> Job<'a, 'b, S, F, G> {
         requires site { IsSited self.now.checked.now.plan held.old.action held.old.slot }
         ensures action { held.new.action ≡ held.old.action }
         ensures ok { OnOk result (IsActed S.content (terms_of S.content self.now.board.now.table.shared.key) held.new) }
+        ensures read { OnOk result (HasRead (setting_of S.failures F.tells F.lets self.now.checked.now self.now.first.now self.now.second.now (terms_of S.content self.now.board.now.table.shared.key).told) (Piece entry offset length path.now) (work_of held.new)) }
         ensures err { OnErr result (held.new ≡ held.old) }
         ensures fault { IfErr result (MayFail (setting_of S.failures F.tells F.lets self.now.checked.now self.now.first.now self.now.second.now (terms_of S.content self.now.board.now.table.shared.key).told) held.old.action) }
     {

@@ -1,5 +1,4 @@
-//! The parts of an executor of checked plans: acts, tries, workers, the sweep and the results. What runs the workers at once
-//! is not here yet.
+//! The executor: a checked plan is carried out by many workers, and the outcome is that of one legal run.
 #![tactic(auto)]
 
 pub mod acts;
@@ -9,9 +8,11 @@ pub mod fault;
 pub mod gate;
 pub mod job;
 pub mod outcome;
+pub mod running;
 pub mod sweep;
 pub mod workers;
 
 pub use fault::{ActFault, RunFault};
 pub use gate::{Gate, OpenGate};
-pub use outcome::{ActionResult, Outcome};
+pub use outcome::{ActionResult, Outcome, commit_count};
+pub use running::run;

@@ -1,16 +1,20 @@
 //! What came of a plan.
-ghost use Rattle.std.specs.Prelude.{ℕ, List, ◌≡◌, ◌<◌, ◌≤◌, [], Some, length, slice_get, slice_index_or, slice_set, vec_capacity};
+ghost use Rattle.std.specs.Prelude.{ℕ, List, ◌≡◌, ◌<◌, ◌≤◌, [], Some, length, slice_get, slice_index_or, slice_set, vec_capacity, IfOk};
 ghost use Rattle.std.specs.Mem.Slots.{slots_items, slots_len};
-ghost use Rattle.ts_board.specs.Terms.{site_in};
+ghost use Rattle.ts_board.specs.Archives.{HasEnded, LeftArchive};
+ghost use Rattle.ts_board.specs.Terms.{commit_count, site_in};
 ghost use Rattle.ts_board.specs.declared.law.Slot.TheVariants.{Empty};
 ghost use Rattle.ts_exec.specs.Outcomes.{IsEnd, IsLeastOpen, ResultIs};
 ghost use Rattle.ts_exec.specs.declared.outcome.ActionResult.{ActionResult};
 ghost use Rattle.ts_model.specs.Runs.{HasNot, Run, claims};
 
 use crate::fault::ActFault;
-use ts_board::Closed;
+use std::alloc::Global;
+use ts_board::{ArchiveFault, Closed};
 use ts_board::calls::{DONE, FAILED};
 use ts_check::Checked;
+use ts_model::plan::{Kind, Plan};
+use ts_print::Print;
 use ts_site::Site;
 
 /// What came of an action.
@@ -58,6 +62,33 @@ impl<S: Site> Outcome<S> {
     {
         self.closed.take_site(c)
     }
+
+    /// The archive that the plan was checked against, with the mark of each action that is done. It is asked of the plan that
+    /// was carried out.
+    ///
+    /// # Errors
+    ///
+    /// Want of memory alone.
+    pub fn archive(&self, alloc: Global, checked: &Checked<'_>) -> Result<Print, ArchiveFault>
+        requires words { length checked.now.plan.actions ≤ slots_len self.now.closed.row.words }
+        requires ended { HasEnded checked.now (slots_items self.now.closed.row.words) }
+        ensures { IfOk result (λ print. LeftArchive checked.now (slots_items self.now.closed.row.words) print) }
+    {
+        self.closed.archive(alloc, checked)
+    }
+}
+
+/// How many commits a plan has: so many sites are wanted. It takes no memory.
+pub fn commit_count(plan: &Plan) -> usize
+    ensures { result ≡ commit_count plan.now.actions }
+{
+    let mut count = 0;
+    for action in plan.actions.as_slice() {
+        if let Kind::Commit { entry: _ } = action.kind {
+            count += 1;
+        }
+    }
+    count
 }
 
 /// The results of all actions, in a list that has room for them.

@@ -1,0 +1,63 @@
+-- Passes of workers that are cut and put together.
+use Rattle.std.proofs.Common.{◌≡◌, ℕ, ◌+◌, ◌*◌, ◌^◌, List, [], ◌++◌, length, Option, Some, IfSome, slice_get, sym, ◌∙◌, subst, ⊎_elim}
+use Rattle.std.specs.List.{All}
+use Rattle.std.specs.Option.{option_to_list}
+use Rattle.std.proofs.lemmas.List.Elements.{All-pop}
+use Rattle.std.proofs.lemmas.Bool.{true≢false}
+use Rattle.std.proofs.lemmas.Option.{none-some}
+use Rattle.atomic_table.specs.Seated.{TableId}
+use Rattle.ts_model.specs.Runs.{Run, Has, fails}
+use Rattle.ts_board.specs.Calls.{HasPart, IsPassOf, IsSamePart, mine}
+use Rattle.ts_board.specs.Kept.{IsMerged}
+use Rattle.ts_board.specs.declared.board.Pass.{Pass}
+use Rattle.ts_board.specs.declared.law.Terms.{Terms}
+use Rattle.ts_exec.specs.Failures.{Setting}
+use Rattle.ts_exec.specs.Tidy.{HasFault, IsListed, IsSameShare, IsTidy, KeepsList, KeepsNotes, Noted}
+use Rattle.ts_exec.specs.declared.crew.Failure.{Failure}
+use Rattle.ts_exec.specs.declared.fault.ActFault.{ActFault}
+use Rattle.ts_exec.proofs.Shares.{halves_share}
+use Rattle.ts_exec.proofs.Steps.{merged_cases}
+use Rattle.ts_exec.proofs.Tries.{tidy_merged, tidy_start}
+
+module _ {S : Type 0} (id : TableId) (t : Terms) (x : Setting) where
+  -- a pass with no steps of its own
+  pub fresh_list : (p : Pass S) (fs : List Failure) → IsPassOf id t p → mine p ≡ [] → fs ≡ [] → KeepsList id t x p fs
+  fresh_list p fs of none empty = record {
+    of_board = of;
+    tidy = subst (λ (z : Run). IsTidy x.checkup.plan z) (sym none) (tidy_start x.checkup.plan);
+    listed = record {
+      each = λ i h. absurd (true≢false (sym (subst (λ (z : Run). Has z (fails i)) none h)));
+      may = λ m e at. absurd (none-some e (subst (λ (z : List Failure). slice_get z m ≡ Some e) empty at));
+    };
+  }
+
+  pub same_notes : (p q : Pass S) (fs : List (Option ActFault)) → IsPassOf id t q → mine q ≡ mine p → KeepsNotes id t x p fs → KeepsNotes id t x q fs
+  same_notes p q fs of same k = record {
+    of_board = of;
+    tidy = subst (λ (z : Run). IsTidy x.checkup.plan z) (sym same) k.tidy;
+    room = k.room;
+    noted = subst (λ (z : Run). Noted x z fs) (sym same) k.noted;
+  }
+
+  pub joined_notes : (p q r : Pass S) (before after : List (Option ActFault)) (failures : List Failure) → KeepsNotes id t x p before → KeepsList id t x q failures → IsPassOf id t r → IsMerged (mine p) (mine q) (mine r)
+      → length after ≡ length before → ((i : ℕ) → HasFault x before i → HasFault x after i) → ((i : ℕ) → IsListed i failures → HasFault x after i) → KeepsNotes id t x r after
+  joined_notes p q r before after failures notes list of merged room kept noted = record {
+    of_board = of;
+    tidy = tidy_merged x.checkup.plan (mine p) (mine q) (mine r) merged notes.tidy list.tidy;
+    room = room ∙ notes.room;
+    noted = λ i h. ⊎_elim
+        (λ (l : Has (mine p) (fails i)). kept i (notes.noted i l))
+        (λ (l : Has (mine q) (fails i)). noted i (list.listed.each i l))
+        (merged_cases (fails i) (mine p) (mine q) (mine r) merged h);
+  }
+
+-- what holds of all elements holds of the one that was taken off
+pub of_popped : {X : Type 0} (P : X → Type 0) (xs ys : List X) (r : Option X) (x : X) → xs ≡ ys ++ option_to_list r → r ≡ Some x → All P xs → P x
+of_popped P xs ys r x is some all = subst (λ (z : Option _). IfSome z P) some (All-pop P xs ys r is all).1
+
+-- the halves of a pass, what became of them, and the two put together
+pub joined_share : {S : Type 0} (p ours theirs rest worked r : Pass S) → HasPart ours p.seat.me.0.part (p.seat.me.0.cut + 1) → HasPart theirs p.seat.me.0.part (p.seat.me.0.cut + 1) → IsSameShare ours rest → IsSamePart theirs worked
+    → HasPart r (rest.seat.me.0.part * 2 ^ worked.seat.me.0.cut + worked.seat.me.0.part * 2 ^ rest.seat.me.0.cut) (rest.seat.me.0.cut + worked.seat.me.0.cut) → IsSameShare p r
+joined_share p ours theirs rest worked r first second share part whole =
+    halves_share p.seat.me.0.part p.seat.me.0.cut ours.seat.me.0.part ours.seat.me.0.cut theirs.seat.me.0.part theirs.seat.me.0.cut worked.seat.me.0.part worked.seat.me.0.cut rest.seat.me.0.part rest.seat.me.0.cut r.seat.me.0.part
+        r.seat.me.0.cut first.0 first.1 second.0 second.1 part.0 part.1 share whole.0 whole.1

@@ -1,0 +1,52 @@
+use Rattle.std.proofs.Common.{rules, ◌≡◌, List, [], refl}
+use Rattle.std.specs.Thread.{IsSend, IsSync}
+use denote.Param.{param}
+use denote.Param.Send.{sendable}
+use Rattle.std.proofs.Crossing.{crosses}
+use Rattle.atomic_blocks.proofs.rows.shared.Rows.TheSendSync as rows
+use Rattle.atomic_table.proofs.shared.Seat.TheSendSync as seat
+use Rattle.ts_exec.proofs.Crossing.{job_sync, member_field_send, pass_field_send, slot_send}
+use Rattle.std.proofs.lemmas.List.Elements.{All-pop}
+use Rattle.ts_board.specs.Keys.{terms_of}
+use Rattle.ts_exec.specs.Failures.{setting_of}
+use Rattle.ts_exec.specs.declared.crew.Member.{Member}
+use Rattle.ts_exec.proofs.Teams.{fresh_list, joined_share, of_popped, same_notes}
+use Rattle.ts_exec.proofs.crowd.+halves.Goals as goal
+
+pub work-worked-requires-clause-listed : goal.work-worked-requires-clause-listed
+work-worked-requires-clause-listed g t c κs within =
+    let j = c.args.job.now in let terms = terms_of g.S.Site.content j.board.now.table.shared.key in let theirs = c.in-Ok.halves.1 in let member = c.in-Some.member in
+    let x = setting_of g.S.Site.failures g.F.Folder.tells g.F.Folder.lets j.checked.now j.first.now j.second.now terms.told in
+    let empty : member.failures.items ≡ [] = of_popped (λ (m : Member). m.failures.items ≡ []) c.args.members.items c.pop.new.self.items c.pop.result member c.pop.ensures.items c.in-Some.is c.requires.fresh in
+    (fresh_list j.board.now.table.shared.table_id terms x theirs member.failures.items c.in-Ok.ensures.second c.in-Ok.ensures.mine.1 empty).listed
+
+pub returns-then-is_empty-clause-share : goal.returns-then-is_empty-clause-share
+returns-then-is_empty-clause-share g t c =
+    joined_share c.args.pass c.in-Ok.halves.0 c.in-Ok.halves.1 c.in-Ok.halves.0 c.work-worked.result.pass c.put_together.result.0 c.in-Ok.ensures.parts.0 c.in-Ok.ensures.parts.1 refl c.work-worked.ensures.pass.1 c.put_together.ensures.part
+
+pub join-worked-requires-send-F : goal.join-worked-requires-send-F
+join-worked-requires-send-F g t c κs within =
+    let s : IsSend (param 1 g.row.S) = search rules in let f : IsSync (param 2 g.row.F) = search rules in let h : IsSync (param 3 g.row.G) = search rules in
+    let m = member_field_send in
+    search (sendable, crosses, job_sync, pass_field_send, rows.the_send, rows.the_sync) depth 60 fits 5000
+
+pub join-worked-requires-send-A : goal.join-worked-requires-send-A
+join-worked-requires-send-A g t c κs within =
+    let s : IsSend (param 1 g.row.S) = search rules in
+    search (sendable, crosses, slot_send, seat.the_send) depth 60 fits 5000
+
+pub join-worked-requires-after_bounds : goal.join-worked-requires-after_bounds
+join-worked-requires-after_bounds g t c κs within =
+    let j = c.args.job.now in let id = j.board.now.table.shared.table_id in let terms = terms_of g.S.Site.content j.board.now.table.shared.key in
+    let x = setting_of g.S.Site.failures g.F.Folder.tells g.F.Folder.lets j.checked.now j.first.now j.second.now terms.told in
+    let popped = All-pop (λ (m : Member). m.failures.items ≡ []) c.args.members.items c.pop.new.self.items c.pop.result c.pop.ensures.items c.requires.fresh in
+    let empty = of_popped (λ (m : Member). m.failures.items ≡ []) c.args.members.items c.pop.new.self.items c.pop.result c.in-Some.member c.pop.ensures.items c.in-Some.is c.requires.fresh in
+    let list = fresh_list id terms x c.in-Ok.halves.1 c.in-Some.member.failures.items c.in-Ok.ensures.second c.in-Ok.ensures.mine.1 empty in
+    let notes = same_notes id terms x c.args.pass c.in-Ok.halves.0 c.args.faults.items c.in-Ok.ensures.first c.in-Ok.ensures.mine.0 c.requires.notes in
+    let fresh = popped.0 in
+    search rules parts 30
+
+pub returns-clause-share : goal.returns-clause-share
+returns-clause-share g t c =
+    joined_share c.args.pass c.in-Ok.halves.0 c.in-Ok.halves.1 c.join-worked.result.1.0 c.join-worked.result.0.pass c.put_together-2.result.0 c.in-Ok.ensures.parts.0 c.in-Ok.ensures.parts.1 c.join-worked.ensures.second.1 c.join-worked.ensures.first.1
+    c.put_together-2.ensures.part

@@ -1,0 +1,107 @@
+//! A checked plan is carried out.
+ghost use Rattle.std.specs.Prelude.{◌≡◌, ◌≤◌, [], All, IfErr, IfOk, length};
+ghost use Rattle.std.specs.Mem.Slots.{slots_items, slots_len};
+ghost use Rattle.ts_board.specs.Archives.{HasEnded};
+ghost use Rattle.ts_board.specs.Calls.{IsPassOf, IsWhole, mine, seen};
+ghost use Rattle.ts_board.specs.Keys.{terms_of};
+ghost use Rattle.ts_board.specs.Terms.{commit_count, placed, terms_with};
+ghost use Rattle.ts_exec.specs.Failures.{setting_of};
+ghost use Rattle.ts_exec.specs.Outcomes.{IsOutcome};
+ghost use Rattle.ts_exec.specs.Tidy.{IsTidy, Noted, Swept};
+
+use crate::crew::{Crew, Member};
+use crate::crowd::work_at_once;
+use crate::fault::{ActFault, RunFault};
+use crate::gate::Gate;
+use crate::job::Job;
+use crate::outcome::{Outcome, results_of};
+use crossbeam_deque::{Stealer, Worker};
+use std::alloc::Global;
+use std::thread::Threads;
+use ts_board::{Board, Pass};
+use ts_check::Checked;
+use ts_folder::Folder;
+use ts_site::Site;
+
+/// Lets all members work, and then tries what is still open, in order.
+fn work_and_sweep<R: Threads + Sync, S: Site, F: Folder + Sync, G: Gate + Sync>(
+    rt: &R,
+    job: &Job<'_, '_, S, F, G>,
+    stealers: &[Stealer<u32>],
+    members: Vec<Member>,
+    mut unread: Worker<u32>,
+    pass: Pass<S>,
+    faults: Vec<Option<ActFault>>,
+) -> (Pass<S>, Vec<Option<ActFault>>)
+where
+    F::File: Send,
+    requires pass { IsPassOf job.now.board.now.table.shared.table_id (terms_of S.content job.now.board.now.table.shared.key) pass × IsWhole pass }
+    requires nothing { mine pass ≡ [] }
+    requires room { length faults.items ≡ length job.now.checked.now.plan.actions }
+    requires fresh { All (λ m. m.failures.items ≡ []) members.items }
+    ensures pass { IsPassOf job.now.board.now.table.shared.table_id (terms_of S.content job.now.board.now.table.shared.key) result.0 × IsWhole result.0 }
+    ensures tidy { IsTidy job.now.checked.now.plan (mine result.0) }
+    ensures noted { Noted (setting_of S.failures F.tells F.lets job.now.checked.now job.now.first.now job.now.second.now (terms_of S.content job.now.board.now.table.shared.key).told) (mine result.0) result.1.items }
+    ensures room { length result.1.items ≡ length job.now.checked.now.plan.actions }
+    ensures swept { Swept job.now.checked.now.plan (length job.now.checked.now.plan.actions) (mine result.0) (seen result.0) }
+{
+    let (mut pass, mut faults) = work_at_once(rt, job, stealers, members, pass, faults);
+    job.sweep(&mut pass, &mut unread, &mut faults);
+    (pass, faults)
+}
+
+/// Carries out a checked plan by 1 to 64 workers. Pieces are read from the folders `first` and `second`; there is one site for
+/// each commit, in the order of the actions. A thread that can't start is done without.
+///
+/// # Errors
+///
+/// Want of memory, before anything was done, and the sites come back as they were.
+pub fn run<'a, R: Threads + Sync, S: Site, F: Folder + Sync, G: Gate + Sync>(
+    rt: &R,
+    alloc: Global,
+    checked: &'a Checked<'a>,
+    first: &'a F,
+    second: &'a F,
+    sites: Vec<S>,
+    workers: u32,
+    gate: &'a G,
+) -> Result<Outcome<S>, (Vec<S>, RunFault)>
+where
+    F::File: Send,
+    requires some { 1 ≤ workers }
+    requires few { workers ≤ 64 }
+    requires sites { length sites.items ≡ commit_count checked.now.plan.actions }
+    ensures outcome { IfOk result (λ o. let t = terms_with S.content checked.now.plan checked.now.first checked.now.second (placed checked.now.plan.actions sites.items) in IsOutcome S.content (setting_of S.failures F.tells F.lets checked.now first.now second.now t.told) t o.results.items (slots_items o.closed.row.words) (slots_items o.closed.row.slots)) }
+    ensures ended { IfOk result (λ o. HasEnded checked.now (slots_items o.closed.row.words)) }
+    ensures wide { IfOk result (λ o. (length checked.now.plan.actions ≤ slots_len o.closed.row.words) × (length checked.now.plan.actions ≤ slots_len o.closed.row.slots)) }
+    ensures back { IfErr result (λ refused. refused.0.items ≡ sites.items) }
+{
+    let Ok(crew) = Crew::gather(alloc, checked, workers) else {
+        return Err((sites, RunFault::OutOfMemory));
+    };
+    let (board, pass) = match Board::open(alloc, checked, sites) {
+        Ok(opened) => opened,
+        Err((sites, _fault)) => return Err((sites, RunFault::OutOfMemory)),
+    };
+    let Crew {
+        members,
+        stealers,
+        unread,
+        faults,
+        results,
+    } = crew;
+    let _plan = checked.plan();
+    let job = Job {
+        alloc,
+        checked,
+        board: &board,
+        first,
+        second,
+        gate,
+    };
+    let (pass, faults) =
+        work_and_sweep(rt, &job, stealers.as_slice(), members, unread, pass, faults);
+    let closed = board.close(pass);
+    let results = results_of(checked, &closed, faults.as_slice(), results);
+    Ok(Outcome::new(results, closed))
+}
