@@ -60,4 +60,4 @@ pub joined_share : {S : Type 0} (p ours theirs rest worked r : Pass S) → HasPa
     → HasPart r (rest.seat.me.0.part * 2 ^ worked.seat.me.0.cut + worked.seat.me.0.part * 2 ^ rest.seat.me.0.cut) (rest.seat.me.0.cut + worked.seat.me.0.cut) → IsSameShare p r
 joined_share p ours theirs rest worked r first second share part whole =
     halves_share p.seat.me.0.part p.seat.me.0.cut ours.seat.me.0.part ours.seat.me.0.cut theirs.seat.me.0.part theirs.seat.me.0.cut worked.seat.me.0.part worked.seat.me.0.cut rest.seat.me.0.part rest.seat.me.0.cut r.seat.me.0.part
-        r.seat.me.0.cut first.0 first.1 second.0 second.1 part.0 part.1 share whole.0 whole.1
+    r.seat.me.0.cut first.0 first.1 second.0 second.1 part.0 part.1 share whole.0 whole.1

@@ -32,7 +32,7 @@ impl<'a, 'b, S: Site, F: Folder + Sync, G: Gate + Sync> Job<'a, 'b, S, F, G> {
         }
     }
 
-    /// Puts what a worker leaves behind to what the others do.
+    /// Puts together what a worker leaves behind and what the others do.
     fn put_together(
         &self,
         pass: Pass<S>,

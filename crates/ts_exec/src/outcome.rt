@@ -10,8 +10,8 @@ ghost use Rattle.ts_model.specs.Runs.{HasNot, Run, claims};
 
 use crate::fault::ActFault;
 use std::alloc::Global;
-use ts_board::{ArchiveFault, Closed};
 use ts_board::calls::{DONE, FAILED};
+use ts_board::{ArchiveFault, Closed};
 use ts_check::Checked;
 use ts_model::plan::{Kind, Plan};
 use ts_print::Print;
@@ -49,6 +49,13 @@ impl<S: Site> Outcome<S> {
         ensures { slice_get self.now.results.items i ≡ Some result }
     {
         self.results[i as usize]
+    }
+
+    /// What came of each action, in their order.
+    pub fn results(&self) -> &[ActionResult]
+        ensures { result.now ≡ self.now.results.items }
+    {
+        self.results.as_slice()
     }
 
     /// Takes the site of a commit. A second time there is none.

@@ -99,8 +99,15 @@ where
         second,
         gate,
     };
-    let (pass, faults) =
-        work_and_sweep(rt, &job, stealers.as_slice(), members, unread, pass, faults);
+    let (pass, faults) = work_and_sweep(
+        rt,
+        &job,
+        stealers.as_slice(),
+        members,
+        unread,
+        pass,
+        faults,
+    );
     let closed = board.close(pass);
     let results = results_of(checked, &closed, faults.as_slice(), results);
     Ok(Outcome::new(results, closed))

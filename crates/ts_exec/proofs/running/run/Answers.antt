@@ -17,9 +17,9 @@ pub results_of-results-requires-clause-end : goal.results_of-results-requires-cl
 results_of-results-requires-clause-end g c κs within = (
   c.close-closed.ensures.ends.0,
   end g.S.Site.content g.S.Site.failures g.F.Folder.tells g.F.Folder.lets c.args.checked.now c.plan-plan.ensures.valid c.args.first.now c.args.second.now
-    (terms_of g.S.Site.content c.in-Ok-open.opened.0.table.shared.key) (terms_with g.S.Site.content c.args.checked.now.plan c.args.checked.now.first c.args.checked.now.second (placed c.args.checked.now.plan.actions c.args.sites.items)) c.in-Ok-open.ensures.board (refl, refl, refl)
-    c.work_and_sweep-pass.result.0 (slots_items c.close-closed.result.row.words) (slots_items c.close-closed.result.row.slots) c.as_slice-2.result.now
-    c.close-closed.ensures.ends c.work_and_sweep-pass.ensures.pass.1 c.work_and_sweep-pass.ensures.tidy (subst (λ (f : List (Option ActFault)). Noted (setting_of g.S.Site.failures g.F.Folder.tells g.F.Folder.lets c.args.checked.now c.args.first.now c.args.second.now (terms_of g.S.Site.content c.in-Ok-open.opened.0.table.shared.key).told) (mine c.work_and_sweep-pass.result.0) f) (sym c.as_slice-2.ensures.value) c.work_and_sweep-pass.ensures.noted) c.work_and_sweep-pass.ensures.swept,
+      (terms_of g.S.Site.content c.in-Ok-open.opened.0.table.shared.key) (terms_with g.S.Site.content c.args.checked.now.plan c.args.checked.now.first c.args.checked.now.second (placed c.args.checked.now.plan.actions c.args.sites.items)) c.in-Ok-open.ensures.board (refl, refl, refl)
+      c.work_and_sweep-pass.result.0 (slots_items c.close-closed.result.row.words) (slots_items c.close-closed.result.row.slots) c.as_slice-2.result.now
+      c.close-closed.ensures.ends c.work_and_sweep-pass.ensures.pass.1 c.work_and_sweep-pass.ensures.tidy (subst (λ (f : List (Option ActFault)). Noted (setting_of g.S.Site.failures g.F.Folder.tells g.F.Folder.lets c.args.checked.now c.args.first.now c.args.second.now (terms_of g.S.Site.content c.in-Ok-open.opened.0.table.shared.key).told) (mine c.work_and_sweep-pass.result.0) f) (sym c.as_slice-2.ensures.value) c.work_and_sweep-pass.ensures.noted) c.work_and_sweep-pass.ensures.swept,
 )
 
 pub returns-clause-outcome : goal.returns-clause-outcome
