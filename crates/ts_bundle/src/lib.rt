@@ -12,6 +12,3 @@ pub use decoding::decode;
 pub use fault::BundleFault;
 pub use reader::BundleReader;
 pub use results::{count_skipped, write_result};
-
-#[cfg(test)]
-mod tests;

@@ -10,6 +10,3 @@ pub use detection::detect;
 pub use fault::DirtyFault;
 pub use marks::Marks;
 pub use walk::{Seen, Walk};
-
-#[cfg(test)]
-mod tests;

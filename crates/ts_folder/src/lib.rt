@@ -6,8 +6,6 @@ pub mod fault;
 pub mod faulty;
 pub mod folder;
 pub mod memory;
-#[cfg(test)]
-mod tests;
 
 pub use disk::DiskFolder;
 pub use fault::{FolderFault, Trouble};

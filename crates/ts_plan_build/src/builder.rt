@@ -134,23 +134,3 @@ fn nearest(dirs: &[NewDir]) -> Option<u32>
         [] => None,
     }
 }
-
-#[cfg(test)]
-mod tests {
-    use super::*;
-    use std::test::Fail;
-
-    #[test]
-    fn no_entries_need_no_actions(rt: HostRuntime) -> Result<(), Fail> {
-        let alloc = rt.alloc();
-        let (archive, first, second) = (
-            Print::empty(alloc),
-            Print::empty(alloc),
-            Print::empty(alloc),
-        );
-        let plan = build(alloc, &archive, &first, &second, Vec::new(alloc))?;
-        assert_eq!(rt; plan.entries.as_slice().len(), 0);
-        assert_eq!(rt; plan.actions.as_slice().len(), 0);
-        Ok(())
-    }
-}

@@ -90,38 +90,3 @@ fn shared_after(shared: usize, depth: usize, is_shared: bool) -> usize
         shared.min(depth.saturating_sub(1))
     }
 }
-
-#[cfg(test)]
-mod tests {
-    use super::*;
-    use std::test::Fail;
-    use ts_dirty::detect;
-    use ts_hold::Holds;
-
-    #[test]
-    fn nothing_needs_attention(rt: HostRuntime) -> Result<(), Fail> {
-        let alloc = rt.alloc();
-        let (archive, first, second) = (
-            Print::empty(alloc),
-            Print::empty(alloc),
-            Print::empty(alloc),
-        );
-        let marks = detect(alloc, &archive, &first, &second, &Holds::none(alloc))?;
-        let entries = reasons(alloc, &archive, &first, &second, &marks)?;
-        assert_eq!(rt; entries.len(), 0);
-        Ok(())
-    }
-
-    #[test]
-    fn a_reason_makes_an_entry(rt: HostRuntime) -> Result<(), Fail> {
-        let alloc = rt.alloc();
-        let path = Path::parse_text(alloc, b"/a")?;
-        let mut entries = Vec::new(alloc);
-        add(alloc, &mut entries, &path, None)?;
-        add(alloc, &mut entries, &path, Some(Reason::Held))?;
-        assert_eq!(rt; entries.len(), 1);
-        assert_eq!(rt; entries[0].reason, Reason::Held);
-        assert!(rt; entries[0].path == path);
-        Ok(())
-    }
-}

@@ -10,6 +10,3 @@ pub use fault::SiteFault;
 pub use faulty::FaultySite;
 pub use memory::MemSite;
 pub use site::Site;
-
-#[cfg(test)]
-mod tests;

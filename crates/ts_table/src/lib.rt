@@ -16,6 +16,3 @@ pub use frame::Frame;
 pub use splice::Edit;
 pub use subtable::SubTable;
 pub use table::Table;
-
-#[cfg(test)]
-mod tests;

@@ -1,0 +1,278 @@
+//! Listings and bytes of folders, in memory and on a disk.
+use crate::shared::path;
+use std::alloc::Global;
+use std::fs;
+use std::fs::Files;
+use std::os::unix::fs::symlink;
+use std::process::Abort;
+use ts_folder::{DiskFolder, Failing, FaultyFolder, Folder, Kind, MemFolder, Trouble};
+use ts_name::Name;
+use ts_text::{Counted, Lines};
+use ts_tree::{Tree, decode};
+
+fn tree_of(alloc: Global, text: &[u8]) -> Option<Tree> {
+    let mut lines = Lines::new(alloc, Counted::new(text)).ok()?;
+    decode(alloc, &mut lines).ok()
+}
+
+/// Directory `/a` with the file `/a/b` of the byte `a`, and the file `/c` of the byte `b`.
+fn small(alloc: Global) -> Option<MemFolder> {
+    let tree = tree_of(alloc, b"d /a\nf /a/b 1\nx 61\nf /c 1\nx 62\n")?;
+    Some(MemFolder::new(tree))
+}
+
+/// The names, each after `/` where it is a directory, else after `:`.
+fn drawn(alloc: Global, names: &[(Name, Kind)]) -> Option<Vec<u8>> {
+    let mut all = Vec::new(alloc);
+    for (name, kind) in names {
+        all.push(if *kind == Kind::Dir { b'/' } else { b':' }).ok()?;
+        all.extend_from_slice(name.as_bytes()).ok()?;
+    }
+    Some(all)
+}
+
+/// The names in a directory, drawn, or the number of the fault.
+fn listed<F: Folder>(alloc: Global, folder: &F, text: &str) -> Option<Result<Vec<u8>, u8>> {
+    match folder.list(alloc, &path(alloc, text)?) {
+        Ok(names) => Some(Ok(drawn(alloc, &names)?)),
+        Err(fault) => Some(Err(fault.number())),
+    }
+}
+
+/// The bytes of a file from an offset on, or the number of the fault.
+fn bytes<F: Folder>(
+    alloc: Global,
+    folder: &F,
+    text: &str,
+    offset: u64,
+    len: u32,
+) -> Option<Result<Vec<u8>, u8>> {
+    match folder.read(alloc, &path(alloc, text)?, offset, len) {
+        Ok(bytes) => Some(Ok(bytes)),
+        Err(fault) => Some(Err(fault.number())),
+    }
+}
+
+/// Whether this is what is wanted: these bytes, or the fault of this number.
+fn is_answer(got: Option<Result<Vec<u8>, u8>>, want: Result<&[u8], u8>) -> bool {
+    match (got, want) {
+        (Some(Ok(bytes)), Ok(want)) => bytes.as_slice() == want,
+        (Some(Err(number)), Err(want)) => number == want,
+        _ => false,
+    }
+}
+
+/// Lists each directory, and asserts what is told.
+fn assert_lists<F: Folder>(
+    rt: &impl Abort,
+    alloc: Global,
+    folder: &F,
+    cases: &[(&str, Result<&[u8], u8>)],
+) {
+    for (text, want) in cases {
+        assert!(rt; is_answer(listed(alloc, folder, *text), *want), "at {text}");
+    }
+}
+
+/// Reads each file from an offset on, and asserts what is told.
+fn assert_reads<F: Folder>(
+    rt: &impl Abort,
+    alloc: Global,
+    folder: &F,
+    cases: &[(&str, u64, u32, Result<&[u8], u8>)],
+) {
+    for (text, offset, len, want) in cases {
+        assert!(rt;
+            is_answer(bytes(alloc, folder, *text, *offset, *len), *want),
+            "at {text}"
+        );
+    }
+}
+
+#[test]
+fn lists_and_reads_in_memory(rt: HostRuntime) {
+    let alloc = rt.alloc();
+    let Some(folder) = small(alloc) else {
+        panic!(rt; "no folder");
+    };
+    let lists: [(&str, Result<&[u8], u8>); 5] = [
+        ("", Ok(b"/a:c")),
+        ("/a", Ok(b":b")),
+        ("/c", Err(9)),
+        ("/a/b", Err(9)),
+        ("/x", Err(9)),
+    ];
+    assert_lists(&rt, alloc, &folder, &lists);
+    let reads: [(&str, u64, u32, Result<&[u8], u8>); 7] = [
+        ("/a", 0, 1, Err(9)),
+        ("", 0, 1, Err(9)),
+        ("/x", 0, 1, Err(9)),
+        ("/c", 0, 5, Ok(b"b")),
+        ("/c", 1, 5, Ok(b"")),
+        ("/c", u64::MAX, 5, Ok(b"")),
+        ("/a/b", 0, 0, Ok(b"")),
+    ];
+    assert_reads(&rt, alloc, &folder, &reads);
+    assert!(rt; folder.rows().len() == 3);
+}
+
+/// A list of one path, where a call is to fail.
+fn failing(alloc: Global, text: &str, trouble: Trouble) -> Option<Vec<Failing>> {
+    let path = path(alloc, text)?;
+    vec![in alloc; Failing { path, trouble }].ok()
+}
+
+/// The small folder, where `/a` can't be listed and the device fails at `/c`.
+fn faulty(alloc: Global) -> Option<FaultyFolder> {
+    let lists = failing(alloc, "/a", Trouble::Unreadable)?;
+    let reads = failing(alloc, "/c", Trouble::Device)?;
+    Some(FaultyFolder::new(small(alloc)?, lists, reads))
+}
+
+#[test]
+fn fails_where_told(rt: HostRuntime) {
+    let alloc = rt.alloc();
+    let Some(folder) = faulty(alloc) else {
+        panic!(rt; "no folder");
+    };
+    let lists: [(&str, Result<&[u8], u8>); 3] = [
+        ("", Ok(b"/a:c")),
+        ("/a", Err(10)),
+        ("/c", Err(9)),
+    ];
+    assert_lists(&rt, alloc, &folder, &lists);
+    let reads: [(&str, u64, u32, Result<&[u8], u8>); 2] = [
+        ("/c", 0, 5, Err(8)),
+        ("/a/b", 0, 5, Ok(b"a")),
+    ];
+    assert_reads(&rt, alloc, &folder, &reads);
+}
+
+/// A folder of the test's own, where it runs.
+const ROOT: &str = "folder_on_disk";
+
+/// Directories of the folder on the disk, the root first.
+const DIRS: [&str; 8] = [
+    "folder_on_disk",
+    "folder_on_disk/d",
+    "folder_on_disk/d/e",
+    "folder_on_disk/d/e/f",
+    "folder_on_disk/.twosync",
+    "folder_on_disk/own",
+    "folder_on_disk/own/.twosync",
+    "folder_on_disk/linked",
+];
+
+/// Its small files, each of the one byte `x`.
+const FILES: [&str; 5] = [
+    "folder_on_disk/d/a b",
+    "folder_on_disk/d/a%",
+    "folder_on_disk/d/a\n",
+    "folder_on_disk/d/ä",
+    "folder_on_disk/.twosync/plan",
+];
+
+fn makes_dirs<R: Files>(files: &R) -> bool {
+    for name in DIRS {
+        if fs::create_dir(files, name).is_err() {
+            return false;
+        }
+    }
+    true
+}
+
+fn makes_files<R: Files>(files: &R) -> bool {
+    for name in FILES {
+        if fs::write(files, name, "x").is_err() {
+            return false;
+        }
+    }
+    true
+}
+
+/// Makes the links, and the files of other sizes.
+fn makes_others<R: Files>(files: &R, large: &[u8]) -> bool {
+    fs::write(files, "folder_on_disk/empty", "").is_ok()
+        && fs::write(files, "folder_on_disk/large", large).is_ok()
+        && symlink(files, "../d", "folder_on_disk/linked/to_d").is_ok()
+        && symlink(files, "d", "folder_on_disk/z").is_ok()
+}
+
+/// 2 MiB and one byte, of which none is like the one 251 bytes before it alone.
+fn large_bytes(alloc: Global) -> Option<Vec<u8>> {
+    let mut bytes = Vec::new(alloc);
+    for n in 0..2_097_153_u32 {
+        bytes.push((n % 251) as u8).ok()?;
+    }
+    Some(bytes)
+}
+
+/// Lists what is on the disk.
+fn assert_lists_of_disk<F: Folder>(rt: &impl Abort, alloc: Global, folder: &F) {
+    let lists: [(&str, Result<&[u8], u8>); 9] = [
+        ("", Err(10)),
+        ("/d", Ok(b":a\n:a b:a%/e:\xc3\xa4")),
+        ("/d/e/f", Ok(b"")),
+        ("/own", Err(10)),
+        ("/linked", Err(10)),
+        ("/linked/to_d", Err(10)),
+        ("/linked/to_d/e", Err(10)),
+        ("/empty", Err(9)),
+        ("/none", Err(9)),
+    ];
+    assert_lists(rt, alloc, folder, &lists);
+}
+
+/// Reads the small files on the disk.
+fn assert_reads_of_disk<F: Folder>(rt: &impl Abort, alloc: Global, folder: &F) {
+    let reads: [(&str, u64, u32, Result<&[u8], u8>); 10] = [
+        ("/d/a%20b", 0, 2, Ok(b"x")),
+        ("/d/a%25", 0, 2, Ok(b"x")),
+        ("/d/a%0A", 0, 2, Ok(b"x")),
+        ("/d/ä", 1, 2, Ok(b"")),
+        ("/empty", 0, 1, Ok(b"")),
+        ("/d", 0, 1, Err(9)),
+        ("/d/a%20b/c", 0, 1, Err(9)),
+        ("/linked/to_d", 0, 1, Err(10)),
+        ("/linked/to_d/ä", 0, 1, Err(10)),
+        ("/large", u64::MAX, 1, Ok(b"")),
+    ];
+    assert_reads(rt, alloc, folder, &reads);
+}
+
+/// Reads the large file.
+fn assert_reads_of_large<F: Folder>(rt: &impl Abort, alloc: Global, folder: &F, large: &[u8]) {
+    for (offset, len) in [
+        (0, u32::MAX),
+        (0, 2_097_153),
+        (1_048_576, 1_048_576),
+        (2_097_152, 9),
+    ] {
+        let start = offset as usize;
+        let end = start.saturating_add(len as usize).min(large.len());
+        let want = large.get(start..end).unwrap_or(b"nothing");
+        let got = bytes(alloc, folder, "/large", offset, len);
+        assert!(rt; is_answer(got, Ok(want)), "at {offset}");
+    }
+}
+
+#[test]
+fn lists_and_reads_on_a_disk(rt: HostRuntime) {
+    let alloc = rt.alloc();
+    let Some(large) = large_bytes(alloc) else {
+        panic!(rt; "out of memory");
+    };
+    assert!(rt; makes_dirs(&rt));
+    assert!(rt; makes_files(&rt));
+    assert!(rt; makes_others(&rt, &large));
+    let Ok(folder) = DiskFolder::new(alloc, rt, ROOT) else {
+        panic!(rt; "out of memory");
+    };
+    assert_lists_of_disk(&rt, alloc, &folder);
+    assert!(rt; fs::remove_file(&rt, "folder_on_disk/z").is_ok());
+    let root: [(&str, Result<&[u8], u8>); 1] = [("", Ok(b"/d:empty:large/linked/own"))];
+    assert_lists(&rt, alloc, &folder, &root);
+    assert_reads_of_disk(&rt, alloc, &folder);
+    assert_reads_of_large(&rt, alloc, &folder, &large);
+    assert!(rt; fs::remove_dir_all(&rt, ROOT).is_ok());
+}
