@@ -57,7 +57,7 @@ alike() {
   local name=$1
   if ! diff -r -x .twosync first second >differences; then
     bad "$name: the replicas differ: $(head -n 3 differences)"
-  elif [ -n "$(find first/.twosync second/.twosync -name 'new-*' -o -name 'old-*' -o -name plan 2>/dev/null)" ]; then
+  elif [ -n "$(find first/.twosync second/.twosync -mindepth 1 2>/dev/null)" ]; then
     bad "$name: something is left in .twosync"
   elif [ -e archive.new ]; then
     bad "$name: archive.new is left"
@@ -192,6 +192,15 @@ printf b >first/b
 expect 'check after a change' 3 'refused 4 1' '' check first second archive plan
 expect 'run after a change' 3 'refused 4 1' '' run first second archive plan
 holds_true 'a refused plan changes nothing' test ! -e second/a -a ! -e archive
+holds_true 'a refused run leaves no lock' test ! -e first/.twosync/lock -a ! -e second/.twosync/lock
+fresh
+printf a >first/a
+"$program" "${sync[@]}" >/dev/null 2>&1
+printf b >first/a
+"$program" plan first second archive >plan
+printf c >second/a
+expect 'run after a change of its target' 3 'refused 3 0' '' run first second archive plan
+holds_true 'the changed target stays' test "$(cat second/a)" = c
 printf 'twosync-plan 1\nend 0 00\n' >plan
 expect 'no plan text' 3 '' 'twosync: fault 6' run first second archive plan
 rm plan
@@ -213,6 +222,12 @@ expect 'no first folder' 3 '' 'twosync: fault 9' sync nowhere second archive
 expect 'the archive comes first' 3 '' 'twosync: fault 6' sync nowhere second cut --holds nowhere
 expect 'the rules come next' 3 '' 'twosync: fault 9' check nowhere second archive nowhere --holds nowhere
 holds_true 'refusals change nothing' test ! -e second/a
+fresh
+printf b >first/b
+printf c >second/c
+archive_of "f /a 1 $SA" >archive
+expect 'the archive of another pair' 0 $'done same /a\ndone first /b\ndone second /c\ntotal 3 done 3 skipped 0 failed 0 blocked 0' '' "${sync[@]}"
+alike 'the archive of another pair'
 
 # ---- what can't be scanned
 fresh
@@ -280,6 +295,174 @@ printf 'twosync-pl' >second/.twosync/plan
 expect 'a plan file that was cut' 0 $'done first /a\ntotal 1 done 1 skipped 0 failed 0 blocked 0' '' "${sync[@]}"
 alike 'a plan file that was cut'
 
+fresh
+printf a >first/a
+mkdir -p second/.twosync/new-0
+printf 'twosync-plan 1\nentry first /gone/a\nend 1 0\n' >second/.twosync/plan
+expect 'recovery where the folder above is gone' 0 $'done first /a\ntotal 1 done 1 skipped 0 failed 0 blocked 0' '' "${sync[@]}"
+alike 'recovery where the folder above is gone'
+
+# ---- what lies in .twosync and comes of no run
+fresh
+printf a >first/a
+mkdir -p second/.twosync/new-0
+expect 'a spot that is taken' 2 $'failed first /a\ntotal 1 done 0 skipped 0 failed 1 blocked 0' 'twosync: fault 8 /a' "${sync[@]}"
+expect 'a spot that was cleared' 0 $'done first /a\ntotal 1 done 1 skipped 0 failed 0 blocked 0' '' "${sync[@]}"
+alike 'a spot that was cleared'
+fresh
+printf a >first/a
+mkdir first/.twosync second/.twosync
+ln -s ../../theirs first/.twosync/plan
+ln -s ../../theirs second/.twosync/plan
+expect 'links in place of the plan file' 0 $'done first /a\ntotal 1 done 1 skipped 0 failed 0 blocked 0' '' "${sync[@]}"
+alike 'links in place of the plan file'
+holds_true 'the links are not followed' test ! -e theirs
+printf b >first/a
+: >"second/.twosync/$(printf 'new-\377')"
+mkdir second/.twosync/new-x
+expect 'what else is there' 0 $'done first /a\ntotal 1 done 1 skipped 0 failed 0 blocked 0' '' "${sync[@]}"
+holds_true 'what else is there stays' test "$(find second/.twosync -mindepth 1 | wc -l)" = 2
+fresh
+printf a >first/a
+mkdir elsewhere
+ln -s ../elsewhere second/.twosync
+expect 'a link in place of .twosync' 3 '' 'twosync: fault 5' "${sync[@]}"
+holds_true 'it is not followed' test -z "$(ls elsewhere)" -a ! -e second/a
+rmdir elsewhere
+
+# ---- many files, of which then some change on both sides
+fresh
+for d in $(seq 100); do
+  mkdir "first/d$d" "second/d$d"
+  for k in $(seq 100); do printf '%s' "$d $k" >"first/d$d/f $k"; done
+done
+"$program" "${sync[@]}" >out 2>err
+got=$?
+if [ "$got" = 0 ] && [ ! -s err ] && [ "$(tail -n 1 out)" = 'total 10100 done 10100 skipped 0 failed 0 blocked 0' ]; then
+  ok
+else
+  bad "10,000 files: status $got, $(tail -n 1 out), $(cat err)"
+fi
+alike '10,000 files'
+holds_true 'the number of files' test "$(find second -name 'f *' | wc -l)" = 10000
+for d in $(seq 100); do
+  printf new >>"first/d$d/f 1"
+  rm "second/d$d/f 2"
+done
+"$program" "${sync[@]}" >out 2>err
+got=$?
+if [ "$got" = 0 ] && [ ! -s err ] && [ "$(tail -n 1 out)" = 'total 200 done 200 skipped 0 failed 0 blocked 0' ]; then
+  ok
+else
+  bad "changes among 10,000 files: status $got, $(tail -n 1 out), $(cat err)"
+fi
+alike 'changes among 10,000 files'
+holds_true 'the changed file' test "$(cat 'second/d7/f 1')" = '7 1new'
+holds_true 'the deleted file' test ! -e 'first/d7/f 2'
+expect 'nothing to do among 10,000 files' 0 'total 0 done 0 skipped 0 failed 0 blocked 0' '' "${sync[@]}"
+
+# ---- a file of 64 MiB
+fresh
+head -c 67108864 /dev/urandom >second/large
+expect 'a large file' 0 $'done second /large\ntotal 1 done 1 skipped 0 failed 0 blocked 0' '' "${sync[@]}"
+alike 'a large file'
+holds_true 'the size of the large file' test "$(stat -c %s first/large)" = 67108864
+
+# until_plan: waits until the run that was started last has written its plan to both replicas, and stops it there
+until_plan() {
+  for _ in $(seq 100000); do
+    [ ! -e second/.twosync/plan ] || break
+  done
+  kill -STOP "$child" 2>/dev/null
+}
+
+# ---- targets that change after a run has scanned them and before it comes to them
+# each source is large, so that none of its commits can be made before the run is stopped
+large() { head -c 40000000 /dev/urandom >"$1"; }
+# while_it_runs CHANGE OUT ERR WORDS..: runs the program, and calls the function CHANGE when it has scanned both replicas
+while_it_runs() {
+  local change=$1 want_out=$2 want_err=$3 got
+  shift 3
+  "$program" "$@" >out 2>err &
+  child=$!
+  until_plan
+  holds_true "$change: the run is stopped before its commits" test -e second/.twosync/plan -a ! -e second/.twosync/new-0
+  "$change"
+  kill -CONT "$child"
+  wait "$child"
+  got=$?
+  if [ "$got" = 2 ] && [ "$(cat out)" = "$want_out" ] && [ "$(cat err)" = "$want_err" ]; then
+    ok
+  else
+    bad "$change: status $got, $(cat out), $(cat err)"
+  fi
+}
+fresh
+mkdir first/g
+printf a | tee first/gone first/y >first/z
+cp -r first/* second
+"$program" "${sync[@]}" >/dev/null 2>&1
+for name in g/a gone new z; do large "first/$name"; done
+printf b >first/y
+files_change() {
+  rm -r second/g second/gone
+  printf c >second/new
+  printf d >second/z
+}
+while_it_runs files_change 'failed first /g/a
+failed first /gone
+failed first /new
+done first /y
+failed first /z
+total 5 done 1 skipped 0 failed 4 blocked 0' 'twosync: fault 8 /g/a
+twosync: fault 14 /gone
+twosync: fault 14 /new
+twosync: fault 14 /z' "${sync[@]}"
+holds_true 'targets that went stay away' test ! -e second/gone -a ! -e second/g
+holds_true 'a target that came stays' test "$(cat second/new)" = c
+holds_true 'a target that changed stays' test "$(cat second/z)" = d
+holds_true 'the other target is replaced' test "$(cat second/y)" = b
+holds_true 'nothing is left of refused commits' test -z "$(find first/.twosync second/.twosync -mindepth 1)"
+expect 'the archive without failed entries' 0 "d /g
+f /gone 1 $SA
+f /y 1 $SB
+f /z 1 $SA" '' show archive
+expect 'the next run' 1 'skip conflict /g
+skip conflict /gone
+skip conflict /new
+skip conflict /z
+total 4 done 0 skipped 4 failed 0 blocked 0' '' "${sync[@]}"
+
+fresh
+mkdir first/d first/k
+printf a | tee first/d/x first/f first/k/x >first/l
+cp -r first/* second
+"$program" "${sync[@]}" >/dev/null 2>&1
+rm -r first/d
+for name in d f k/x l; do large "first/$name"; done
+"$program" plan first second archive >plan
+kinds_change() {
+  printf b >second/d/y
+  rm second/f second/l
+  mkdir second/f
+  mv second/k elsewhere
+  ln -s ../elsewhere second/k
+  ln -s ../archive second/l
+}
+while_it_runs kinds_change 'failed first /d
+failed first /f
+failed first /k/x
+failed first /l
+total 4 done 0 skipped 0 failed 4 blocked 0' 'twosync: fault 14 /d
+twosync: fault 14 /f
+twosync: fault 14 /k/x
+twosync: fault 14 /l' run first second archive plan
+holds_true 'a folder that grew stays' test "$(cat second/d/x second/d/y)" = ab
+holds_true 'a folder that became a link is not entered' test "$(cat elsewhere/x)" = a
+holds_true 'a file that became a folder stays' test -d second/f
+holds_true 'a file that became a link stays' test "$(readlink second/l)" = ../archive
+holds_true 'where it leads to' test "$(head -n 1 archive)" = 'twosync-archive 1'
+
 # ---- a run that is ended by a signal while it writes, at several moments
 for delay in 0.02 0.05 0.1 0.2 0.4; do
   fresh
@@ -306,14 +489,12 @@ fresh
 for k in 1 2 3 4 5 6 7 8; do head -c 30000000 /dev/urandom >"first/f$k"; done
 "$program" "${sync[@]}" >theirs 2>&1 &
 child=$!
-for _ in $(seq 1000); do
-  [ ! -e second/.twosync/plan ] || break
-  sleep 0.005
-done
-kill -STOP $child
+until_plan
 mkdir third
 expect 'a second run' 3 '' 'twosync: fault 8' "${sync[@]}"
 expect 'a second run with another replica' 3 '' 'twosync: fault 8' sync third second other
+holds_true 'the first run keeps its locks' test -e first/.twosync/lock -a -e second/.twosync/lock
+holds_true 'the second run gives up its own' test ! -e third/.twosync/lock
 kill -CONT $child
 wait $child
 got=$?

@@ -1,11 +1,12 @@
 //! Bringing swaps to an end that were stopped or failed.
 use crate::fault::DiskFault;
 use crate::files::{plan_place, remove_plan};
-use crate::place::{Standing, look_at};
+use crate::place::{Standing, look_at, own_place};
 use crate::places::DiskPlaces;
 use std::alloc::Global;
+use std::fs;
 use std::fs::{File, Files};
-use std::io::BufReader;
+use std::io::{BufReader, ErrorKind};
 use ts_model::plan::{Entry, Plan};
 use ts_plan::PlanFault;
 use ts_swap::recover;
@@ -37,16 +38,56 @@ pub fn clear_leftovers<R: Files + AllocGlobal + Clone + Drop>(
     plan: &Plan,
 ) -> Result<(), DiskFault> {
     let mut ended: Result<(), DiskFault> = Ok(());
-    let mut number = 0_u32;
-    for entry in plan.entries.as_slice() {
-        if let Err(fault) = end_swap(files, alloc, root, entry, number) {
+    // Recovery does nothing where neither spot of a swap is taken, and both lie in the program's own directory: so those
+    // entries are enough of which a listing of it tells a spot.
+    for number in &taken_spots(files, alloc, root)? {
+        if let Some(entry) = plan.entries.as_slice().get(*number as usize)
+            && let Err(fault) = end_swap(files, alloc, root, entry, *number)
+        {
             ended = Err(fault);
         }
-        number = number.saturating_add(1);
     }
     ended?;
     let place = plan_place(alloc, root)?;
     remove_plan(files, root, place.as_str())
+}
+
+/// The numbers of the new and old spots that lie in the program's own directory of a replica, one for each spot.
+fn taken_spots<R: Files + AllocGlobal + Clone + Drop>(
+    files: &R,
+    alloc: Global,
+    root: &str,
+) -> Result<Vec<u32>, DiskFault> {
+    let mut numbers = Vec::new(alloc);
+    let own = own_place(alloc, root)?;
+    match look_at(files, own.as_str(), root.len()).map_err(|_| DiskFault::Device)? {
+        Standing::Dir => {}
+        Standing::Nothing | Standing::CutOff | Standing::File | Standing::Other => {
+            return Ok(numbers);
+        }
+    }
+    for found in fs::read_dir(files, own.as_str()).map_err(|_| DiskFault::Device)? {
+        match found {
+            Ok(found) => {
+                if let Some(number) = spot_number(found.file_name()) {
+                    numbers.push(number)?;
+                }
+            }
+            // no spot has a name that isn't text
+            Err(e) if e.kind() == ErrorKind::InvalidFilename => {}
+            Err(_) => return Err(DiskFault::Device),
+        }
+    }
+    Ok(numbers)
+}
+
+/// The number of the entry whose new or old spot has this name.
+fn spot_number(name: &str) -> Option<u32> {
+    let digits = match name.strip_prefix("new-") {
+        Some(digits) => digits,
+        None => name.strip_prefix("old-")?,
+    };
+    digits.parse().ok()
 }
 
 /// Brings the swap of one entry to its end.

@@ -28,6 +28,9 @@ pub trait Disk {
 
     /// Locks a replica until what is answered is dropped. There is no lock where no directory is.
     fn lock(&self, alloc: Global, root: &str) -> Result<Option<Self::Lock>, PerformFault>;
+
+    /// Gives a lock up, and leaves nothing of it in the replica.
+    fn unlock(&self, lock: Self::Lock);
 }
 
 impl Disk for HostRuntime {
@@ -56,5 +59,9 @@ impl Disk for HostRuntime {
 
     fn lock(&self, alloc: Global, root: &str) -> Result<Option<Lock>, PerformFault> {
         Ok(take_lock(self, alloc, root)?)
+    }
+
+    fn unlock(&self, lock: Lock) {
+        lock.release(self);
     }
 }

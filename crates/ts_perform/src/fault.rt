@@ -8,6 +8,7 @@ use thiserror::Error;
 use ts_archive::ArchiveFault;
 use ts_check::CheckFault;
 use ts_disk::DiskFault;
+use ts_exec::RunFault;
 use ts_hold::HoldFault;
 use ts_model::plan::PlanRule;
 use ts_name::Path;
@@ -18,7 +19,6 @@ use ts_resume::ResumeFault;
 use ts_scan::ScanFault;
 use ts_text::TextFault;
 use ts_trial::TrialFault;
-use ts_turns::TurnsFault;
 
 /// Why a command ends without its answer.
 #[derive(Debug, Drop, Error)]
@@ -226,10 +226,10 @@ impl From<ReportFault> for PerformFault {
     }
 }
 
-impl From<TurnsFault> for PerformFault {
+impl From<RunFault> for PerformFault {
     ghost from_gives = { λ _ e. e ≡ fault.OutOfMemory };
 
-    fn from(_fault: TurnsFault) -> PerformFault {
+    fn from(_fault: RunFault) -> PerformFault {
         PerformFault::OutOfMemory
     }
 }

@@ -4,15 +4,18 @@ ghost use Rattle.ts_model.specs.Texts.{IsPlan};
 
 use crate::disk::Disk;
 use crate::fault::PerformFault;
+use std::alloc::Global;
 use std::fs;
 use std::fs::Files;
 use std::io::{ErrorKind, Read};
 use std::thread::Threads;
+use ts_check::{Checked, check};
 use ts_command::Pair;
 use ts_folder::Folder;
 use ts_hold::Holds;
 use ts_model::plan::Plan;
 use ts_print::Print;
+use ts_resume::resume;
 use ts_scan::scan;
 use ts_text::{Counted, Lines};
 
@@ -57,7 +60,7 @@ fn read_holds<R: Files + AllocGlobal>(rt: &R, name: Option<&str>) -> Result<Hold
 }
 
 /// The plan in a file.
-pub(crate) fn read_plan<R: Files + AllocGlobal>(rt: &R, name: &str) -> Result<Plan, PerformFault>
+fn read_plan<R: Files + AllocGlobal>(rt: &R, name: &str) -> Result<Plan, PerformFault>
     ensures { IfOk result (λ plan. IsPlan plan) }
 {
     let Some(file) = open(rt, name)? else {
@@ -81,17 +84,14 @@ where
 
 /// An archive and the hold rules.
 #[derive(Drop)]
-pub(crate) struct Known {
-    pub(crate) archive: Print,
-    pub(crate) holds: Holds,
+struct Known {
+    archive: Print,
+    holds: Holds,
 }
 
 impl Known {
     /// Reads the archive, and then the rules. An archive that isn't there has no paths.
-    pub(crate) fn read<R: Files + AllocGlobal>(
-        rt: &R,
-        pair: &Pair<'_>,
-    ) -> Result<Known, PerformFault> {
+    fn read<R: Files + AllocGlobal>(rt: &R, pair: &Pair<'_>) -> Result<Known, PerformFault> {
         let archive = match read_archive(rt, pair.archive)? {
             Some(archive) => archive,
             None => Print::empty(rt.alloc()),
@@ -103,14 +103,14 @@ impl Known {
 
 /// The prints of both replicas.
 #[derive(Drop)]
-pub(crate) struct Scanned {
-    pub(crate) first: Print,
-    pub(crate) second: Print,
+struct Scanned {
+    first: Print,
+    second: Print,
 }
 
 impl Scanned {
     /// Scans the first replica, and then the second.
-    pub(crate) fn read<R>(rt: &R, pair: &Pair<'_>, workers: u32) -> Result<Scanned, PerformFault>
+    fn read<R>(rt: &R, pair: &Pair<'_>, workers: u32) -> Result<Scanned, PerformFault>
     where
         R: Disk + Files + AllocGlobal + Threads + Sync,
         <R::Folder as Folder>::File: Send,
@@ -120,5 +120,72 @@ impl Scanned {
         let first = scan_folder(rt, pair.first, workers)?;
         let second = scan_folder(rt, pair.second, workers)?;
         Ok(Scanned { first, second })
+    }
+}
+
+/// What a plan is made from, and checked against.
+#[derive(Drop)]
+pub(crate) struct Snapshot {
+    known: Known,
+    now: Scanned,
+}
+
+impl Snapshot {
+    /// Reads the archive and the rules, and then scans both replicas.
+    pub(crate) fn read<R>(rt: &R, pair: &Pair<'_>, workers: u32) -> Result<Snapshot, PerformFault>
+    where
+        R: Disk + Files + AllocGlobal + Threads + Sync,
+        <R::Folder as Folder>::File: Send,
+        requires some { 1 ≤ workers }
+        requires few { workers ≤ 64 }
+    {
+        let known = Known::read(rt, pair)?;
+        let now = Scanned::read(rt, pair, workers)?;
+        Ok(Snapshot { known, now })
+    }
+
+    /// The same, with a plan that is read before both replicas are scanned.
+    pub(crate) fn read_for<R>(
+        rt: &R,
+        pair: &Pair<'_>,
+        plan: &str,
+        workers: u32,
+    ) -> Result<(Snapshot, Plan), PerformFault>
+    where
+        R: Disk + Files + AllocGlobal + Threads + Sync,
+        <R::Folder as Folder>::File: Send,
+        requires some { 1 ≤ workers }
+        requires few { workers ≤ 64 }
+        ensures { IfOk result (λ read. IsPlan read.1) }
+    {
+        let known = Known::read(rt, pair)?;
+        let plan = read_plan(rt, plan)?;
+        let now = Scanned::read(rt, pair, workers)?;
+        Ok((Snapshot { known, now }, plan))
+    }
+
+    /// The plan for what is there.
+    pub(crate) fn plan(&self, alloc: Global) -> Result<Plan, PerformFault>
+        ensures { IfOk result (λ plan. IsPlan plan) }
+    {
+        let Snapshot { known, now } = self;
+        Ok(resume(alloc, &known.archive, &now.first, &now.second, &known.holds)?)
+    }
+
+    /// The plan with the checker's yes.
+    pub(crate) fn check<'a>(
+        &'a self,
+        alloc: Global,
+        plan: &'a Plan,
+    ) -> Result<Checked<'a>, PerformFault> {
+        let Snapshot { known, now } = self;
+        Ok(check(
+            alloc,
+            plan,
+            &known.archive,
+            &now.first,
+            &now.second,
+            &known.holds,
+        )?)
     }
 }

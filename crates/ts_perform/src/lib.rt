@@ -1,6 +1,7 @@
 //! What the program does for each command.
 #![tactic(auto)]
 
+mod acting;
 mod answers;
 pub mod disk;
 pub mod fault;

@@ -1,18 +1,19 @@
 //! Commands, one by one.
-ghost use Rattle.std.specs.Prelude.{◌≤◌};
+ghost use Rattle.std.specs.Prelude.{◌≡◌, ◌≤◌, IfErr, IfSome};
+ghost use Rattle.ts_model.specs.Trial.{HasContentsApart, Trial};
+ghost use Rattle.ts_perform.specs.Trials.{Answers, IsQuiet};
+ghost use Rattle.ts_trial.specs.Answers.{WritesOne};
 
 use crate::answers::{write_fault, write_refusal};
 use crate::disk::Disk;
 use crate::fault::PerformFault;
-use crate::inputs::{Known, Scanned, read_archive, read_plan, scan_folder};
+use crate::inputs::{Snapshot, read_archive, scan_folder};
 use crate::running::{run_plan, sync};
 use std::alloc::Global;
 use std::fs::Files;
 use std::thread::Threads;
-use ts_check::check;
 use ts_command::{Command, Job, Pair};
 use ts_folder::Folder;
-use ts_resume::resume;
 use ts_text::{Lines, Sink, Source, write_all, write_line};
 use ts_trial::trial;
 
@@ -31,6 +32,7 @@ pub fn perform<R, I: Source + Drop, O: Sink, E: Sink>(
 where
     R: Disk + Files + AllocGlobal + Threads + Clone + Drop + Sync,
     <R::Folder as Folder>::File: Send,
+    ensures trial { command.now.job ≡ Job.Trial → IfSome (I.holds input) (λ bytes. HasContentsApart bytes → Answers (Trial bytes) (O.holds out.old) (O.holds out.new) result) }
 {
     match answer(rt, command, input, out, err) {
         Ok(status) => status,
@@ -40,7 +42,10 @@ where
 
 /// Tells why a command is refused: a broken plan on standard output, all else on standard error. Where even that can't be
 /// told, the exit status says so alone.
-fn refuse<O: Sink, E: Sink>(alloc: Global, fault: &PerformFault, out: &mut O, err: &mut E) -> u8 {
+fn refuse<O: Sink, E: Sink>(alloc: Global, fault: &PerformFault, out: &mut O, err: &mut E) -> u8
+    ensures status { result ≡ 3 }
+    ensures quiet { IsQuiet fault.now → O.holds out.new ≡ O.holds out.old }
+{
     let _ = match fault {
         PerformFault::Broken { rule, place } => match write_refusal(alloc, *rule, *place, out) {
             Ok(()) => Ok(()),
@@ -62,6 +67,8 @@ fn answer<R, I: Source + Drop, O: Sink, E: Sink>(
 where
     R: Disk + Files + AllocGlobal + Threads + Clone + Drop + Sync,
     <R::Folder as Folder>::File: Send,
+    ensures trial { command.now.job ≡ Job.Trial → IfSome (I.holds input) (λ bytes. HasContentsApart bytes → WritesOne (Trial bytes) (O.holds out.old) (O.holds out.new) result) }
+    ensures quiet { command.now.job ≡ Job.Trial → IfErr result IsQuiet }
 {
     let workers = command.workers;
     match &command.job {
@@ -70,21 +77,48 @@ where
             write_all(out, text.as_bytes())?;
             Ok(0)
         }
-        Job::Trial => {
-            let mut lines = Lines::new(rt.alloc(), input)?;
-            Ok(trial(rt.alloc(), &mut lines, out)?)
-        }
-        Job::Scan { folder } => {
-            let print = scan_folder(rt, folder, workers)?;
-            ts_archive::encode(rt.alloc(), &print, out)?;
-            Ok(0)
-        }
+        Job::Trial => answer_bundle(rt.alloc(), input, out),
+        Job::Scan { folder } => print_scan(rt, folder, workers, out),
         Job::Show { archive } => show(rt, archive, out),
         Job::Plan { pair } => plan(rt, pair, workers, out),
         Job::Check { pair, plan } => check_plan(rt, pair, plan, workers, out),
         Job::Run { pair, plan } => run_plan(rt, pair, plan, workers, out, err),
         Job::Sync { pair } => sync(rt, pair, workers, out, err),
     }
+}
+
+/// Answers a bundle.
+fn answer_bundle<I: Source + Drop, O: Sink>(
+    alloc: Global,
+    input: I,
+    out: &mut O,
+) -> Result<u8, PerformFault>
+    ensures answered { IfSome (I.holds input) (λ bytes. HasContentsApart bytes → WritesOne (Trial bytes) (O.holds out.old) (O.holds out.new) result) }
+    ensures quiet { IfErr result IsQuiet }
+{
+    match Lines::new(alloc, input) {
+        Ok(mut lines) => Ok(trial(alloc, &mut lines, out)?),
+        // nothing was read yet, so it is want of memory
+        Err(_) => Err(PerformFault::OutOfMemory),
+    }
+}
+
+/// Prints the archive that a folder would give.
+fn print_scan<R, O: Sink>(
+    rt: &R,
+    folder: &str,
+    workers: u32,
+    out: &mut O,
+) -> Result<u8, PerformFault>
+where
+    R: Disk + Files + AllocGlobal + Threads + Sync,
+    <R::Folder as Folder>::File: Send,
+    requires some { 1 ≤ workers }
+    requires few { workers ≤ 64 }
+{
+    let print = scan_folder(rt, folder, workers)?;
+    ts_archive::encode(rt.alloc(), &print, out)?;
+    Ok(0)
 }
 
 /// Prints an archive's body.
@@ -108,15 +142,8 @@ where
     requires some { 1 ≤ workers }
     requires few { workers ≤ 64 }
 {
-    let known = Known::read(rt, pair)?;
-    let now = Scanned::read(rt, pair, workers)?;
-    let plan = resume(
-        rt.alloc(),
-        &known.archive,
-        &now.first,
-        &now.second,
-        &known.holds,
-    )?;
+    let snapshot = Snapshot::read(rt, pair, workers)?;
+    let plan = snapshot.plan(rt.alloc())?;
     ts_plan::encode(rt.alloc(), &plan, out)?;
     Ok(0)
 }
@@ -135,17 +162,8 @@ where
     requires some { 1 ≤ workers }
     requires few { workers ≤ 64 }
 {
-    let known = Known::read(rt, pair)?;
-    let plan = read_plan(rt, plan)?;
-    let now = Scanned::read(rt, pair, workers)?;
-    let _checked = check(
-        rt.alloc(),
-        &plan,
-        &known.archive,
-        &now.first,
-        &now.second,
-        &known.holds,
-    )?;
+    let (snapshot, plan) = Snapshot::read_for(rt, pair, plan, workers)?;
+    let _checked = snapshot.check(rt.alloc(), &plan)?;
     write_line(out, b"valid")?;
     Ok(0)
 }
