@@ -8,11 +8,7 @@ use ts_model::plan::Kind;
 
 /// What each action is to come to, in order, where the pieces and commits that are flagged fail by their device. An action
 /// is blocked by the least of those it waits for that isn't done.
-pub fn expected(
-    alloc: Global,
-    checked: &Checked<'_>,
-    fails: &[bool],
-) -> Result<Vec<ActionResult>> {
+pub fn expected(alloc: Global, checked: &Checked<'_>, fails: &[bool]) -> Result<Vec<ActionResult>> {
     let mut results: Vec<ActionResult> = Vec::new(alloc);
     for i in 0..checked.action_count() {
         let mut blocked = None;

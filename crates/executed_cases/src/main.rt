@@ -31,7 +31,12 @@ const RUNS: u32 = 200;
 const RARITY: u32 = 50;
 
 /// Which pieces and commits are to fail.
-fn draw(alloc: Global, checked: &Checked<'_>, random: &mut Pcg32, rarity: u32) -> Result<Vec<bool>> {
+fn draw(
+    alloc: Global,
+    checked: &Checked<'_>,
+    random: &mut Pcg32,
+    rarity: u32,
+) -> Result<Vec<bool>> {
     let mut fails = Vec::new(alloc);
     for action in checked.plan().actions.as_slice() {
         let is_mark = matches!(action.kind, Kind::Mark { entry: _ });
@@ -42,7 +47,12 @@ fn draw(alloc: Global, checked: &Checked<'_>, random: &mut Pcg32, rarity: u32) -
 }
 
 /// A folder that fails where the pieces that are flagged are read.
-fn folder(alloc: Global, tree: &Tree, checked: &Checked<'_>, fails: &[bool]) -> Result<FaultyFolder> {
+fn folder(
+    alloc: Global,
+    tree: &Tree,
+    checked: &Checked<'_>,
+    fails: &[bool],
+) -> Result<FaultyFolder> {
     let mut reads = Vec::new(alloc);
     for (action, fails) in checked.plan().actions.as_slice().iter().zip(fails) {
         if let Kind::Piece { path, .. } = &action.kind {
@@ -91,13 +101,19 @@ fn compare(
         if let Kind::Commit { entry: _ } = checked.plan().actions.as_slice()[i as usize].kind {
             let site = outcome.take_site(i).context("finding a site")?;
             let has_file = site.into_content().rows().len() == 1;
-            ensure!(has_file == (result == ActionResult::Done), "another content");
+            ensure!(
+                has_file == (result == ActionResult::Done),
+                "another content"
+            );
         }
         if result == ActionResult::Done {
             done = done.saturating_add(1);
         }
     }
-    ensure!(done_marks(checked, wanted.as_slice()) == rows, "another archive");
+    ensure!(
+        done_marks(checked, wanted.as_slice()) == rows,
+        "another archive"
+    );
     Ok(done)
 }
 
@@ -120,8 +136,13 @@ where
     let first = folder(alloc, &world.first, checked, fails)?;
     let second = folder(alloc, &world.second, checked, fails)?;
     let sites = sites(alloc, checked, fails)?;
-    ensure!(sites.len() == commit_count(checked.plan()), "a commit has no site");
-    let Ok(outcome) = run(rt, alloc, &*checked, &first, &second, sites, workers, &*gate) else {
+    ensure!(
+        sites.len() == commit_count(checked.plan()),
+        "a commit has no site"
+    );
+    let Ok(outcome) = run(
+        rt, alloc, &*checked, &first, &second, sites, workers, &*gate,
+    ) else {
         bail!("out of memory");
     };
     let archive = outcome.archive(alloc, checked)?;
@@ -134,8 +155,16 @@ where
     R: Threads + AllocGlobal + Sync,
 {
     let alloc = rt.alloc();
-    let first = Files { letter: 'a', from: 0, to: 23 };
-    let second = Files { letter: 'b', from: 0, to: 10 };
+    let first = Files {
+        letter: 'a',
+        from: 0,
+        to: 23,
+    };
+    let second = Files {
+        letter: 'b',
+        from: 0,
+        to: 10,
+    };
     let world = World::new(alloc, 20, first, second)?;
     let plan = world.plan(alloc)?;
     let checked = check(
@@ -177,8 +206,16 @@ where
     R: Threads + AllocGlobal + Sync,
 {
     let alloc = rt.alloc();
-    let first = Files { letter: 'a', from: 0, to: 1 };
-    let second = Files { letter: 'b', from: 0, to: 1 };
+    let first = Files {
+        letter: 'a',
+        from: 0,
+        to: 1,
+    };
+    let second = Files {
+        letter: 'b',
+        from: 0,
+        to: 1,
+    };
     let world = World::new(alloc, 1, first, second)?;
     let plan = world.plan(alloc)?;
     let checked = check(
@@ -201,8 +238,13 @@ where
 
 fn main(rt: HostRuntime) -> Result<()> {
     let done = run_often(&rt)?;
-    ensure!(done > 300_000 && done < 400_000, "the failures are too many or too few");
-    println!(rt; "a plan of 2000 actions, 200 runs by 8 workers with failures: each result as wanted")?;
+    ensure!(
+        done > 300_000 && done < 400_000,
+        "the failures are too many or too few"
+    );
+    println!(rt;
+        "a plan of 2000 actions, 200 runs by 8 workers with failures: each result as wanted"
+    )?;
     run_at_once(&rt)?;
     println!(rt; "two workers meet at two pieces")?;
     Ok(())

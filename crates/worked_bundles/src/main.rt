@@ -1,13 +1,18 @@
 //! Runs `trial` on the worked bundles of the folder `data`, and says of each whether its answer and its status are
-//! those that stand beside it. Bundles that are kept packed are left to `tests/worked_bundles.sh`.
+//! those that stand beside it; where there is a plan to carry out, also whether the executor leaves the same with 1, 2 and
+//! 64 workers. Bundles that are kept packed are left to `tests/worked_bundles.sh`.
 #![tactic(auto)]
 
 ghost use Rattle.std.specs.Prelude.{◌≡◌, ◌↔◌, IsTrue};
 
+mod executed;
+
 use anyhow::{Context, Result, bail};
+use executed::executed;
 use std::alloc::Global;
 use std::fs;
 use std::rt::Files;
+use std::thread::Threads;
 use ts_text::{Counted, Lines};
 use ts_trial::trial;
 
@@ -50,18 +55,38 @@ fn answered(alloc: Global, bundle: &[u8]) -> Result<Answer> {
     Ok(Answer { text, status })
 }
 
-/// Whether the program answers a bundle as it should.
-fn is_as_wanted<R: Files + AllocGlobal>(
-    rt: &R,
-    name: &str,
-    level: &str,
-    status: &str,
-) -> Result<bool> {
+/// Whether a bundle's plan was carried out, where it is known, and each number of workers left what is wanted.
+fn is_executed<R>(rt: &R, bundle: &[u8], want: &Answer) -> Option<bool>
+where
+    R: AllocGlobal + Threads + Sync,
+{
+    let mut verdict = None;
+    for workers in [1, 2, 64] {
+        if let Some(text) = executed(rt, bundle, workers) {
+            let same = text.as_slice() == want.text.as_slice();
+            verdict = Some(same && verdict != Some(false));
+        }
+    }
+    verdict
+}
+
+/// What is said of a bundle.
+fn verdict<R>(rt: &R, name: &str, level: &str, status: &str) -> Result<&'static str>
+where
+    R: Files + AllocGlobal + Threads + Sync,
+{
     let file = format!(in rt.alloc(); "{name}.in")?;
     let bundle = fs::read(rt, file.as_str())?;
     let got = answered(rt.alloc(), bundle.as_slice())?;
     let want = wanted(rt, name, level, status)?;
-    Ok(is_same(&got, &want))
+    if !is_same(&got, &want) {
+        return Ok("WRONG");
+    }
+    match is_executed(rt, bundle.as_slice(), &want) {
+        None => Ok("as wanted"),
+        Some(true) => Ok("as wanted, by 1, 2 and 64 workers too"),
+        Some(false) => Ok("WRONG by workers"),
+    }
 }
 
 fn main(rt: HostRuntime) -> Result<()> {
@@ -77,12 +102,8 @@ fn main(rt: HostRuntime) -> Result<()> {
             bail!("a line of the index lacks a field");
         };
         if size == "small" {
-            let verdict = if is_as_wanted(&rt, name, level, status)? {
-                "as wanted"
-            } else {
-                "WRONG"
-            };
-            println!(rt; "{name}: {verdict}")?;
+            let said = verdict(&rt, name, level, status)?;
+            println!(rt; "{name}: {said}")?;
         }
     }
     Ok(())
