@@ -5,8 +5,6 @@ pub mod decoding;
 pub mod encoding;
 pub mod ending;
 pub mod fault;
-#[cfg(test)]
-mod tests;
 
 pub use decoding::decode;
 pub use encoding::encode;

@@ -19,6 +19,3 @@ mod waiting;
 pub use checked::Checked;
 pub use fault::CheckFault;
 pub use rules::check;
-
-#[cfg(test)]
-mod tests;

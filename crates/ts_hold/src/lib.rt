@@ -13,6 +13,3 @@ mod write;
 pub use faults::HoldFault;
 pub use holds::Holds;
 pub use reader::RuleReader;
-
-#[cfg(test)]
-mod tests;

@@ -10,6 +10,3 @@ pub mod state;
 pub use broken::Broken;
 pub use fault::NeedFault;
 pub use rules::first_wrong;
-
-#[cfg(test)]
-mod tests;

@@ -14,6 +14,3 @@ pub use encoding::encode;
 pub use fault::PlanFault;
 pub use line::PlanLine;
 pub use text::PlanReader;
-
-#[cfg(test)]
-mod tests;

@@ -10,6 +10,3 @@ pub use fate::Fate;
 pub use fault::ReportFault;
 pub use results::{Ending, Results};
 pub use writing::{Totals, write};
-
-#[cfg(test)]
-mod tests;

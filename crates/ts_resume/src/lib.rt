@@ -6,6 +6,3 @@ mod planning;
 
 pub use fault::ResumeFault;
 pub use planning::resume;
-
-#[cfg(test)]
-mod tests;

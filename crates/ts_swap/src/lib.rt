@@ -8,6 +8,3 @@ pub mod swap;
 pub use memory::MemPlaces;
 pub use places::{Failed, Places, Spot};
 pub use swap::{recover, replace};
-
-#[cfg(test)]
-mod tests;

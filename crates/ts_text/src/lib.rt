@@ -17,6 +17,3 @@ pub use lines::Lines;
 pub use source::{Failed, Sink, Source};
 pub use state::State;
 pub use write::{write_all, write_line};
-
-#[cfg(test)]
-mod tests;

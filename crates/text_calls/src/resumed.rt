@@ -1,9 +1,10 @@
-use crate::{ResumeFault, resume};
+//! Plans for what is there now.
 use std::alloc::Global;
 use std::test::Fail;
 use ts_hold::Holds;
 use ts_model::plan::{Action, Kind, Plan, Reason};
 use ts_print::{Print, PrintReader};
+use ts_resume::{ResumeFault, resume};
 
 /// The digests of the bytes `a`, `b` and `c`.
 const A: &str = "ca978112ca1bbdcafac231b39a23dc4da786eff8147c4e72b9807785afee48bb";

@@ -1,6 +1,7 @@
-use crate::{CheckFault, Checked, check};
+//! Whether a plan is valid, and what a checked plan tells.
 use std::alloc::Global;
 use std::test::Fail;
+use ts_check::{CheckFault, Checked, check};
 use ts_hold::Holds;
 use ts_model::items::Items;
 use ts_model::plan::{Action, Entry, Kind, Plan, PlanRule, Reason};

@@ -1,8 +1,9 @@
-use crate::{ArchiveFault, decode, encode};
+//! The text of an archive, both ways.
 use std::alloc::Global;
 use std::io;
 use std::io::{ErrorKind, Read, Write};
 use std::test::Fail;
+use ts_archive::{ArchiveFault, decode, encode};
 use ts_name::Path;
 use ts_print::{Print, PrintReader};
 use ts_text::{Counted, Lines, Source};

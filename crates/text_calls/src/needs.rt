@@ -1,13 +1,14 @@
+//! Whether entries are just the paths that need attention, each with its reason.
 ghost use Rattle.std.specs.Prelude.{IfOk};
 ghost use Rattle.ts_model.specs.Plans.{IsOutOfOrder};
 ghost use Rattle.ts_need.specs.Needs.{Never};
 
-use crate::first_wrong;
 use std::alloc::Global;
 use std::test::Fail;
 use ts_hold::Holds;
 use ts_model::plan::{Entry, PlanRule, Reason};
 use ts_name::Path;
+use ts_need::first_wrong;
 use ts_print::{Print, PrintReader};
 
 /// The archive, both replicas and the rules, as texts of one line each; an empty text is no line.

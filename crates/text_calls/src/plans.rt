@@ -1,12 +1,13 @@
+//! The text of a plan, both ways.
 ghost use Rattle.std.specs.Prelude.{IfOk};
 ghost use Rattle.ts_model.specs.Texts.{IsPlan};
 
-use crate::{PlanFault, PlanLine, PlanReader, decode, encode};
 use std::alloc::Global;
 use std::io;
 use std::io::{ErrorKind, Read, Write};
 use std::test::Fail;
 use ts_model::plan::{Kind, Plan};
+use ts_plan::{PlanFault, PlanLine, PlanReader, decode, encode};
 use ts_text::{Counted, Lines, Source};
 
 /// The plan for a directory that both replicas have new, with one file in each.

@@ -1,10 +1,10 @@
 //! Reports as texts.
-use crate::{Ending, ReportFault, Results, write};
 use std::alloc::Global;
 use std::io;
 use std::io::{ErrorKind, Write};
 use std::test::Fail;
 use ts_plan::decode;
+use ts_report::{Ending, ReportFault, Results, write};
 use ts_text::{Counted, Lines};
 
 /// Ends of actions that were told beforehand; those beyond them were not begun.

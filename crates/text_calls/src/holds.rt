@@ -1,8 +1,9 @@
-use crate::{HoldFault, Holds, RuleReader};
+//! Which paths hold rules name, and their text.
 use std::alloc::{AllocError, Global};
 use std::io;
 use std::io::Write;
 use std::test::Fail;
+use ts_hold::{HoldFault, Holds, RuleReader};
 use ts_name::Path;
 use ts_text::Counted;
 

@@ -1,10 +1,11 @@
+//! Replacing what lies at a place, and recovery.
 ghost use Rattle.std.specs.Prelude.{◌≡◌, [], IfOk};
 ghost use Rattle.ts_swap.specs.Memory.{spots_in};
 
-use crate::{Failed, MemPlaces, Places, Spot, recover, replace};
 use std::alloc::Global;
 use std::test::Fail;
 use ts_model::items::Items;
+use ts_swap::{Failed, MemPlaces, Places, Spot, recover, replace};
 use ts_table::SubTable;
 
 /// A file of one byte.

@@ -1,11 +1,12 @@
-use crate::{
-    Counted, Lines, Source, TextFault, field_dec, field_digest, push_decimal, push_digest,
-    push_word, split_word, write_line,
-};
+//! Lines, and the fields of a line.
 use std::alloc::Global;
 use std::io;
 use std::io::{ErrorKind, Read, Write};
 use std::test::Fail;
+use ts_text::{
+    Counted, Lines, Source, TextFault, field_dec, field_digest, push_decimal, push_digest,
+    push_word, split_word, write_line,
+};
 
 /// Gives at most `step` bytes a call, and fails once no more than `fails_at` bytes are left.
 #[derive(Drop)]

@@ -1,8 +1,8 @@
 //! What no clause says: vectors from outside, and that each call succeeds with ample memory.
-use crate::{Name, NameFault, Path, PathFault};
 use std::alloc::{AllocError, Global};
 use std::process::Abort;
 use std::test::Fail;
+use ts_name::{Name, NameFault, Path, PathFault};
 
 /// The number of the fault, or 0 where the text is read.
 fn outcome(alloc: Global, text: &[u8]) -> u8 {
