@@ -1,6 +1,6 @@
 //! Carries plans out by the executor, and compares what comes of each action with what its failures and those it waits for
 //! leave: 200 times a plan of 2,000 actions with 8 workers, each time with other commits and pieces that fail; a plan whose
-//! first two pieces have to be at work at once; and a plan by each small number of workers.
+//! first two pieces have to be at work at once; and the same plan 200 times by two workers.
 #![tactic(auto)]
 
 ghost use Rattle.std.specs.Prelude.{◌≤◌, length};
@@ -233,6 +233,18 @@ where
     let done = run_once(rt, &world, &checked, fails.as_slice(), 2, &meeting)?;
     ensure!(done == checked.action_count(), "an action isn't done");
     ensure!(meeting.took_place(), "the pieces didn't meet");
+    race(rt, &world, &checked, fails.as_slice())
+}
+
+/// Two workers race for each action of a plan, once and again.
+fn race<R>(rt: &R, world: &World, checked: &Checked<'_>, fails: &[bool]) -> Result<()>
+where
+    R: Threads + AllocGlobal + Sync,
+{
+    for _ in 0..RUNS {
+        let done = run_once(rt, world, checked, fails, 2, &OpenGate)?;
+        ensure!(done == 7, "an action isn't done");
+    }
     Ok(())
 }
 
@@ -246,6 +258,6 @@ fn main(rt: HostRuntime) -> Result<()> {
         "a plan of 2000 actions, 200 runs by 8 workers with failures: each result as wanted"
     )?;
     run_at_once(&rt)?;
-    println!(rt; "two workers meet at two pieces")?;
+    println!(rt; "two workers meet at two pieces, and race for 7 actions 200 times")?;
     Ok(())
 }
