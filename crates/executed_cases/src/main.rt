@@ -1,6 +1,7 @@
 //! Carries plans out by the executor, and compares what comes of each action with what its failures and those it waits for
 //! leave: 200 times a plan of 2,000 actions with 8 workers, each time with other commits and pieces that fail; a plan whose
-//! first two pieces have to be at work at once; and the same plan 200 times by two workers.
+//! first two pieces have to be at work at once; the same plan 200 times by two workers;
+//! and small cases in which one thing fails.
 #![tactic(auto)]
 
 ghost use Rattle.std.specs.Prelude.{◌≤◌, length};
@@ -8,11 +9,13 @@ ghost use Rattle.std.specs.Mem.Slots.{slots_len};
 
 mod expected;
 mod gate;
+mod named;
 mod world;
 
 use anyhow::{Context, Result, bail, ensure};
 use expected::{done_marks, expected};
 use gate::Meeting;
+use named::{CASES, Case, came_of};
 use rand_core::utils::NextWord;
 use rand_pcg::Pcg32;
 use std::alloc::Global;
@@ -248,6 +251,18 @@ where
     Ok(())
 }
 
+/// Runs a named case with 1, 2 and 64 workers: what comes of it is what is wanted.
+fn run_named<R>(rt: &R, case: &Case) -> Result<()>
+where
+    R: Threads + AllocGlobal + Sync,
+{
+    for workers in [1, 2, 64] {
+        let came = came_of(rt, case, workers).context("running a case")?;
+        ensure!(came.as_str() == case.wanted, "another result");
+    }
+    Ok(())
+}
+
 fn main(rt: HostRuntime) -> Result<()> {
     let done = run_often(&rt)?;
     ensure!(
@@ -259,5 +274,10 @@ fn main(rt: HostRuntime) -> Result<()> {
     )?;
     run_at_once(&rt)?;
     println!(rt; "two workers meet at two pieces, and race for 7 actions 200 times")?;
+    for case in CASES {
+        run_named(&rt, &case)?;
+        let name = case.name;
+        println!(rt; "{name}: as wanted")?;
+    }
     Ok(())
 }
