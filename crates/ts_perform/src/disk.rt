@@ -29,7 +29,7 @@ pub trait Disk {
     /// Locks a replica until what is answered is dropped. There is no lock where no directory is.
     fn lock(&self, alloc: Global, root: &str) -> Result<Option<Self::Lock>, PerformFault>;
 
-    /// Gives a lock up, and leaves nothing of it in the replica.
+    /// Gives a lock up, and removes what it left in the replica, where that can be done.
     fn unlock(&self, lock: Self::Lock);
 }
 
