@@ -2,12 +2,17 @@
 # Measures how long large texts take to write and to read, and how much memory what was read takes: an archive of
 # 50,000 and of 200,000 paths, and a plan of 262,144 and of 1,048,576 actions with four predecessors each. The last
 # column has each time divided by the one at a quarter of the size: near 4 where time is linear.
-# usage: tests/benchmarks.sh [PROGRAM]
+# Then measures how long 1, 2 and 4 workers take to copy 262,144 new files in memory, with the speed-up over 1 worker, and
+# how much of it came after the last actions had begun: the end of the workers, the sweep and the outcome. Each is the
+# least of five runs, taken in turn.
+# usage: tests/benchmarks.sh [PROGRAM [PROGRAM_THAT_CARRIES_OUT]]
 set -u
 cd "$(dirname "$0")/.."
 program=${1:-crates/text_benchmark/out/text_benchmark}
 # After `rt ci` the program stands there; else it is built.
 [ -x "$program" ] || (cd crates/text_benchmark && rt run >/dev/null)
+runner=${2:-crates/run_benchmark/out/run_benchmark}
+[ -x "$runner" ] || (cd crates/run_benchmark && rt run >/dev/null)
 
 # Runs the program five times at a size with so many lines for each path or action, and prints a row of numbers:
 # size, lines, bytes, least milliseconds of writing and of reading, KiB
@@ -42,3 +47,15 @@ both() {
 
 both archive 50000 200000 4
 both plan 262144 1048576 21
+
+for _ in 1 2 3 4 5; do
+  for workers in 1 2 4; do "$runner" 262144 "$workers"; done
+done | awk '
+  /actions, done$/ { actions = $1 }
+  /^by/ { if (!($2 in least) || $5 < least[$2]) { least[$2] = $5; after[$2] = $7 } }
+  END {
+    for (n = 1; n <= 4; n *= 2)
+      if (least[n] > 0)
+        printf "run %d actions  %d workers %6d ms %9.0f actions/s  speed-up %.2f  %.1f%% of it after the last began\n",
+          actions, n, least[n] / 1000, actions * 1000000 / least[n], least[1] / least[n], after[n] * 100 / least[n]
+  }'

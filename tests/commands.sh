@@ -302,6 +302,19 @@ printf 'twosync-plan 1\nentry first /gone/a\nend 1 0\n' >second/.twosync/plan
 expect 'recovery where the folder above is gone' 0 $'done first /a\ntotal 1 done 1 skipped 0 failed 0 blocked 0' '' "${sync[@]}"
 alike 'recovery where the folder above is gone'
 
+fresh
+printf a >first/a
+mkdir second/.twosync
+printf n >second/.twosync/new-0
+printf o >second/.twosync/old-0
+printf 'twosync-plan 1\nentry first /gone/a\nend 1 0\n' >second/.twosync/plan
+expect 'recovery where the original has no folder to go back to' 3 '' 'twosync: fault 8' "${sync[@]}"
+holds_true 'the original is kept' test "$(cat second/.twosync/old-0)" = o -a -e second/.twosync/plan -a ! -e second/a
+mkdir second/gone
+expect 'recovery where it has one again' 0 $'done first /a\ndone second /gone\ntotal 2 done 2 skipped 0 failed 0 blocked 0' '' "${sync[@]}"
+alike 'recovery where it has one again'
+holds_true 'the original is back' test "$(cat first/gone/a)" = o
+
 # ---- what lies in .twosync and comes of no run
 fresh
 printf a >first/a
@@ -462,6 +475,17 @@ holds_true 'a folder that became a link is not entered' test "$(cat elsewhere/x)
 holds_true 'a file that became a folder stays' test -d second/f
 holds_true 'a file that became a link stays' test "$(readlink second/l)" = ../archive
 holds_true 'where it leads to' test "$(head -n 1 archive)" = 'twosync-archive 1'
+
+# a commit whose bytes don't fit is told as such, whatever became of its target
+fresh
+large first/a
+both_change() {
+  large first/a
+  printf b >second/a
+}
+while_it_runs both_change 'failed first /a
+total 1 done 0 skipped 0 failed 1 blocked 0' 'twosync: fault 15 /a' "${sync[@]}"
+holds_true 'what came in its place stays' test "$(cat second/a)" = b
 
 # ---- a run that is ended by a signal while it writes, at several moments
 for delay in 0.02 0.05 0.1 0.2 0.4; do

@@ -4,10 +4,12 @@
 #include <dlfcn.h>
 #include <errno.h>
 #include <fcntl.h>
+#include <stdatomic.h>
 #include <stdlib.h>
 #include <unistd.h>
 
-static long left;
+/* Workers allocate at once. */
+static atomic_long left;
 
 __attribute__((constructor)) static void begin(void) {
   const char *number = getenv("FAIL_ALLOCATION");
@@ -15,7 +17,7 @@ __attribute__((constructor)) static void begin(void) {
 }
 
 static int refused(void) {
-  if (left == 0 || --left > 0) return 0;
+  if (atomic_fetch_sub(&left, 1) != 1) return 0;
   const char *name = getenv("ALLOCATION_REFUSED");
   if (name) close(open(name, O_CREAT | O_WRONLY, 0600));
   errno = ENOMEM;

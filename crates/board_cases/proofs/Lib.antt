@@ -1,3 +1,4 @@
-pub mod Working
-pub mod Steps
 pub mod Acts
+pub mod Crossing
+pub mod Steps
+pub mod Working

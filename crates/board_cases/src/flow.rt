@@ -1,45 +1,34 @@
-//! The worked plan on a board, from its opening to its end.
-ghost use Rattle.std.specs.Prelude.{ℕ, List, ◌≡◌, [], length, IfOk, IfSome};
-ghost use Rattle.board_cases.specs.Worked.{staged_steps, worked};
-ghost use Rattle.ts_board.specs.Calls.{IsPassOf, mine};
+//! The cases on a board, from its opening to its end.
+ghost use Rattle.std.specs.Prelude.{◌≡◌, ◌<◌, length, IfOk};
+ghost use Rattle.board_cases.specs.Worked.{IsWorked, removal};
+ghost use Rattle.ts_board.specs.Calls.{IsPassOf};
 ghost use Rattle.ts_board.specs.Checks.{IsFromCheck};
 ghost use Rattle.ts_board.specs.Keys.{terms_of};
 ghost use Rattle.ts_board.specs.Terms.{commit_count};
 
-use crate::desk::{Desk, Freed, Turn};
+use crate::desk::Desk;
+use crate::task::{Seen, Task, Turn};
 use anyhow::{Result, bail};
 use std::alloc::Global;
+use std::thread::Threads;
 use ts_board::{Board, Pass};
 use ts_check::Checked;
-use ts_name::Path;
 use ts_print::Print;
-use ts_site::{Site, SiteFault};
-
-/// What was seen while the actions were carried out.
-#[derive(Drop)]
-pub struct Steps {
-    pub piece: Turn,
-    pub to_commit: Freed,
-    pub commit: Turn,
-    /// Why the site refused.
-    pub fault: Option<SiteFault>,
-    /// Where the commit was done.
-    pub to_mark: Option<Freed>,
-    pub mark: Option<Turn>,
-}
+use ts_site::Site;
 
 /// What was seen at the end.
 #[derive(Drop)]
 pub struct End<S: Drop> {
-    /// The words of the piece, the commit and the mark.
-    pub words: [u64; 3],
+    /// The words of all actions.
+    pub words: Vec<u64>,
     pub archive: Print,
+    /// The site of one commit.
     pub site: Option<S>,
     /// Whether the site is there a second time.
     pub is_again: bool,
 }
 
-/// A board for the worked plan, and its one pass.
+/// A board for a plan, and its one pass.
 fn opened<S: Site>(
     alloc: Global,
     checked: &Checked<'_>,
@@ -48,7 +37,6 @@ fn opened<S: Site>(
     requires { length sites.items ≡ commit_count checked.now.plan.actions }
     ensures from { IfOk result (λ r. IsFromCheck (terms_of S.content r.0.table.shared.key) checked.now) }
     ensures pass { IfOk result (λ r. IsPassOf r.0.table.shared.table_id (terms_of S.content r.0.table.shared.key) r.1) }
-    ensures nothing { IfOk result (λ r. mine r.1 ≡ []) }
 {
     match Board::open(alloc, checked, sites) {
         Ok(opened) => Ok(opened),
@@ -56,75 +44,26 @@ fn opened<S: Site>(
     }
 }
 
-/// Carries the plan out by two passes, which both try to claim the piece. Who has claimed it goes on. The
-/// passes are one again at the end.
-fn worked_out<S: Site>(desk: &Desk<'_, '_, S>, pass: Pass<S>, byte: u8) -> Result<(Steps, Pass<S>)>
-    requires pass { IsPassOf desk.now.board.now.table.shared.table_id (terms_of S.content desk.now.board.now.table.shared.key) pass }
-    requires fresh { mine pass ≡ [] }
-    ensures { IfOk result (λ r. IsPassOf desk.now.board.now.table.shared.table_id (terms_of S.content desk.now.board.now.table.shared.key) r.1) }
-{
-    let bytes = vec![in desk.alloc; byte]?;
-    let others = vec![in desk.alloc; byte]?;
-    let Ok((one, other)) = desk.board.split(pass) else {
-        bail!("the pass can't be cut")
-    };
-    let (one, this) = desk.try_stage(one, bytes);
-    let (other, that) = desk.try_stage(other, others);
-    match (this, that) {
-        (Some(piece), None) => gone_on(desk, piece, one, other),
-        (None, Some(piece)) => gone_on(desk, piece, other, one),
-        _ => bail!("the piece isn't claimed once"),
-    }
-}
-
-/// Goes on with the pass that has staged the piece.
-fn gone_on<S: Site>(
-    desk: &Desk<'_, '_, S>,
-    piece: Turn,
-    mut pass: Pass<S>,
-    other: Pass<S>,
-) -> Result<(Steps, Pass<S>)>
-    requires pass { IsPassOf desk.now.board.now.table.shared.table_id (terms_of S.content desk.now.board.now.table.shared.key) pass }
-    requires other { IsPassOf desk.now.board.now.table.shared.table_id (terms_of S.content desk.now.board.now.table.shared.key) other }
-    requires staged { (bytes : List ℕ) × (mine pass ≡ staged_steps bytes) }
-    ensures { IfOk result (λ r. IsPassOf desk.now.board.now.table.shared.table_id (terms_of S.content desk.now.board.now.table.shared.key) r.1) }
-{
-    let to_commit = desk.release(&mut pass, 0, 1);
-    let (commit, fault) = desk.commit(&mut pass)?;
-    let mut steps = Steps {
-        piece,
-        to_commit,
-        commit,
-        fault,
-        to_mark: None,
-        mark: None,
-    };
-    match fault {
-        None => {
-            steps.to_mark = Some(desk.release(&mut pass, 1, 2));
-            steps.mark = desk.mark(&mut pass);
-            Ok((steps, desk.board.join(pass, other)))
-        }
-        Some(_) => Ok((steps, desk.board.join(pass, other))),
-    }
-}
-
-/// Closes the board, and says what it leaves.
+/// Closes the board, and says what it leaves, at the site of commit `c` too.
 fn ended<S: Site>(
     alloc: Global,
     checked: &Checked<'_>,
     board: Board<S>,
     pass: Pass<S>,
+    c: u32,
 ) -> Result<End<S>>
-    requires three { length checked.now.plan.actions ≡ 3 }
+    requires inside { c < length checked.now.plan.actions }
     requires from { IsFromCheck (terms_of S.content board.table.shared.key) checked.now }
     requires pass { IsPassOf board.table.shared.table_id (terms_of S.content board.table.shared.key) pass }
 {
     let mut closed = board.close(pass);
     let archive = closed.archive(alloc, checked)?;
-    let words = [closed.word(0), closed.word(1), closed.word(2)];
-    let site = closed.take_site(1);
-    let is_again = closed.take_site(1).is_some();
+    let mut words = Vec::new(alloc);
+    for i in 0..checked.action_count() {
+        words.push(closed.word(i))?;
+    }
+    let site = closed.take_site(c);
+    let is_again = closed.take_site(c).is_some();
     Ok(End {
         words,
         archive,
@@ -133,15 +72,15 @@ fn ended<S: Site>(
     })
 }
 
-/// Carries the worked plan out, over its one site and with a byte that is staged.
-pub fn worked_case<'a, S: Site>(
+/// Copies one new file with a byte that is staged, over its one site.
+pub fn worked_case<R: Threads, S: Site>(
+    rt: &R,
     alloc: Global,
-    checked: &'a Checked<'a>,
-    piece: &'a Path,
+    checked: &Checked<'_>,
     sites: Vec<S>,
     byte: u8,
-) -> Result<(Steps, End<S>)>
-    requires actions { checked.now.plan.actions ≡ worked piece.now }
+) -> Result<([Option<Seen>; 3], End<S>)>
+    requires actions { IsWorked checked.now.plan.actions }
     requires one { length sites.items ≡ 1 }
 {
     let (board, pass) = opened(alloc, checked, sites)?;
@@ -149,9 +88,33 @@ pub fn worked_case<'a, S: Site>(
         alloc,
         checked,
         board: &board,
-        piece,
+        byte,
     };
-    let (steps, pass) = worked_out(&desk, pass, byte)?;
-    let end = ended(alloc, checked, board, pass)?;
-    Ok((steps, end))
+    let (pass, seen) = desk.copied(rt, pass, 0);
+    let end = ended(alloc, checked, board, pass, 1)?;
+    Ok((seen, end))
 }
+
+/// Deletes a file, over its one site. After the race for the commit its mark is made by the joined pass.
+pub fn removal_case<R: Threads, S: Site>(
+    rt: &R,
+    alloc: Global,
+    checked: &Checked<'_>,
+    sites: Vec<S>,
+) -> Result<(Option<Seen>, Option<Turn>, End<S>)>
+    requires actions { checked.now.plan.actions ≡ removal }
+    requires one { length sites.items ≡ 1 }
+{
+    let (board, pass) = opened(alloc, checked, sites)?;
+    let desk = Desk {
+        alloc,
+        checked,
+        board: &board,
+        byte: 0,
+    };
+    let (mut pass, commit) = desk.raced(rt, pass, Task::Removal);
+    let made = desk.mark(&mut pass, 1);
+    let end = ended(alloc, checked, board, pass, 0)?;
+    Ok((commit, made, end))
+}
+

@@ -1,20 +1,24 @@
-//! The worked plan on a board, in four cases: over memory, over a device that fails at the commit, over a target that was
-//! changed, and with a staged byte that doesn't fit. Says the words step by step, and what is left of the archive and at the
-//! site.
+//! Plans on a board, each action of which two passes on two threads try to claim. A new file is copied over memory, over a
+//! device that fails at the commit, over a target that was changed, and with a staged byte that doesn't fit; a file is
+//! deleted. Says the words step by step, and what is left of the archive and at the site.
 #![tactic(auto)]
 
 ghost use Rattle.std.specs.Prelude.{◌≡◌, length};
-ghost use Rattle.board_cases.specs.Worked.{worked};
+ghost use Rattle.board_cases.specs.Worked.{IsWorked, removal};
 
 mod desk;
 mod flow;
 mod plan;
+mod race;
+mod task;
 
-use crate::desk::{Freed, Turn};
-use crate::flow::{End, Steps, worked_case};
-use crate::plan::{file_path, one_file, worked_plan};
-use anyhow::Result;
+use crate::flow::{End, removal_case, worked_case};
+use crate::plan::{print_of, removal_plan, worked_plan};
+use crate::task::Seen;
+use anyhow::{Result, bail};
 use std::alloc::Global;
+use std::thread::Threads;
+use ts_board::{ArchiveFault, OpenFault};
 use ts_check::{Checked, check};
 use ts_hold::Holds;
 use ts_model::row::Content;
@@ -24,68 +28,34 @@ use ts_site::{FaultySite, MemSite, Site};
 use ts_text::Counted;
 use ts_tree::SubTree;
 
-/// The words of an action while it was claimed and after its end.
-fn turn_of(alloc: Global, turn: Turn) -> Result<String> {
-    let Turn { claimed, ended } = turn;
-    Ok(format!(in alloc; "claimed {claimed}, ended {ended}")?)
-}
-
-/// The word of an action before it was released and after.
-fn freed_of(alloc: Global, freed: Freed) -> Result<String> {
-    let Freed {
-        before,
-        is_last,
-        after,
-    } = freed;
-    Ok(format!(in alloc; "waiting {before}, released {after}, nothing open {is_last}")?)
-}
-
-/// What was seen of the commit.
-fn commit_of(alloc: Global, steps: &Steps) -> Result<String> {
-    let freed = freed_of(alloc, steps.to_commit)?;
-    let commit = turn_of(alloc, steps.commit)?;
-    Ok(format!(in alloc; "{freed}, {commit}")?)
-}
-
-/// What was seen of the mark.
-fn mark_of(alloc: Global, steps: &Steps) -> Result<String> {
-    let (Some(freed), Some(mark)) = (steps.to_mark, steps.mark) else {
-        return Ok(String::from_str(alloc, "not tried")?);
-    };
-    let freed = freed_of(alloc, freed)?;
-    let mark = turn_of(alloc, mark)?;
-    Ok(format!(in alloc; "{freed}, {mark}")?)
-}
+/// The print of a replica whose one file `/a` has the byte `a`.
+const FILE: &str = "f /a 1 ca978112ca1bbdcafac231b39a23dc4da786eff8147c4e72b9807785afee48bb";
 
 /// The number of the site's fault; 0 where it met none.
-fn fault_of(steps: &Steps) -> u8 {
-    match &steps.fault {
-        Some(fault) => fault.number(),
-        None => 0,
+fn fault_of(seen: &Option<Seen>) -> u8 {
+    match seen {
+        Some(
+            Seen {
+                fault: Some(fault),
+                ..
+            },
+        ) => fault.number(),
+        _ => 0,
     }
-}
-
-/// Says what was seen on the way.
-fn tell_steps(rt: &impl Print, alloc: Global, steps: &Steps) -> Result<()> {
-    let piece = turn_of(alloc, steps.piece)?;
-    let commit = commit_of(alloc, steps)?;
-    let fault = fault_of(steps);
-    let mark = mark_of(alloc, steps)?;
-    println!(rt; "piece: {piece}\ncommit: {commit}\nfault: {fault}\nmark: {mark}")?;
-    Ok(())
 }
 
 /// Says what the board leaves.
 fn tell_end<S: Drop>(rt: &impl Print, alloc: Global, end: &End<S>) -> Result<()> {
-    let [piece, commit, mark] = end.words;
-    println!(rt; "words: {piece} {commit} {mark}")?;
+    let End {
+        words,
+        archive,
+        is_again,
+        ..
+    } = end;
     let mut sink = Counted::new(Vec::new(alloc));
-    encode(alloc, &end.archive, &mut sink)?;
-    let archive = String::from_utf8_lossy(alloc, &sink.into_inner())?;
-    let rows = end.archive.rows().len();
-    print!(rt; "archive: {rows}\n{archive}")?;
-    let is_again = end.is_again;
-    println!(rt; "site taken twice: {is_again}")?;
+    encode(alloc, archive, &mut sink)?;
+    let text = String::from_utf8_lossy(alloc, &sink.into_inner())?;
+    println!(rt; "words: {words:?}\narchive: {text:?}\nsite taken twice: {is_again}")?;
     Ok(())
 }
 
@@ -100,87 +70,117 @@ fn tell_site(rt: &impl Print, alloc: Global, site: &SubTree) -> Result<()> {
     Ok(())
 }
 
-/// Carries the plan out over a site and says what comes of it. The site comes back.
-fn tell_case<'a, R: Print, S: Site>(
+/// A file with one byte.
+fn file(alloc: Global, byte: u8) -> Result<SubTree> {
+    Ok(SubTree::file(alloc, vec![in alloc; byte]?)?)
+}
+
+/// Copies the file over a site and says what comes of it. The site comes back.
+fn tell_case<R: Threads + Print, S: Site>(
     rt: &R,
-    checked: &'a Checked<'a>,
-    piece: &'a Path,
+    checked: &Checked<'_>,
     sites: Vec<S>,
     byte: u8,
     alloc: Global,
 ) -> Result<Option<S>>
-    requires actions { checked.now.plan.actions ≡ worked piece.now }
+    requires actions { IsWorked checked.now.plan.actions }
     requires one { length sites.items ≡ 1 }
 {
-    let (steps, end) = worked_case(alloc, checked, piece, sites, byte)?;
-    tell_steps(rt, alloc, &steps)?;
+    let ([piece, commit, mark], end) = worked_case(rt, alloc, checked, sites, byte)?;
+    let fault = fault_of(&commit);
+    println!(rt; "piece: {piece:?}\ncommit: {commit:?}\nfault: {fault}\nmark: {mark:?}")?;
     tell_end(rt, alloc, &end)?;
     Ok(end.site)
 }
 
 /// A case over memory, where this is the target.
-fn memory_case<'a, R: Print>(
+fn memory_case<R: Threads + Print>(
     rt: &R,
-    checked: &'a Checked<'a>,
-    piece: &'a Path,
+    checked: &Checked<'_>,
     target: SubTree,
     byte: u8,
     alloc: Global,
 ) -> Result<()>
-    requires { checked.now.plan.actions ≡ worked piece.now }
+    requires { IsWorked checked.now.plan.actions }
 {
     let sites = vec![in alloc; MemSite::new(target)]?;
-    if let Some(site) = tell_case(rt, checked, piece, sites, byte, alloc)? {
+    if let Some(site) = tell_case(rt, checked, sites, byte, alloc)? {
         tell_site(rt, alloc, &site.into_content())?;
     }
     Ok(())
 }
 
 /// A case where the device fails at the commit.
-fn faulty_case<'a, R: Print>(
-    rt: &R,
-    checked: &'a Checked<'a>,
-    piece: &'a Path,
-    alloc: Global,
-) -> Result<()>
-    requires { checked.now.plan.actions ≡ worked piece.now }
+fn faulty_case<R: Threads + Print>(rt: &R, checked: &Checked<'_>, alloc: Global) -> Result<()>
+    requires { IsWorked checked.now.plan.actions }
 {
     let fails = vec![in alloc; true]?;
     let sites = vec![in alloc; FaultySite::new(SubTree::absent(alloc), fails)]?;
-    if let Some(site) = tell_case(rt, checked, piece, sites, b'a', alloc)? {
+    if let Some(site) = tell_case(rt, checked, sites, b'a', alloc)? {
         tell_site(rt, alloc, &site.into_content())?;
     }
     Ok(())
 }
 
-/// All cases, one after the other.
-fn tell_cases<'a, R: Print>(
+/// The cases in which a new file is copied.
+fn tell_cases<R: Threads + Print>(rt: &R, checked: &Checked<'_>, alloc: Global) -> Result<()>
+    requires { IsWorked checked.now.plan.actions }
+{
+    println!(rt; "-- a new file, over memory")?;
+    memory_case(rt, checked, SubTree::absent(alloc), b'a', alloc)?;
+    println!(rt; "-- over a device that fails")?;
+    faulty_case(rt, checked, alloc)?;
+    println!(rt; "-- over a changed target")?;
+    memory_case(rt, checked, file(alloc, b'c')?, b'a', alloc)?;
+    println!(rt; "-- with another byte")?;
+    memory_case(rt, checked, SubTree::absent(alloc), b'b', alloc)
+}
+
+fn tell_copies<R: Threads + Print>(rt: &R, alloc: Global) -> Result<()> {
+    let nothing = ts_print::Print::empty(alloc);
+    let first = print_of(alloc, FILE)?;
+    let holds = Holds::none(alloc);
+    let plan = worked_plan(alloc)?;
+    let checked = check(alloc, &plan, &nothing, &first, &nothing, &holds)?;
+    tell_cases(rt, &checked, alloc)
+}
+
+/// The case in which a file is deleted, over its one site.
+fn removed<R: Threads + Print>(
     rt: &R,
-    checked: &'a Checked<'a>,
-    piece: &'a Path,
+    checked: &Checked<'_>,
+    sites: Vec<MemSite>,
     alloc: Global,
 ) -> Result<()>
-    requires { checked.now.plan.actions ≡ worked piece.now }
+    requires actions { checked.now.plan.actions ≡ removal }
+    requires one { length sites.items ≡ 1 }
 {
-    println!(rt; "-- over memory")?;
-    memory_case(rt, checked, piece, SubTree::absent(alloc), b'a', alloc)?;
-    println!(rt; "-- over a device that fails")?;
-    faulty_case(rt, checked, piece, alloc)?;
-    println!(rt; "-- over a changed target")?;
-    let changed = SubTree::file(alloc, vec![in alloc; b'c']?)?;
-    memory_case(rt, checked, piece, changed, b'a', alloc)?;
-    println!(rt; "-- with another byte")?;
-    memory_case(rt, checked, piece, SubTree::absent(alloc), b'b', alloc)
+    let (commit, mark, end) = removal_case(rt, alloc, checked, sites)?;
+    println!(rt; "-- a deleted file\ncommit: {commit:?}\nmark: {mark:?}")?;
+    tell_end(rt, alloc, &end)?;
+    let End { site, .. } = end;
+    match site {
+        Some(site) => tell_site(rt, alloc, &site.into_content()),
+        None => bail!("the commit has no site"),
+    }
+}
+
+fn tell_removal<R: Threads + Print>(rt: &R, alloc: Global) -> Result<()> {
+    let nothing = ts_print::Print::empty(alloc);
+    let before = print_of(alloc, FILE)?;
+    let holds = Holds::none(alloc);
+    let plan = removal_plan(alloc)?;
+    let checked = check(alloc, &plan, &before, &nothing, &before, &holds)?;
+    let sites = vec![in alloc; MemSite::new(file(alloc, b'a')?)]?;
+    removed(rt, &checked, sites, alloc)
 }
 
 fn main(rt: HostRuntime) -> Result<()> {
     let alloc = rt.alloc();
-    let archive = ts_print::Print::empty(alloc);
-    let first = one_file(alloc)?;
-    let second = ts_print::Print::empty(alloc);
-    let holds = Holds::none(alloc);
-    let piece = file_path(alloc)?;
-    let plan = worked_plan(alloc, &piece)?;
-    let checked = check(alloc, &plan, &archive, &first, &second, &holds)?;
-    tell_cases(&rt, &checked, &piece, alloc)
+    tell_copies(&rt, alloc)?;
+    tell_removal(&rt, alloc)?;
+    let open = OpenFault::OutOfMemory.number();
+    let archive = ArchiveFault::OutOfMemory.number();
+    println!(rt; "want of memory: {open} {archive}")?;
+    Ok(())
 }

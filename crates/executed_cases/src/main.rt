@@ -1,7 +1,7 @@
 //! Carries plans out by the executor, and compares what comes of each action with what its failures and those it waits for
-//! leave: 200 times a plan of 2,000 actions with 8 workers, each time with other commits and pieces that fail; a plan whose
-//! first two pieces have to be at work at once; the same plan 200 times by two workers;
-//! and small cases in which one thing fails.
+//! leave: 200 times a plan of 2,000 actions with 8 workers, each time with other commits and pieces that fail, and once
+//! without workers, so that the sweep alone does all; a plan whose first two pieces have to be at work at once; the same plan
+//! 200 times by two workers; and small cases in which one thing fails.
 #![tactic(auto)]
 
 ghost use Rattle.std.specs.Prelude.{◌≤◌, length};
@@ -132,8 +132,7 @@ fn run_once<R, G>(
 where
     R: Threads + AllocGlobal + Sync,
     G: Gate + Sync,
-    requires some { 1 ≤ workers }
-    requires few { workers ≤ 64 }
+    requires { workers ≤ 64 }
 {
     let alloc = rt.alloc();
     let first = folder(alloc, &world.first, checked, fails)?;
@@ -186,7 +185,21 @@ where
         let now = run_once(rt, &world, &checked, fails.as_slice(), 8, &OpenGate)?;
         done = done.saturating_add(u64::from(now));
     }
+    sweep(rt, &world, &checked, &mut random)?;
     Ok(done)
+}
+
+/// Carries the plan out without workers, once with failures and once without.
+fn sweep<R>(rt: &R, world: &World, checked: &Checked<'_>, random: &mut Pcg32) -> Result<()>
+where
+    R: Threads + AllocGlobal + Sync,
+{
+    let fails = draw(rt.alloc(), checked, random, RARITY)?;
+    run_once(rt, world, checked, fails.as_slice(), 0, &OpenGate)?;
+    let fails = draw(rt.alloc(), checked, random, 0)?;
+    let done = run_once(rt, world, checked, fails.as_slice(), 0, &OpenGate)?;
+    ensure!(done == checked.action_count(), "an action isn't done");
+    Ok(())
 }
 
 /// The numbers of the first two pieces of a plan.
@@ -251,12 +264,12 @@ where
     Ok(())
 }
 
-/// Runs a named case with 1, 2 and 64 workers: what comes of it is what is wanted.
+/// Runs a named case without workers and with 1, 2 and 64: what comes of it is what is wanted.
 fn run_named<R>(rt: &R, case: &Case) -> Result<()>
 where
     R: Threads + AllocGlobal + Sync,
 {
-    for workers in [1, 2, 64] {
+    for workers in [0, 1, 2, 64] {
         let came = came_of(rt, case, workers).context("running a case")?;
         ensure!(came.as_str() == case.wanted, "another result");
     }
@@ -270,7 +283,7 @@ fn main(rt: HostRuntime) -> Result<()> {
         "the failures are too many or too few"
     );
     println!(rt;
-        "a plan of 2000 actions, 200 runs by 8 workers with failures: each result as wanted"
+        "a plan of 2000 actions, 200 runs by 8 workers with failures, and one by the sweep: each result as wanted"
     )?;
     run_at_once(&rt)?;
     println!(rt; "two workers meet at two pieces, and race for 7 actions 200 times")?;

@@ -121,8 +121,7 @@ fn print_of(alloc: Global, lines: &[&str]) -> Option<Print> {
 pub fn came_of<R>(rt: &R, case: &Case, workers: u32) -> Option<String>
 where
     R: Threads + AllocGlobal + Sync,
-    requires some { 1 ≤ workers }
-    requires few { workers ≤ 64 }
+    requires { workers ≤ 64 }
 {
     let alloc = rt.alloc();
     let archive = Print::empty(alloc);
@@ -140,8 +139,7 @@ where
 fn ran<R>(rt: &R, case: &Case, checked: &Checked<'_>, workers: u32) -> Option<String>
 where
     R: Threads + AllocGlobal + Sync,
-    requires some { 1 ≤ workers }
-    requires few { workers ≤ 64 }
+    requires { workers ≤ 64 }
 {
     let alloc = rt.alloc();
     let sites = sites(alloc, case, checked.plan())?;

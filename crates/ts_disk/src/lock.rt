@@ -16,6 +16,7 @@ pub struct Lock {
 
 impl Lock {
     /// Removes the lock's file, and then gives the lock up. The file stays where it can't be removed, which hurts no later run.
+    /// The directory `.twosync` stays in any case: another run may be about to make its lock's file there, and would fail.
     pub fn release<R: Files>(self, files: &R) {
         let _ = fs::remove_file(files, self.place.as_str());
     }

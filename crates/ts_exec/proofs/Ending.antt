@@ -4,7 +4,7 @@ use Rattle.std.proofs.lemmas.Bool.{true≢false}
 use Rattle.ts_name.specs.Paths.{Path}
 use Rattle.ts_model.specs.Trees.{Listing}
 use Rattle.ts_model.specs.Plans.{Valid}
-use Rattle.ts_model.specs.Runs.{Run, Has, fails, word_after}
+use Rattle.ts_model.specs.Runs.{Run, word_after}
 use Rattle.ts_model.specs.declared.plan.Plan.{Plan}
 use Rattle.ts_check.specs.Checkup.{Checkup, snapshot_of}
 use Rattle.ts_board.specs.declared.law.Terms.{Terms}
@@ -23,18 +23,20 @@ use Rattle.ts_exec.specs.declared.outcome.ActionResult.{ActionResult}
 use Rattle.ts_exec.specs.declared.outcome.ActionResult.TheVariants.{Done, Failed, Blocked}
 use Rattle.ts_exec.proofs.Claims.{legal_for}
 use Rattle.ts_exec.proofs.Closing.{few_open, open_pred}
+use Rattle.ts_exec.proofs.Reading.{read_told}
+use Rattle.ts_exec.proofs.Wholes.{put_told}
 
-pub none_noted : (x : Setting) (faults : List (Option ActFault)) → Noted x [] faults
-none_noted x faults i h = absurd (true≢false (sym h))
+pub none_noted : (x : Setting) (seen : Run) (faults : List (Option ActFault)) → Noted x [] seen faults
+none_noted x seen faults = record { each = λ i h. absurd (true≢false (sym h)); told = tt }
 
 -- the end of a run in which everything was tried
 pub end_of : (k : Checkup) → Valid (snapshot_of k) k.plan → (t : Terms) → IsFromCheck t k → (r : Run) (words : List ℕ) → HasLeft t words r
-    → (x : Setting) (faults : List (Option ActFault)) → IsTidy k.plan r → Noted x r faults → Swept k.plan (length k.plan.actions) r r → IsEnd k.plan r words faults
+    → (x : Setting) (faults : List (Option ActFault)) → IsTidy k.plan r → Noted x r r faults → Swept k.plan (length k.plan.actions) r r → IsEnd k.plan r words faults
 end_of k valid t from r words left x faults tidy noted swept = record {
   words_are = λ i within. left.words_are i (subst (λ (n : ℕ). i < n) (sym (ap (λ p. length p.actions) from.0)) within) ∙ ap (λ p. word_after p r i) from.0;
   tidy = tidy;
   small = λ i. few_open (snapshot_of k) k.plan valid r i;
-  noted = λ i h. (let f = noted i h in (f.0, f.1));
+  noted = λ i h. (let f = noted.each i h in (f.0, f.1));
   blocked = λ i within none. open_pred (snapshot_of k) k.plan valid r (legal_for t k from r left.legal) i within none (swept i within);
 }
 
@@ -42,9 +44,9 @@ same_fault : (faults : List (Option ActFault)) (i : ℕ) (e f : ActFault) → sl
 same_fault faults i e f p q = cc
 
 -- a noted fault is one that the action may have
-pub result_fits : (x : Setting) (r : Run) (faults : List (Option ActFault)) → Noted x r faults → (i : ℕ) (result : ActionResult) → ResultIs x.checkup.plan r faults i result → ResultFits x r i result
+pub result_fits : (x : Setting) (r : Run) (faults : List (Option ActFault)) → Noted x r r faults → (i : ℕ) (result : ActionResult) → ResultIs x.checkup.plan r faults i result → ResultFits x r i result
 result_fits x r faults noted i Done is = is
-result_fits x r faults noted i (Failed f) is = (is.0, (let n = noted i is.0 in subst (λ (z : ActFault). MayFail x i z) (same_fault faults i n.0 f n.1 is.1) n.2))
+result_fits x r faults noted i (Failed f) is = (is.0, (let n = noted.each i is.0 in subst (λ (z : ActFault). MayFail x r i z) (same_fault faults i n.0 f n.1 is.1) n.2))
 result_fits x r faults noted i (Blocked k) is = is
 
 -- ---- the board is closed with a whole pass
@@ -52,7 +54,7 @@ result_fits x r faults noted i (Blocked k) is = is
 module _ {S F : Type 0} (content : S → Option (Listing (List ℕ))) (failures : S → ℕ) (tells : F → Option (Listing (List ℕ))) (lets : F → Call → Path → Trouble → Type 0)
     (k : Checkup) (valid : Valid (snapshot_of k) k.plan) (first second : F) (t opened : Terms) (same : t ≡ opened) (checked : IsFromCheck opened k)
     (p : Pass S) (words : List ℕ) (slots : List (Slot S)) (faults : List (Option ActFault)) (ends : Ends content t p words slots) (whole : IsWhole p)
-    (tidy : IsTidy k.plan (mine p)) (noted : Noted (setting_of failures tells lets k first second t.told) (mine p) faults)
+    (tidy : IsTidy k.plan (mine p)) (noted : Noted (setting_of failures tells lets k first second t.told) (mine p) (seen p) faults)
     (swept : Swept k.plan (length k.plan.actions) (mine p) (seen p)) where
   abbrev pub setting : Terms → Setting
   setting z = setting_of failures tells lets k first second z.told
@@ -66,8 +68,8 @@ module _ {S F : Type 0} (content : S → Option (Listing (List ℕ))) (failures 
   own_is : mine p ≡ ends.0
   own_is = (ends.1.2 whole).1 ∙ seen_is
 
-  noted_there : Noted (setting t) ends.0 faults
-  noted_there = subst (λ (r : Run). Noted (setting t) r faults) own_is noted
+  noted_there : Noted (setting t) ends.0 ends.0 faults
+  noted_there = subst (λ (r : Run). Noted (setting t) ends.0 r faults) seen_is (subst (λ (r : Run). Noted (setting t) r (seen p) faults) own_is noted)
 
   pub end : IsEnd k.plan ends.0 words faults
   end = end_of k valid t from ends.0 words ends.1.0 (setting t) faults
@@ -79,6 +81,8 @@ module _ {S F : Type 0} (content : S → Option (Listing (List ℕ))) (failures 
   here results count each = record {
     run = ends.0;
     left = ends.1.0;
+    read = read_told (setting t) ends.0 ends.0 noted_there.told;
+    put = put_told (setting t) ends.0 noted_there.told;
     count = count ∙ sym (ap (λ (plan : Plan). length plan.actions) from.0);
     each = λ i result is. result_fits (setting t) ends.0 faults noted_there i result (each i result is);
     sites = ends.2;

@@ -110,12 +110,12 @@ may_break failures (Place a) Empty e f l = absurd (true≢false (sym f))
 may_break failures (Place a) (Committed b s) e f l = absurd (true≢false (sym f))
 may_break failures (Place a) (Bytes b) e f l = absurd (true≢false (sym f))
 
-pub commit_fails : {U : Type 0} (x : Setting) (c : ℕ) (r : Result U SiteFault) (e : SiteFault) → r ≡ Err e → (IsErrOf r site.Device → x.breaks) → (IsErrOf r site.Changed → IsChanged x c) → (IsErrOf r site.Misfit → IsMisfit x.checkup c)
-    → CommitFails x c (of_site e)
-commit_fails x c r site.OutOfMemory is device changed misfit = tt
-commit_fails x c r site.Device is device changed misfit = device is
-commit_fails x c r site.Changed is device changed misfit = changed is
-commit_fails x c r site.Misfit is device changed misfit = misfit is
+pub commit_fails : {U : Type 0} (x : Setting) (run : Run) (c : ℕ) (r : Result U SiteFault) (e : SiteFault) → r ≡ Err e → (IsErrOf r site.Device → x.breaks) → (IsErrOf r site.Changed → IsChanged x c) → (IsErrOf r site.Misfit → IsMisfit x run c)
+    → CommitFails x run c (of_site e)
+commit_fails x run c r site.OutOfMemory is device changed misfit = tt
+commit_fails x run c r site.Device is device changed misfit = device is
+commit_fails x run c r site.Changed is device changed misfit = changed is
+commit_fails x run c r site.Misfit is device changed misfit = misfit is
 
 -- ---- results
 
@@ -130,6 +130,10 @@ on_ok (Err a) P h = tt
 pub on_ok_map : {U A : Type 0} (r : Result U A) (P Q : Type 0) → OnOk r P → (P → Q) → OnOk r Q
 on_ok_map (Ok u) P Q h f = f h
 on_ok_map (Err a) P Q h f = tt
+
+pub if_err_map : {U A : Type 0} (r : Result U A) (P Q : A → Type 0) → IfErr r P → ((a : A) → P a → Q a) → IfErr r Q
+if_err_map (Ok u) P Q h f = tt
+if_err_map (Err a) P Q h f = f a h
 
 pub on_err_map : {U A : Type 0} (r : Result U A) (P Q : Type 0) → OnErr r P → (P → Q) → OnErr r Q
 on_err_map (Ok u) P Q h f = tt

@@ -7,6 +7,11 @@ pub mod Closing
 pub mod Ending
 pub mod Shares
 pub mod Failing
+pub mod Reading
+pub mod Ranges
+pub mod Filling
+pub mod Wholes
+pub mod Misfits
 pub mod Noting
 pub mod Teams
 pub mod Crossing

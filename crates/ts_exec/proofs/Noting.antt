@@ -11,10 +11,12 @@ use Rattle.ts_laws.proofs.Lists.{Among-from_Contains, below_bound}
 use Rattle.ts_laws.proofs.Runs.{preds_ascend}
 use Rattle.ts_check.proofs.Scans.{got_set, got_beside}
 use Rattle.ts_board.specs.Runs.{StartsWith}
-use Rattle.ts_exec.specs.Failures.{Setting, MayFail}
-use Rattle.ts_exec.specs.Tidy.{HasFault, IsListed, IsTidy, IsTry, Listed, Noted, Swept, WasTried}
+use Rattle.ts_exec.specs.Failures.{Setting, AreTold, IsToldStep, MayFail}
+use Rattle.ts_exec.specs.Tidy.{HasFault, IsListed, IsTidy, IsTry, Listed, MayBe, Noted, Swept, WasTried}
 use Rattle.ts_exec.specs.declared.crew.Failure.{Failure}
 use Rattle.ts_exec.specs.declared.fault.ActFault.{ActFault}
+use Rattle.ts_laws.proofs.Words.{all_append}
+use Rattle.ts_exec.proofs.Reading.{may_later, told_later}
 use Rattle.ts_exec.proofs.Steps.{has_cases, has_left}
 
 -- ---- places of lists
@@ -48,54 +50,72 @@ take_got (suc n) (suc m) (x ∷ xs) e h = take_got n m xs e h
 
 -- ---- lists of failures
 
-pub listed_failed : (x : Setting) (own b : Run) (fs : List Failure) (i : ℕ) (f : ActFault) → Listed x own fs → IsTry x.checkup.plan i (Some f) b → MayFail x i f → i < length x.checkup.plan.actions
-    → Listed x (own ++ b) (fs ++ record { action = i; fault = f } ∷ [])
-listed_failed x own b fs i f l t may within = record {
+pub may_be_later : (x : Setting) (seen more : Run) (fs : List Failure) → StartsWith more seen → MayBe x seen fs → MayBe x more fs
+may_be_later x seen more fs later may m e at = let h = may m e at in (h.0, may_later x seen more later e.action e.fault h.1)
+
+pub listed_failed : (x : Setting) (own seen more b : Run) (fs : List Failure) (i : ℕ) (f : ActFault) → Listed x own seen fs → StartsWith more seen → IsTry x.checkup.plan i (Some f) b → AreTold x more b → MayFail x more i f
+    → i < length x.checkup.plan.actions → Listed x (own ++ b) more (fs ++ record { action = i; fault = f } ∷ [])
+listed_failed x own seen more b fs i f l later t told may within = record {
   each = λ j h. ⊎_elim
       (λ (a : Has own (fails j)). let e = l.each j a in (e.0, e.1, got_left fs (record { action = i; fault = f } ∷ []) e.0 e.1 e.2, e.3))
       (λ (a : Has b (fails j)). (length fs, record { action = i; fault = f }, got_last fs (record { action = i; fault = f }), sym (t.failed j a).0))
       (has_cases (fails j) own b h);
   may = λ m e at. ⊎_elim
-      (λ (a : slice_get fs m ≡ Some e). l.may m e a)
-      (λ (a : record { action = i; fault = f } ≡ e). subst (λ (z : Failure). (z.action < length x.checkup.plan.actions) × MayFail x z.action z.fault) a (within, may))
+      (λ (a : slice_get fs m ≡ Some e). may_be_later x seen more fs later l.may m e a)
+      (λ (a : record { action = i; fault = f } ≡ e). subst (λ (z : Failure). (z.action < length x.checkup.plan.actions) × MayFail x more z.action z.fault) a (within, may))
       (got_cases fs (record { action = i; fault = f }) m e at);
+  told = all_append (IsToldStep x more) own b (told_later x seen more later own l.told) told;
 }
 
-pub listed_none : (x : Setting) (own b : Run) (fs : List Failure) (i : ℕ) → Listed x own fs → IsTry x.checkup.plan i None b → Listed x (own ++ b) fs
-listed_none x own b fs i l t = record {
+pub listed_none : (x : Setting) (own seen more b : Run) (fs : List Failure) (i : ℕ) → Listed x own seen fs → StartsWith more seen → IsTry x.checkup.plan i None b → AreTold x more b → Listed x (own ++ b) more fs
+listed_none x own seen more b fs i l later t told = record {
   each = λ j h. ⊎_elim (λ (a : Has own (fails j)). l.each j a) (λ (a : Has b (fails j)). absurd (true≢false (sym (t.failed j a).1))) (has_cases (fails j) own b h);
-  may = l.may;
+  may = may_be_later x seen more fs later l.may;
+  told = all_append (IsToldStep x more) own b (told_later x seen more later own l.told) told;
 }
 
 -- ---- faults by place
 
-pub fault_kept : (x : Setting) (faults : List (Option ActFault)) (a : ℕ) (f : ActFault) → a < length faults → MayFail x a f → (i : ℕ) → HasFault x faults i → HasFault x (set faults a (Some f)) i
-fault_kept x faults a f within may i h = ⊎_elim
-    (λ (e : i ≡ a). subst (λ (z : ℕ). HasFault x (set faults a (Some f)) z) (sym e) (f, got_set faults a (Some f) within, may))
+pub fault_later : (x : Setting) (seen more : Run) (faults : List (Option ActFault)) (i : ℕ) → StartsWith more seen → HasFault x seen faults i → HasFault x more faults i
+fault_later x seen more faults i later h = (h.0, h.1, may_later x seen more later i h.0 h.2)
+
+pub fault_kept : (x : Setting) (r : Run) (faults : List (Option ActFault)) (a : ℕ) (f : ActFault) → a < length faults → MayFail x r a f → (i : ℕ) → HasFault x r faults i → HasFault x r (set faults a (Some f)) i
+fault_kept x r faults a f within may i h = ⊎_elim
+    (λ (e : i ≡ a). subst (λ (z : ℕ). HasFault x r (set faults a (Some f)) z) (sym e) (f, got_set faults a (Some f) within, may))
     (λ (e : i ≢ a). (h.0, got_beside faults a i (Some f) e ∙ h.1, h.2))
     (cases_eq i a)
 
-pub fault_here : (x : Setting) (faults : List (Option ActFault)) (a : ℕ) (f : ActFault) → a < length faults → MayFail x a f → HasFault x (set faults a (Some f)) a
-fault_here x faults a f within may = (f, got_set faults a (Some f) within, may)
+pub fault_here : (x : Setting) (r : Run) (faults : List (Option ActFault)) (a : ℕ) (f : ActFault) → a < length faults → MayFail x r a f → HasFault x r (set faults a (Some f)) a
+fault_here x r faults a f within may = (f, got_set faults a (Some f) within, may)
 
-pub noted_failed : (x : Setting) (own b : Run) (faults : List (Option ActFault)) (i : ℕ) (f : ActFault) → Noted x own faults → IsTry x.checkup.plan i (Some f) b → MayFail x i f → i < length faults → Noted x (own ++ b) (set faults i (Some f))
-noted_failed x own b faults i f l t may within = λ j h. ⊎_elim
-    (λ (a : Has own (fails j)). fault_kept x faults i f within may j (l j a))
-    (λ (a : Has b (fails j)). subst (λ (z : ℕ). HasFault x (set faults i (Some f)) z) (sym (t.failed j a).0) (fault_here x faults i f within may))
-    (has_cases (fails j) own b h)
+pub noted_failed : (x : Setting) (own seen more b : Run) (faults : List (Option ActFault)) (i : ℕ) (f : ActFault) → Noted x own seen faults → StartsWith more seen → IsTry x.checkup.plan i (Some f) b → AreTold x more b
+    → MayFail x more i f → i < length faults → Noted x (own ++ b) more (set faults i (Some f))
+noted_failed x own seen more b faults i f l later t told may within = record {
+  each = λ j h. ⊎_elim
+      (λ (a : Has own (fails j)). fault_kept x more faults i f within may j (fault_later x seen more faults j later (l.each j a)))
+      (λ (a : Has b (fails j)). subst (λ (z : ℕ). HasFault x more (set faults i (Some f)) z) (sym (t.failed j a).0) (fault_here x more faults i f within may))
+      (has_cases (fails j) own b h);
+  told = all_append (IsToldStep x more) own b (told_later x seen more later own l.told) told;
+}
 
-pub noted_none : (x : Setting) (own b : Run) (faults : List (Option ActFault)) (i : ℕ) → Noted x own faults → IsTry x.checkup.plan i None b → Noted x (own ++ b) faults
-noted_none x own b faults i l t = λ j h. ⊎_elim (λ (a : Has own (fails j)). l j a) (λ (a : Has b (fails j)). absurd (true≢false (sym (t.failed j a).1))) (has_cases (fails j) own b h)
+pub noted_none : (x : Setting) (own seen more b : Run) (faults : List (Option ActFault)) (i : ℕ) → Noted x own seen faults → StartsWith more seen → IsTry x.checkup.plan i None b → AreTold x more b → Noted x (own ++ b) more faults
+noted_none x own seen more b faults i l later t told = record {
+  each = λ j h. ⊎_elim
+      (λ (a : Has own (fails j)). fault_later x seen more faults j later (l.each j a))
+      (λ (a : Has b (fails j)). absurd (true≢false (sym (t.failed j a).1)))
+      (has_cases (fails j) own b h);
+  told = all_append (IsToldStep x more) own b (told_later x seen more later own l.told) told;
+}
 
 -- one more failure is noted
-pub noted_more : (x : Setting) (faults : List (Option ActFault)) (fs : List Failure) (n : ℕ) (e : Failure) → slice_get fs n ≡ Some e → e.action < length faults → MayFail x e.action e.fault
-    → ((i : ℕ) → IsListed i (take n fs) → HasFault x faults i) → (i : ℕ) → IsListed i (take (n + 1) fs) → HasFault x (set faults e.action (Some e.fault)) i
-noted_more x faults fs n e is within may before i h = ⊎_elim
-    (λ (a : slice_get (take n fs) h.0 ≡ Some h.1). fault_kept x faults e.action e.fault within may i (before i (h.0, h.1, a, h.3)))
+pub noted_more : (x : Setting) (r : Run) (faults : List (Option ActFault)) (fs : List Failure) (n : ℕ) (e : Failure) → slice_get fs n ≡ Some e → e.action < length faults → MayFail x r e.action e.fault
+    → ((i : ℕ) → IsListed i (take n fs) → HasFault x r faults i) → (i : ℕ) → IsListed i (take (n + 1) fs) → HasFault x r (set faults e.action (Some e.fault)) i
+noted_more x r faults fs n e is within may before i h = ⊎_elim
+    (λ (a : slice_get (take n fs) h.0 ≡ Some h.1). fault_kept x r faults e.action e.fault within may i (before i (h.0, h.1, a, h.3)))
     (λ (a : slice_get fs n ≡ Some h.1).
     let some : Some e ≡ Some h.1 = sym is ∙ a in
     let same : e ≡ h.1 = cc in
-    subst (λ (z : ℕ). HasFault x (set faults e.action (Some e.fault)) z) (ap (λ (z : Failure). z.action) same ∙ h.3) (fault_here x faults e.action e.fault within may))
+    subst (λ (z : ℕ). HasFault x r (set faults e.action (Some e.fault)) z) (ap (λ (z : Failure). z.action) same ∙ h.3) (fault_here x r faults e.action e.fault within may))
     (take_got n h.0 fs h.1 (subst (λ (z : ℕ). slice_get (take z fs) h.0 ≡ Some h.1) (add-one n) h.2))
 
 -- ---- the sweep

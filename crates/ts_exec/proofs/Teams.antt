@@ -7,14 +7,17 @@ use Rattle.std.proofs.lemmas.Bool.{true≢false}
 use Rattle.std.proofs.lemmas.Option.{none-some}
 use Rattle.atomic_table.specs.Seated.{TableId}
 use Rattle.ts_model.specs.Runs.{Run, Has, fails}
-use Rattle.ts_board.specs.Calls.{HasPart, IsPassOf, IsSamePart, mine}
+use Rattle.ts_board.specs.Calls.{HasPart, IsPassOf, IsSamePart, mine, seen}
 use Rattle.ts_board.specs.Kept.{IsMerged}
+use Rattle.ts_board.specs.Runs.{StartsWith}
 use Rattle.ts_board.specs.declared.board.Pass.{Pass}
 use Rattle.ts_board.specs.declared.law.Terms.{Terms}
-use Rattle.ts_exec.specs.Failures.{Setting}
-use Rattle.ts_exec.specs.Tidy.{HasFault, IsListed, IsSameShare, IsTidy, KeepsList, KeepsNotes, Noted}
+use Rattle.ts_exec.specs.Failures.{Setting, AreTold}
+use Rattle.ts_exec.specs.Tidy.{HasFault, IsListed, IsSameShare, IsTidy, KeepsList, KeepsNotes, MayBe, Noted}
 use Rattle.ts_exec.specs.declared.crew.Failure.{Failure}
 use Rattle.ts_exec.specs.declared.fault.ActFault.{ActFault}
+use Rattle.ts_exec.proofs.Noting.{fault_later, may_be_later}
+use Rattle.ts_exec.proofs.Reading.{told_later, told_merged}
 use Rattle.ts_exec.proofs.Shares.{halves_share}
 use Rattle.ts_exec.proofs.Steps.{merged_cases}
 use Rattle.ts_exec.proofs.Tries.{tidy_merged, tidy_start}
@@ -28,28 +31,36 @@ module _ {S : Type 0} (id : TableId) (t : Terms) (x : Setting) where
     listed = record {
       each = λ i h. absurd (true≢false (sym (subst (λ (z : Run). Has z (fails i)) none h)));
       may = λ m e at. absurd (none-some e (subst (λ (z : List Failure). slice_get z m ≡ Some e) empty at));
+      told = subst (λ (z : Run). AreTold x (seen p) z) (sym none) tt;
     };
   }
 
-  pub same_notes : (p q : Pass S) (fs : List (Option ActFault)) → IsPassOf id t q → mine q ≡ mine p → KeepsNotes id t x p fs → KeepsNotes id t x q fs
-  same_notes p q fs of same k = record {
+  pub same_notes : (p q : Pass S) (fs : List (Option ActFault)) → IsPassOf id t q → seen q ≡ seen p → mine q ≡ mine p → KeepsNotes id t x p fs → KeepsNotes id t x q fs
+  same_notes p q fs of sees same k = record {
     of_board = of;
     tidy = subst (λ (z : Run). IsTidy x.checkup.plan z) (sym same) k.tidy;
     room = k.room;
-    noted = subst (λ (z : Run). Noted x z fs) (sym same) k.noted;
+    noted = subst (λ (z : Run). Noted x z (seen q) fs) (sym same) (subst (λ (z : Run). Noted x (mine p) z fs) (sym sees) k.noted);
   }
 
-  pub joined_notes : (p q r : Pass S) (before after : List (Option ActFault)) (failures : List Failure) → KeepsNotes id t x p before → KeepsList id t x q failures → IsPassOf id t r → IsMerged (mine p) (mine q) (mine r)
-      → length after ≡ length before → ((i : ℕ) → HasFault x before i → HasFault x after i) → ((i : ℕ) → IsListed i failures → HasFault x after i) → KeepsNotes id t x r after
-  joined_notes p q r before after failures notes list of merged room kept noted = record {
+  pub joined_notes : (p q r : Pass S) (before after : List (Option ActFault)) (failures : List Failure) → KeepsNotes id t x p before → KeepsList id t x q failures → IsPassOf id t r → StartsWith (seen r) (seen p) → StartsWith (seen r) (seen q)
+      → IsMerged (mine p) (mine q) (mine r) → length after ≡ length before → ((run : Run) → MayBe x run failures → (i : ℕ) → HasFault x run before i → HasFault x run after i)
+      → ((run : Run) → MayBe x run failures → (i : ℕ) → IsListed i failures → HasFault x run after i) → KeepsNotes id t x r after
+  joined_notes p q r before after failures notes list of this that merged room kept noted = record {
     of_board = of;
     tidy = tidy_merged x.checkup.plan (mine p) (mine q) (mine r) merged notes.tidy list.tidy;
     room = room ∙ notes.room;
-    noted = λ i h. ⊎_elim
-        (λ (l : Has (mine p) (fails i)). kept i (notes.noted i l))
-        (λ (l : Has (mine q) (fails i)). noted i (list.listed.each i l))
-        (merged_cases (fails i) (mine p) (mine q) (mine r) merged h);
+    noted = record {
+      each = λ i h. ⊎_elim
+          (λ (l : Has (mine p) (fails i)). kept (seen r) may i (fault_later x (seen p) (seen r) before i this (notes.noted.each i l)))
+          (λ (l : Has (mine q) (fails i)). noted (seen r) may i (list.listed.each i l))
+          (merged_cases (fails i) (mine p) (mine q) (mine r) merged h);
+      told = told_merged x (seen r) (mine p) (mine q) (mine r) merged (told_later x (seen p) (seen r) this (mine p) notes.noted.told) (told_later x (seen q) (seen r) that (mine q) list.listed.told);
+    };
   }
+    where
+      may : MayBe x (seen r) failures
+      may = may_be_later x (seen q) (seen r) failures that list.listed.may
 
 -- what holds of all elements holds of the one that was taken off
 pub of_popped : {X : Type 0} (P : X → Type 0) (xs ys : List X) (r : Option X) (x : X) → xs ≡ ys ++ option_to_list r → r ≡ Some x → All P xs → P x

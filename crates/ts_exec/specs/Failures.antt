@@ -1,9 +1,15 @@
 -- Why an action may fail.
---     Setting            what folders and sites tell, and may fail with
---     MayFail x i f      the fault is one that the folder or the site of action i may have given
+--     Setting             what folders and sites tell, and may fail with
+--     TellsTree x from    the folder of this side tells a tree, of the print that the plan was checked with
+--     AreRead x r         in these steps, what pieces staged is what their folders tell
+--     AreTold x r own     and what commits put in place, where pieces did so in the steps r
+--     MayFail x r i f     after these steps, the fault is one that the folder or the site of action i may have given
 use Rattle.std.specs.Prelude.{◌≡◌, ℕ, ◌+◌, ◌<◌, List, Option, Some, IfSome, length, slice_index_or, None}
+use Rattle.std.specs.List.{AllByRecursion}
 use Rattle.ts_name.specs.Paths.{Path}
-use Rattle.ts_model.specs.Trees.{Listing, at}
+use Rattle.ts_model.specs.Trees.{Listing, at, listed, print_of, sub}
+use Rattle.ts_model.specs.Sync.{replica}
+use Rattle.ts_model.specs.Runs.{Run}
 use Rattle.ts_model.specs.Plans.{KindIs, Copies}
 use Rattle.ts_model.specs.declared.row.Content.TheVariants.{File}
 use Rattle.ts_model.specs.declared.plan.Entry.{Entry}
@@ -11,11 +17,15 @@ use Rattle.ts_model.specs.declared.plan.Kind.{Kind}
 use Rattle.ts_model.specs.declared.plan.Kind.TheVariants.{Piece, Commit, Mark}
 use Rattle.ts_model.specs.declared.plan.Side.{Side}
 use Rattle.ts_model.specs.declared.plan.Side.TheVariants as side
-use Rattle.ts_check.specs.Checkup.{Checkup, IsSourcePart, IsTargetPart}
+use Rattle.ts_model.specs.declared.step.Step.{Step}
+use Rattle.ts_model.specs.declared.step.Step.TheVariants.{Claim, Take, Act, Done, Fail, Release}
+use Rattle.ts_model.specs.declared.step.Work.{Work}
+use Rattle.ts_model.specs.declared.step.Work.TheVariants.{Staged, Put}
+use Rattle.ts_check.specs.Checkup.{Checkup, IsSourcePart, IsTargetPart, snapshot_of}
 use Rattle.ts_print.specs.Parts.{Part}
 use Rattle.ts_print.specs.Assemblies.{Assembly, IsComplete}
 use Rattle.ts_site.specs.Sites.{Differs}
-use Rattle.ts_folder.specs.Folders.{IsFile}
+use Rattle.ts_folder.specs.Folders.{IsFile, Reads}
 use Rattle.ts_folder.specs.declared.folder.Call.{Call}
 use Rattle.ts_folder.specs.declared.folder.Call.TheVariants.{Read}
 use Rattle.ts_folder.specs.declared.fault.Trouble.{Trouble}
@@ -50,6 +60,58 @@ setting_of failures tells lets checkup first second told = record {
   breaks = MayBreak failures;
 }
 
+-- the folder of this side tells a tree, whose print is the one that the plan was checked with
+abbrev pub TellsTree : Setting → Side → Type 0
+TellsTree x from = (rows : Listing (List ℕ)) × (x.tells from ≡ Some rows) × (print_of (at rows) ≡ replica (snapshot_of x.checkup) from)
+
+-- a piece has staged what the folder that it is copied from tells of its range
+abbrev pub HasRead : Setting → Kind → Work → Type 0
+HasRead x (Piece e offset size p) w =
+    (bytes : List ℕ) × (entry : Entry) × (from : Side) × Copies x.checkup.plan e entry from × (w ≡ Staged bytes) × IfSome (x.tells from) (λ rows. Reads (at rows p) offset size bytes)
+HasRead x (Commit e) w = Unit {0}
+HasRead x (Mark e) w = Unit {0}
+
+-- the same of what an action of the plan did
+abbrev pub IsRead : Setting → ℕ → Work → Type 0
+IsRead x i w = (kind : Kind) × KindIs x.checkup.plan i kind × HasRead x kind w
+
+abbrev pub IsReadStep : Setting → Step → Type 0
+IsReadStep x (Claim i) = Unit {0}
+IsReadStep x (Take c k) = Unit {0}
+IsReadStep x (Act i w) = IsRead x i w
+IsReadStep x (Done i) = Unit {0}
+IsReadStep x (Fail i) = Unit {0}
+IsReadStep x (Release i j) = Unit {0}
+
+abbrev pub AreRead : Setting → Run → Type 0
+AreRead x r = AllByRecursion (IsReadStep x) r
+
+-- a commit has put in place what its source's folder tells at the entry's path and below, where pieces staged in these steps what folders tell
+abbrev pub HasPut : Setting → Run → ℕ → Work → Type 0
+HasPut x r e w =
+    (made : Listing (List ℕ)) × (entry : Entry) × (from : Side) × Copies x.checkup.plan e entry from × (w ≡ Put made)
+    × ((told : TellsTree x from) → AreRead x r → listed made ≡ sub (at told.0) entry.path)
+
+abbrev pub HasTold : Setting → Run → Kind → Work → Type 0
+HasTold x r (Piece e offset size p) w = HasRead x (Piece e offset size p) w
+HasTold x r (Commit e) w = HasPut x r e w
+HasTold x r (Mark e) w = Unit {0}
+
+-- what an action of the plan did is what its folder tells
+abbrev pub IsTold : Setting → Run → ℕ → Work → Type 0
+IsTold x r i w = (kind : Kind) × KindIs x.checkup.plan i kind × HasTold x r kind w
+
+abbrev pub IsToldStep : Setting → Run → Step → Type 0
+IsToldStep x r (Claim i) = Unit {0}
+IsToldStep x r (Take c k) = Unit {0}
+IsToldStep x r (Act i w) = IsTold x r i w
+IsToldStep x r (Done i) = Unit {0}
+IsToldStep x r (Fail i) = Unit {0}
+IsToldStep x r (Release i j) = Unit {0}
+
+abbrev pub AreTold : Setting → Run → Run → Type 0
+AreTold x r own = AllByRecursion (IsToldStep x r) own
+
 -- a piece that is read from this path: a file that is too short doesn't fit
 abbrev pub PieceFails : (Trouble → Type 0) → Option (Listing (List ℕ)) → ℕ → Path → ActFault → Type 0
 PieceFails lets tells end p fault.OutOfMemory = Unit {0}
@@ -59,9 +121,12 @@ PieceFails lets tells end p fault.Unreadable = lets trouble.Unreadable
 PieceFails lets tells end p fault.Changed = ⊥
 PieceFails lets tells end p fault.Misfit = IfSome tells (λ rows. (bytes : List ℕ) × (at rows p ≡ File bytes) × (length bytes < end))
 
--- an assembly of the commit's source, of which a file doesn't fit its stamp
-abbrev pub IsMisfit : Checkup → ℕ → Type 0
-IsMisfit k c = (staged : Assembly) × ((part : Part) × IsSourcePart k c part × (staged.wanted ≡ part.rows)) × (¬ IsComplete staged)
+-- an assembly of the commit's source, of which a file doesn't fit its stamp. Where the source's folder tells such a tree, some piece in these
+-- steps has staged what no folder tells
+abbrev pub IsMisfit : Setting → Run → ℕ → Type 0
+IsMisfit x r c =
+    (staged : Assembly) × (part : Part) × (of : IsSourcePart x.checkup c part) × (staged.wanted ≡ part.rows) × (¬ IsComplete staged)
+    × (TellsTree x of.from → ¬ AreRead x r)
 
 -- what the commit's site told at the start hasn't the print that the target had
 abbrev pub IsChanged : Setting → ℕ → Type 0
@@ -69,19 +134,19 @@ IsChanged x c =
     (content : Option (Listing (List ℕ))) × (slice_index_or x.told c None ≡ Some content)
     × ((part : Part) × IsTargetPart x.checkup c part × Differs content part.rows)
 
-abbrev pub CommitFails : Setting → ℕ → ActFault → Type 0
-CommitFails x c fault.OutOfMemory = Unit {0}
-CommitFails x c fault.Device = x.breaks
-CommitFails x c fault.NotThere = ⊥
-CommitFails x c fault.Unreadable = ⊥
-CommitFails x c fault.Changed = IsChanged x c
-CommitFails x c fault.Misfit = IsMisfit x.checkup c
+abbrev pub CommitFails : Setting → Run → ℕ → ActFault → Type 0
+CommitFails x r c fault.OutOfMemory = Unit {0}
+CommitFails x r c fault.Device = x.breaks
+CommitFails x r c fault.NotThere = ⊥
+CommitFails x r c fault.Unreadable = ⊥
+CommitFails x r c fault.Changed = IsChanged x c
+CommitFails x r c fault.Misfit = IsMisfit x r c
 
 -- marks don't fail
-abbrev pub KindFails : Setting → ℕ → Kind → ActFault → Type 0
-KindFails x i (Piece e offset size p) f = (entry : Entry) × (from : Side) × Copies x.checkup.plan e entry from × PieceFails (x.lets from p) (x.tells from) (offset + size) p f
-KindFails x i (Commit e) f = CommitFails x i f
-KindFails x i (Mark e) f = ⊥
+abbrev pub KindFails : Setting → Run → ℕ → Kind → ActFault → Type 0
+KindFails x r i (Piece e offset size p) f = (entry : Entry) × (from : Side) × Copies x.checkup.plan e entry from × PieceFails (x.lets from p) (x.tells from) (offset + size) p f
+KindFails x r i (Commit e) f = CommitFails x r i f
+KindFails x r i (Mark e) f = ⊥
 
-abbrev pub MayFail : Setting → ℕ → ActFault → Type 0
-MayFail x i f = (kind : Kind) × KindIs x.checkup.plan i kind × KindFails x i kind f
+abbrev pub MayFail : Setting → Run → ℕ → ActFault → Type 0
+MayFail x r i f = (kind : Kind) × KindIs x.checkup.plan i kind × KindFails x r i kind f

@@ -3,20 +3,31 @@
 --     ResultIs plan r faults i res    what came of action i in the run r, by these faults
 --     ResultFits x r i res            what came of action i in the run r
 --     IsOutcome                       all results and sites are those after one legal run
-use Rattle.std.specs.Prelude.{◌≡◌, ℕ, ◌<◌, List, Some, length, slice_get, slice_index, slice_index_or, Option}
-use Rattle.ts_model.specs.Trees.{Listing}
-use Rattle.ts_model.specs.Plans.{Waits}
-use Rattle.ts_model.specs.Runs.{Run, Has, HasNot, claims, finishes, fails, open_count, word_after}
+--     MisfitsAreUntold x results      an action misfits only where its source's folder tells no tree of the checked print
+--     IsSteady x                      folders and sites tell what was checked, and nothing of theirs fails
+--     WantMemoryAlone results         an action fails for want of memory alone
+use Rattle.std.specs.Prelude.{◌≡◌, ℕ, ◌<◌, Contains, List, Some, length, slice_get, slice_index, slice_index_or, Option}
+use Rattle.ts_name.specs.Paths.{Path}
+use Rattle.ts_folder.specs.declared.fault.Trouble.{Trouble}
+use Rattle.ts_model.specs.Trees.{Listing, at, listed, sub}
+use Rattle.ts_model.specs.Plans.{Copies, KindIs, Waits, source}
+use Rattle.ts_model.specs.Runs.{Run, Has, HasNot, claims, entry_of, finishes, fails, open_count, word_after}
+use Rattle.ts_model.specs.declared.plan.Entry.{Entry}
+use Rattle.ts_model.specs.declared.plan.Kind.TheVariants.{Commit}
 use Rattle.ts_model.specs.declared.plan.Plan.{Plan}
+use Rattle.ts_model.specs.declared.step.Step.TheVariants.{Act}
+use Rattle.ts_model.specs.declared.step.Work.TheVariants.{Put}
+use Rattle.ts_model.specs.declared.plan.Side.{Side}
 use Rattle.ts_board.specs.Terms.{IsTold, work_in}
 use Rattle.ts_board.specs.Runs.{size}
 use Rattle.ts_board.specs.Kept.{HasLeft, Rests}
 use Rattle.ts_board.specs.declared.law.Slot.{Slot}
 use Rattle.ts_board.specs.declared.law.Slot.TheVariants.{Empty}
 use Rattle.ts_board.specs.declared.law.Terms.{Terms}
-use Rattle.ts_exec.specs.Failures.{Setting, MayFail}
+use Rattle.ts_exec.specs.Failures.{Setting, AreRead, IsChanged, MayFail, TellsTree}
 use Rattle.ts_exec.specs.Tidy.{IsTidy}
 use Rattle.ts_exec.specs.declared.fault.ActFault.{ActFault}
+use Rattle.ts_exec.specs.declared.fault.ActFault.TheVariants.{OutOfMemory, Misfit}
 use Rattle.ts_exec.specs.declared.outcome.ActionResult.{ActionResult}
 use Rattle.ts_exec.specs.declared.outcome.ActionResult.TheVariants.{Done, Failed, Blocked}
 
@@ -40,13 +51,40 @@ ResultIs plan r faults i (Blocked k) = HasNot r (claims i) × IsLeastOpen plan r
 
 abbrev pub ResultFits : Setting → Run → ℕ → ActionResult → Type 0
 ResultFits x r i Done = Has r (finishes i)
-ResultFits x r i (Failed f) = Has r (fails i) × MayFail x i f
+ResultFits x r i (Failed f) = Has r (fails i) × MayFail x r i f
 ResultFits x r i (Blocked k) = HasNot r (claims i) × IsLeastOpen x.checkup.plan r i k
+
+-- each commit has put in place just what its source's folder tells at the entry's path and below, where that is a tree of the checked print
+abbrev pub PutWhatIsTold : Setting → Run → Type 0
+PutWhatIsTold x r =
+    (c e : ℕ) (entry : Entry) (from : Side) (made : Listing (List ℕ)) → Contains r (Act c (Put made)) → KindIs x.checkup.plan c (Commit e) → Copies x.checkup.plan e entry from
+    → (told : TellsTree x from) → listed made ≡ sub (at told.0) entry.path
 
 -- one legal run, with the words and the slots that it left
 pub record IsOutcome {S : Type 0} (content : S → Option (Listing (List ℕ))) (x : Setting) (t : Terms) (results : List ActionResult) (words : List ℕ) (slots : List (Slot S)) : Type 0 where
   pub run : Run
   pub left : HasLeft t words run
+  -- what its pieces staged, and its commits put in place, is what their folders tell
+  pub read : AreRead x run
+  pub put : PutWhatIsTold x run
   pub count : length results ≡ size t
   pub each : (i : ℕ) (result : ActionResult) → slice_get results i ≡ Some result → ResultFits x run i result
   pub sites : (i : ℕ) → i < size t → Rests work_in (IsTold content t i) t run i (slice_index_or slots i Empty)
+
+-- the entry of the action is copied from this side
+abbrev pub IsCopiedFrom : Plan → ℕ → Side → Type 0
+IsCopiedFrom plan i from = (entry : Entry) × (entry_of plan i ≡ Some entry) × (source entry.reason ≡ Some from)
+
+-- where an action misfits, the folder that it is copied from tells no tree of the checked print. So over folders that do nothing misfits
+abbrev pub MisfitsAreUntold : Setting → List ActionResult → Type 0
+MisfitsAreUntold x results = (i : ℕ) → slice_get results i ≡ Some (Failed Misfit) → (from : Side) × IsCopiedFrom x.checkup.plan i from × (¬ TellsTree x from)
+
+-- folders tell trees of the checked prints, no site told anything but its target's checked print at the start, and no device fails
+pub record IsSteady (x : Setting) : Type 0 where
+  pub tells : (from : Side) → TellsTree x from
+  pub readable : (from : Side) (p : Path) (t : Trouble) → ¬ x.lets from p t
+  pub unchanged : (c : ℕ) → ¬ IsChanged x c
+  pub unbroken : ¬ x.breaks
+
+abbrev pub WantMemoryAlone : List ActionResult → Type 0
+WantMemoryAlone results = (i : ℕ) (f : ActFault) → slice_get results i ≡ Some (Failed f) → f ≡ OutOfMemory

@@ -2,7 +2,7 @@
 --     IsTidy plan own          of these steps: what is claimed in them is ended, and what is done is released
 --     AreTakes, AreReleases    the takes of a commit, the releases of what is done
 --     IsTry plan i fault b     the steps b of one try of action i, which failed with this fault or didn't fail
---     Listed, Noted            why each action failed is known
+--     Listed, Noted            why each action failed is known, and what acts did is what folders tell
 --     Swept                    the actions below this number were tried in order
 --     KeepsList, KeepsNotes    a pass of this board is tidy, and Listed or Noted
 use Rattle.std.specs.Prelude.{◌≡◌, ◌≢◌, ◌⊎◌, ℕ, ◌<◌, ◌*◌, ◌^◌, length, List, [], ◌∷◌, Option, Some, IsSome, slice_get}
@@ -12,10 +12,10 @@ use Rattle.ts_model.specs.Runs.{Run, Has, claims, finishes, fails, releases, tak
 use Rattle.ts_model.specs.declared.plan.Plan.{Plan}
 use Rattle.ts_model.specs.declared.step.Step.TheVariants.{Take, Release}
 use Rattle.ts_board.specs.Runs.{StartsWith}
-use Rattle.ts_board.specs.Calls.{IsPassOf, mine}
+use Rattle.ts_board.specs.Calls.{IsPassOf, mine, seen}
 use Rattle.ts_board.specs.declared.board.Pass.{Pass}
 use Rattle.ts_board.specs.declared.law.Terms.{Terms}
-use Rattle.ts_exec.specs.Failures.{Setting, MayFail}
+use Rattle.ts_exec.specs.Failures.{Setting, AreTold, MayFail}
 use Rattle.ts_exec.specs.declared.fault.ActFault.{ActFault}
 use Rattle.ts_exec.specs.declared.crew.Failure.{Failure}
 
@@ -41,31 +41,37 @@ pub record IsTry (plan : Plan) (i : ℕ) (fault : Option ActFault) (block : Run)
 abbrev pub IsListed : ℕ → List Failure → Type 0
 IsListed i failures = (m : ℕ) × (e : Failure) × (slice_get failures m ≡ Some e) × (e.action ≡ i)
 
--- each failed action is in the list, and what is in it may have failed so
-pub record Listed (x : Setting) (own : Run) (failures : List Failure) : Type 0 where
+-- what is in the list are actions that may have failed so after the steps that were seen
+abbrev pub MayBe : Setting → Run → List Failure → Type 0
+MayBe x seen failures = (m : ℕ) (e : Failure) → slice_get failures m ≡ Some e → (e.action < length x.checkup.plan.actions) × MayFail x seen e.action e.fault
+
+-- of a pass's own steps, and what it has seen: each failed action is in the list, and what is in it may have failed so
+pub record Listed (x : Setting) (own seen : Run) (failures : List Failure) : Type 0 where
   pub each : (i : ℕ) → Has own (fails i) → IsListed i failures
-  pub may : (m : ℕ) (e : Failure) → slice_get failures m ≡ Some e → (e.action < length x.checkup.plan.actions) × MayFail x e.action e.fault
+  pub may : MayBe x seen failures
+  pub told : AreTold x seen own
 
 -- at the place of the action stands a fault that it may have
-abbrev pub HasFault : Setting → List (Option ActFault) → ℕ → Type 0
-HasFault x faults i = (f : ActFault) × (slice_get faults i ≡ Some (Some f)) × MayFail x i f
+abbrev pub HasFault : Setting → Run → List (Option ActFault) → ℕ → Type 0
+HasFault x seen faults i = (f : ActFault) × (slice_get faults i ≡ Some (Some f)) × MayFail x seen i f
 
--- each failed action has its fault at its place
-abbrev pub Noted : Setting → Run → List (Option ActFault) → Type 0
-Noted x own faults = (i : ℕ) → Has own (fails i) → HasFault x faults i
+-- of a pass's own steps, and what it has seen: each failed action has its fault at its place
+pub record Noted (x : Setting) (own seen : Run) (faults : List (Option ActFault)) : Type 0 where
+  pub each : (i : ℕ) → Has own (fails i) → HasFault x seen faults i
+  pub told : AreTold x seen own
 
 -- what a worker has between two tries
 pub record KeepsList {S : Type 0} (id : TableId) (t : Terms) (x : Setting) (pass : Pass S) (failures : List Failure) : Type 0 where
   pub of_board : IsPassOf id t pass
   pub tidy : IsTidy x.checkup.plan (mine pass)
-  pub listed : Listed x (mine pass) failures
+  pub listed : Listed x (mine pass) (seen pass) failures
 
 -- what workers leave behind together
 pub record KeepsNotes {S : Type 0} (id : TableId) (t : Terms) (x : Setting) (pass : Pass S) (faults : List (Option ActFault)) : Type 0 where
   pub of_board : IsPassOf id t pass
   pub tidy : IsTidy x.checkup.plan (mine pass)
   pub room : length faults ≡ length x.checkup.plan.actions
-  pub noted : Noted x (mine pass) faults
+  pub noted : Noted x (mine pass) (seen pass) faults
 
 -- both passes have the same share of the board
 abbrev pub IsSameShare : {S : Type 0} → Pass S → Pass S → Type 0

@@ -1,18 +1,21 @@
 //! The acts of pieces, commits and marks.
-ghost use Rattle.std.specs.Prelude.{ℕ, ◌≡◌, ◌<◌, ◌+◌, ◌++◌, length, IfErr, OnErr, OnOk};
+ghost use Rattle.std.specs.Prelude.{ℕ, ◌≡◌, ◌<◌, ◌++◌, length, IfErr, OnErr, OnOk};
 ghost use Rattle.ts_board.specs.Calls.{HasActed, IsFresh, IsPassOf, IsSamePart, mine, seen, work_of};
 ghost use Rattle.ts_board.specs.Keys.{terms_of};
 ghost use Rattle.ts_board.specs.Runs.{StartsWith};
 ghost use Rattle.ts_board.specs.Terms.{IsSited};
-ghost use Rattle.ts_check.specs.Checkup.{IsCommit};
-ghost use Rattle.ts_exec.specs.Acts.{HasAll, HasRead, IsActed, MayGoOn};
-ghost use Rattle.ts_exec.specs.Failures.{MayFail, setting_of};
+ghost use Rattle.ts_check.specs.Checkup.{IsCommit, IsSourcePart};
+ghost use Rattle.ts_exec.specs.Acts.{HasAll, IsActed, MayGoOn};
+ghost use Rattle.ts_exec.specs.Failures.{AreRead, HasRead, IsTold, MayFail, TellsTree, setting_of};
 ghost use Rattle.ts_exec.specs.Tidy.{AreTakes};
 ghost use Rattle.ts_exec.specs.declared.fault.ActFault.TheVariants as fault;
 ghost use Rattle.ts_model.specs.Plans.{KindIs};
 ghost use Rattle.ts_model.specs.Runs.{HasNot, IsPending, IsPieceOf, Run, takes};
-ghost use Rattle.ts_model.specs.declared.plan.Kind.{Kind};
 ghost use Rattle.ts_model.specs.declared.plan.Kind.TheVariants.{Piece};
+ghost use Rattle.ts_model.specs.Trees.{at, listed, sub};
+ghost use Rattle.ts_name.specs.Paths.{Path};
+ghost use Rattle.ts_print.specs.Assemblies.{HasSoFar, IsComplete, assembly_of, with_more};
+ghost use Rattle.ts_print.specs.Parts.{Part};
 
 use crate::fault::ActFault;
 use crate::gate::Gate;
@@ -39,9 +42,9 @@ impl<'a, 'b, S: Site, F: Folder + Sync, G: Gate + Sync> Job<'a, 'b, S, F, G> {
         ensures steps { (more : Run) × (mine pass.new ≡ mine pass.old ++ more) × AreTakes self.now.checked.now.plan held.old.action more }
         ensures action { held.new.action ≡ held.old.action }
         ensures ok { OnOk result (HasActed S.content (terms_of S.content self.now.board.now.table.shared.key) (mine pass.new) held.new) }
-        ensures read { OnOk result ((kind : Kind) × KindIs self.now.checked.now.plan held.old.action kind × HasRead (setting_of S.failures F.tells F.lets self.now.checked.now self.now.first.now self.now.second.now (terms_of S.content self.now.board.now.table.shared.key).told) kind (work_of held.new)) }
+        ensures told { OnOk result (IsTold (setting_of S.failures F.tells F.lets self.now.checked.now self.now.first.now self.now.second.now (terms_of S.content self.now.board.now.table.shared.key).told) (seen pass.new) held.old.action (work_of held.new)) }
         ensures err { OnErr result (MayGoOn S.content (terms_of S.content self.now.board.now.table.shared.key) (mine pass.new) held.new) }
-        ensures fault { IfErr result (MayFail (setting_of S.failures F.tells F.lets self.now.checked.now self.now.first.now self.now.second.now (terms_of S.content self.now.board.now.table.shared.key).told) held.old.action) }
+        ensures fault { IfErr result (MayFail (setting_of S.failures F.tells F.lets self.now.checked.now self.now.first.now self.now.second.now (terms_of S.content self.now.board.now.table.shared.key).told) (seen pass.new) held.old.action) }
     {
         match self.kind(held.action()) {
             Kind::Piece {
@@ -74,7 +77,7 @@ impl<'a, 'b, S: Site, F: Folder + Sync, G: Gate + Sync> Job<'a, 'b, S, F, G> {
         ensures ok { OnOk result (IsActed S.content (terms_of S.content self.now.board.now.table.shared.key) held.new) }
         ensures read { OnOk result (HasRead (setting_of S.failures F.tells F.lets self.now.checked.now self.now.first.now self.now.second.now (terms_of S.content self.now.board.now.table.shared.key).told) (Piece entry offset length path.now) (work_of held.new)) }
         ensures err { OnErr result (held.new ≡ held.old) }
-        ensures fault { IfErr result (MayFail (setting_of S.failures F.tells F.lets self.now.checked.now self.now.first.now self.now.second.now (terms_of S.content self.now.board.now.table.shared.key).told) held.old.action) }
+        ensures fault { IfErr result (λ f. (r : Run) → MayFail (setting_of S.failures F.tells F.lets self.now.checked.now self.now.first.now self.now.second.now (terms_of S.content self.now.board.now.table.shared.key).told) r held.old.action f) }
     {
         let bytes = self
             .source(entry)
@@ -99,8 +102,9 @@ impl<'a, 'b, S: Site, F: Folder + Sync, G: Gate + Sync> Job<'a, 'b, S, F, G> {
         ensures steps { (more : Run) × (mine pass.new ≡ mine pass.old ++ more) × AreTakes self.now.checked.now.plan held.old.action more }
         ensures action { held.new.action ≡ held.old.action }
         ensures ok { OnOk result (HasActed S.content (terms_of S.content self.now.board.now.table.shared.key) (mine pass.new) held.new) }
+        ensures told { OnOk result (IsTold (setting_of S.failures F.tells F.lets self.now.checked.now self.now.first.now self.now.second.now (terms_of S.content self.now.board.now.table.shared.key).told) (seen pass.new) held.old.action (work_of held.new)) }
         ensures err { OnErr result (MayGoOn S.content (terms_of S.content self.now.board.now.table.shared.key) (mine pass.new) held.new) }
-        ensures fault { IfErr result (MayFail (setting_of S.failures F.tells F.lets self.now.checked.now self.now.first.now self.now.second.now (terms_of S.content self.now.board.now.table.shared.key).told) held.old.action) }
+        ensures fault { IfErr result (MayFail (setting_of S.failures F.tells F.lets self.now.checked.now self.now.first.now self.now.second.now (terms_of S.content self.now.board.now.table.shared.key).told) (seen pass.new) held.old.action) }
     {
         let Ok(mut staged) = self.checked.staged(self.alloc, held.action()) else {
             return Err(ActFault::OutOfMemory);
@@ -126,6 +130,7 @@ impl<'a, 'b, S: Site, F: Folder + Sync, G: Gate + Sync> Job<'a, 'b, S, F, G> {
         ensures held { held.new ≡ held.old }
         ensures wanted { staged.new.wanted ≡ staged.old.wanted }
         ensures all { OnOk result (HasAll self.now.checked.now.plan held.old.action (mine pass.new)) }
+        ensures whole { OnOk result ((part : Part) (of : IsSourcePart self.now.checked.now held.old.action part) → staged.old ≡ assembly_of part → (told : TellsTree (setting_of S.failures F.tells F.lets self.now.checked.now self.now.first.now self.now.second.now (terms_of S.content self.now.board.now.table.shared.key).told) of.from) → AreRead (setting_of S.failures F.tells F.lets self.now.checked.now self.now.first.now self.now.second.now (terms_of S.content self.now.board.now.table.shared.key).told) (seen pass.new) → IsComplete staged.new × (listed staged.new.made ≡ sub (at told.0) part.top)) }
         ensures fault { IfErr result (λ e. e ≡ ActFault.OutOfMemory) }
     {
         let pieces = self.checked.pieces(held.action());
@@ -133,6 +138,8 @@ impl<'a, 'b, S: Site, F: Folder + Sync, G: Gate + Sync> Job<'a, 'b, S, F, G> {
             let bytes = self.board.take(pass, held, *k);
             self.add(staged, *k, bytes)?;
         }
+        // Its rows stand in order: whoever compares them with the source's may go by paths.
+        let _rows = staged.rows();
         Ok(())
     }
 
@@ -140,6 +147,7 @@ impl<'a, 'b, S: Site, F: Folder + Sync, G: Gate + Sync> Job<'a, 'b, S, F, G> {
     fn add(&self, staged: &mut Staged, k: u32, bytes: Vec<u8>) -> Result<(), ActFault>
         requires { k < length self.now.checked.now.plan.actions }
         ensures wanted { staged.new.wanted ≡ staged.old.wanted }
+        ensures put { OnOk result ((e offset size : ℕ) (path : Path) → KindIs self.now.checked.now.plan k (Piece e offset size path) → HasSoFar staged.old path offset → staged.new ≡ record staged.old { made = with_more staged.old.top path bytes.items staged.old.made }) }
         ensures fault { IfErr result (λ e. e ≡ ActFault.OutOfMemory) }
     {
         let Kind::Piece { path, offset, .. } = self.kind(k) else {
@@ -159,6 +167,8 @@ fn append(
     bytes: Vec<u8>,
 ) -> Result<(), ActFault>
     ensures wanted { staged.new.wanted ≡ staged.old.wanted }
+    ensures put { OnOk result (HasSoFar staged.old path.now offset → staged.new ≡ record staged.old { made = with_more staged.old.top path.now bytes.items staged.old.made }) }
+    ensures left_out { OnOk result ((¬ HasSoFar staged.old path.now offset) → staged.new ≡ staged.old) }
     ensures fault { IfErr result (λ e. e ≡ ActFault.OutOfMemory) }
 {
     match staged.has_so_far(alloc, path, offset) {

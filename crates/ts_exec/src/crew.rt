@@ -7,7 +7,7 @@ use crossbeam_deque::{Steal, Stealer, Worker};
 use std::alloc::{AllocError, Global};
 use ts_check::Checked;
 
-/// How many hints a worker has room for at first.
+/// How many hints a queue has room for at first.
 const FIRST_HINTS: usize = 64;
 
 /// The number of an action that failed, and why.
@@ -17,10 +17,26 @@ pub struct Failure {
     pub fault: ActFault,
 }
 
-/// What a worker starts with: hints which actions may be ready, and room for as many failures as there are actions.
+/// What all may take from one worker's hints which actions may be ready.
+#[derive(Drop)]
+pub struct Queues {
+    /// Its share of the actions that wait for nothing, the lowest first.
+    pub dealt: Stealer<u32>,
+    /// The actions that it freed.
+    pub freed: Stealer<u32>,
+}
+
+/// What a worker needs to find hints: those that it leaves itself, and whose share it looks at first.
+#[derive(Drop)]
+pub struct Hints {
+    pub freed: Worker<u32>,
+    pub turn: usize,
+}
+
+/// What a worker starts with: hints, and room for as many failures as there are actions.
 #[derive(Drop)]
 pub struct Member {
-    pub hints: Worker<u32>,
+    pub hints: Hints,
     pub failures: Vec<Failure>,
 }
 
@@ -28,7 +44,7 @@ pub struct Member {
 #[derive(Drop)]
 pub struct Crew {
     pub members: Vec<Member>,
-    pub stealers: Vec<Stealer<u32>>,
+    pub queues: Vec<Queues>,
     /// The sweep's own hints, which nobody reads.
     pub unread: Worker<u32>,
     /// Why each action failed.
@@ -44,17 +60,23 @@ impl Crew {
         ensures results { IfOk result (λ crew. (crew.results.items ≡ []) × (length checked.now.plan.actions ≤ vec_capacity crew.results)) }
     {
         let actions = checked.action_count() as usize;
-        let mut hints = Vec::with_capacity(alloc, workers as usize)?;
-        let mut stealers = Vec::with_capacity(alloc, workers as usize)?;
+        let mut queues = Vec::with_capacity(alloc, workers as usize)?;
+        let mut shares = Vec::with_capacity(alloc, workers as usize)?;
+        let mut freed = Vec::with_capacity(alloc, workers as usize)?;
         for _ in 0..workers {
+            let share: Worker<u32> = Worker::new_fifo(alloc, FIRST_HINTS)?;
             let own: Worker<u32> = Worker::new_lifo(alloc, FIRST_HINTS)?;
-            stealers.push(own.stealer()?)?;
-            hints.push(own)?;
+            queues.push(Queues {
+                dealt: share.stealer()?,
+                freed: own.stealer()?,
+            })?;
+            shares.push(share)?;
+            freed.push(own)?;
         }
-        deal(checked, hints.as_mut_slice());
+        deal(checked, shares.as_mut_slice());
         Ok(Crew {
-            members: members_with(alloc, hints, actions)?,
-            stealers,
+            members: members_with(alloc, freed, actions)?,
+            queues,
             unread: Worker::new_lifo(alloc, FIRST_HINTS)?,
             faults: vec![in alloc; None; actions]?,
             results: Vec::with_capacity(alloc, actions)?,
@@ -62,52 +84,62 @@ impl Crew {
     }
 }
 
-/// A member for each list of hints, with room for all failures.
+/// A member for each queue of freed actions, with room for all failures.
 fn members_with(
     alloc: Global,
-    hints: Vec<Worker<u32>>,
+    queues: Vec<Worker<u32>>,
     actions: usize,
 ) -> Result<Vec<Member>, AllocError>
     ensures { IfOk result (λ members. All (λ m. m.failures.items ≡ []) members.items) }
 {
-    let mut members = Vec::with_capacity(alloc, hints.len())?;
-    for own in hints {
+    let mut members = Vec::with_capacity(alloc, queues.len())?;
+    for freed in queues {
         let failures = Vec::with_capacity(alloc, actions)?;
+        let turn = members.len();
         members.push(Member {
-            hints: own,
+            hints: Hints { freed, turn },
             failures,
         })?;
     }
     Ok(members)
 }
 
-/// Deals out the actions that wait for nothing. A worker takes the last of its hints first, so the highest are dealt first.
-fn deal(checked: &Checked<'_>, hints: &mut [Worker<u32>]) {
-    let count = hints.len();
+/// Deals out the actions that wait for nothing, the lowest first.
+fn deal(checked: &Checked<'_>, shares: &mut [Worker<u32>]) {
+    let count = shares.len();
     if count == 0 {
         return;
     }
-    let actions = checked.action_count();
     let mut next = 0;
-    for back in 0..actions {
-        let i = actions - 1 - back;
+    for i in 0..checked.action_count() {
         if checked.preds(i).is_empty() {
             // A hint that finds no room is dropped: the sweep comes to its action.
-            let _ = hints[next].push(i);
+            let _ = shares[next].push(i);
             next = (next + 1) % count;
         }
     }
 }
 
-/// The next hint of a worker: its own last one, or else the first that another has.
-pub fn next_hint(own: &mut Worker<u32>, all: &[Stealer<u32>]) -> Option<u32> {
-    if let Some(hint) = own.pop() {
-        return Some(hint);
-    }
-    for other in all {
-        if let Steal::Success(hint) = other.steal() {
+impl Hints {
+    /// The next hint: the last action that the worker freed; or else the lowest of a share, where each look begins one
+    /// further; or else an action that another freed. So the shares stay in step however long one worker is busy, pieces
+    /// are staged nearly in order, and few commits have staged bytes at once.
+    pub fn next(&mut self, all: &[Queues]) -> Option<u32> {
+        if let Some(hint) = self.freed.pop() {
             return Some(hint);
         }
+        let (before, from) = all.split_at(self.turn.min(all.len()));
+        self.turn = before.len().wrapping_add(1) % all.len().max(1);
+        for queues in from.iter().chain(before) {
+            if let Steal::Success(hint) = queues.dealt.steal() {
+                return Some(hint);
+            }
+        }
+        for queues in all {
+            if let Steal::Success(hint) = queues.freed.steal() {
+                return Some(hint);
+            }
+        }
+        None
     }
-    None
 }

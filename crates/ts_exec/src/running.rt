@@ -6,16 +6,16 @@ ghost use Rattle.ts_board.specs.Calls.{IsPassOf, IsWhole, mine, seen};
 ghost use Rattle.ts_board.specs.Keys.{terms_of};
 ghost use Rattle.ts_board.specs.Terms.{commit_count, placed, terms_with};
 ghost use Rattle.ts_exec.specs.Failures.{setting_of};
-ghost use Rattle.ts_exec.specs.Outcomes.{IsOutcome};
+ghost use Rattle.ts_exec.specs.Outcomes.{IsOutcome, IsSteady, MisfitsAreUntold, WantMemoryAlone};
 ghost use Rattle.ts_exec.specs.Tidy.{IsTidy, Noted, Swept};
 
-use crate::crew::{Crew, Member};
+use crate::crew::{Crew, Member, Queues};
 use crate::crowd::work_at_once;
 use crate::fault::{ActFault, RunFault};
 use crate::gate::Gate;
 use crate::job::Job;
 use crate::outcome::{Outcome, results_of};
-use crossbeam_deque::{Stealer, Worker};
+use crossbeam_deque::Worker;
 use std::alloc::Global;
 use std::thread::Threads;
 use ts_board::{Board, Pass};
@@ -27,7 +27,7 @@ use ts_site::Site;
 fn work_and_sweep<R: Threads + Sync, S: Site, F: Folder + Sync, G: Gate + Sync>(
     rt: &R,
     job: &Job<'_, '_, S, F, G>,
-    stealers: &[Stealer<u32>],
+    queues: &[Queues],
     members: Vec<Member>,
     mut unread: Worker<u32>,
     pass: Pass<S>,
@@ -41,17 +41,22 @@ where
     requires fresh { All (λ m. m.failures.items ≡ []) members.items }
     ensures pass { IsPassOf job.now.board.now.table.shared.table_id (terms_of S.content job.now.board.now.table.shared.key) result.0 × IsWhole result.0 }
     ensures tidy { IsTidy job.now.checked.now.plan (mine result.0) }
-    ensures noted { Noted (setting_of S.failures F.tells F.lets job.now.checked.now job.now.first.now job.now.second.now (terms_of S.content job.now.board.now.table.shared.key).told) (mine result.0) result.1.items }
+    ensures noted { Noted (setting_of S.failures F.tells F.lets job.now.checked.now job.now.first.now job.now.second.now (terms_of S.content job.now.board.now.table.shared.key).told) (mine result.0) (seen result.0) result.1.items }
     ensures room { length result.1.items ≡ length job.now.checked.now.plan.actions }
     ensures swept { Swept job.now.checked.now.plan (length job.now.checked.now.plan.actions) (mine result.0) (seen result.0) }
 {
-    let (mut pass, mut faults) = work_at_once(rt, job, stealers, members, pass, faults);
+    let (mut pass, mut faults) = work_at_once(rt, job, queues, members, pass, faults);
     job.sweep(&mut pass, &mut unread, &mut faults);
     (pass, faults)
 }
 
-/// Carries out a checked plan by 1 to 64 workers. Pieces are read from the folders `first` and `second`; there is one site for
-/// each commit, in the order of the actions. A thread that can't start is done without.
+/// Carries out a checked plan by up to 64 workers; without any, each action is tried in order all the same. Pieces are read
+/// from the folders `first` and `second`; there is one site for each commit, in the order of the actions. A thread that can't
+/// start is done without.
+///
+/// Where both folders tell trees of the prints that the plan was checked with, nothing misfits, and each commit that is done has
+/// put in place just what its source's folder tells. Where sites, too, told what was checked, and nothing of theirs fails,
+/// actions fail for want of memory alone.
 ///
 /// # Errors
 ///
@@ -68,10 +73,11 @@ pub fn run<'a, R: Threads + Sync, S: Site, F: Folder + Sync, G: Gate + Sync>(
 ) -> Result<Outcome<S>, (Vec<S>, RunFault)>
 where
     F::File: Send,
-    requires some { 1 ≤ workers }
     requires few { workers ≤ 64 }
     requires sites { length sites.items ≡ commit_count checked.now.plan.actions }
     ensures outcome { IfOk result (λ o. let t = terms_with S.content checked.now.plan checked.now.first checked.now.second (placed checked.now.plan.actions sites.items) in IsOutcome S.content (setting_of S.failures F.tells F.lets checked.now first.now second.now t.told) t o.results.items (slots_items o.closed.row.words) (slots_items o.closed.row.slots)) }
+    ensures misfits { IfOk result (λ o. let t = terms_with S.content checked.now.plan checked.now.first checked.now.second (placed checked.now.plan.actions sites.items) in MisfitsAreUntold (setting_of S.failures F.tells F.lets checked.now first.now second.now t.told) o.results.items) }
+    ensures steady { IfOk result (λ o. let t = terms_with S.content checked.now.plan checked.now.first checked.now.second (placed checked.now.plan.actions sites.items) in IsSteady (setting_of S.failures F.tells F.lets checked.now first.now second.now t.told) → WantMemoryAlone o.results.items) }
     ensures ended { IfOk result (λ o. HasEnded checked.now (slots_items o.closed.row.words)) }
     ensures wide { IfOk result (λ o. (length checked.now.plan.actions ≤ slots_len o.closed.row.words) × (length checked.now.plan.actions ≤ slots_len o.closed.row.slots)) }
     ensures back { IfErr result (λ refused. refused.0.items ≡ sites.items) }
@@ -85,7 +91,7 @@ where
     };
     let Crew {
         members,
-        stealers,
+        queues,
         unread,
         faults,
         results,
@@ -99,15 +105,7 @@ where
         second,
         gate,
     };
-    let (pass, faults) = work_and_sweep(
-        rt,
-        &job,
-        stealers.as_slice(),
-        members,
-        unread,
-        pass,
-        faults,
-    );
+    let (pass, faults) = work_and_sweep(rt, &job, queues.as_slice(), members, unread, pass, faults);
     let closed = board.close(pass);
     let results = results_of(checked, &closed, faults.as_slice(), results);
     Ok(Outcome::new(results, closed))

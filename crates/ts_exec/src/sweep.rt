@@ -26,10 +26,10 @@ impl<'a, 'b, S: Site, F: Folder + Sync, G: Gate + Sync> Job<'a, 'b, S, F, G> {
         requires pass { IsPassOf self.now.board.now.table.shared.table_id (terms_of S.content self.now.board.now.table.shared.key) pass.old }
         requires tidy { IsTidy self.now.checked.now.plan (mine pass.old) }
         requires room { length faults.old.items ≡ length self.now.checked.now.plan.actions }
-        requires noted { Noted (setting_of S.failures F.tells F.lets self.now.checked.now self.now.first.now self.now.second.now (terms_of S.content self.now.board.now.table.shared.key).told) (mine pass.old) faults.old.items }
+        requires noted { Noted (setting_of S.failures F.tells F.lets self.now.checked.now self.now.first.now self.now.second.now (terms_of S.content self.now.board.now.table.shared.key).told) (mine pass.old) (seen pass.old) faults.old.items }
         ensures pass { IsPassOf self.now.board.now.table.shared.table_id (terms_of S.content self.now.board.now.table.shared.key) pass.new × IsSamePart pass.old pass.new }
         ensures tidy { IsTidy self.now.checked.now.plan (mine pass.new) }
-        ensures noted { Noted (setting_of S.failures F.tells F.lets self.now.checked.now self.now.first.now self.now.second.now (terms_of S.content self.now.board.now.table.shared.key).told) (mine pass.new) faults.new.items }
+        ensures noted { Noted (setting_of S.failures F.tells F.lets self.now.checked.now self.now.first.now self.now.second.now (terms_of S.content self.now.board.now.table.shared.key).told) (mine pass.new) (seen pass.new) faults.new.items }
         ensures room { length faults.new.items ≡ length self.now.checked.now.plan.actions }
         ensures swept { Swept self.now.checked.now.plan (length self.now.checked.now.plan.actions) (mine pass.new) (seen pass.new) }
     {
@@ -50,12 +50,12 @@ impl<'a, 'b, S: Site, F: Folder + Sync, G: Gate + Sync> Job<'a, 'b, S, F, G> {
         requires action { i < length self.now.checked.now.plan.actions }
         requires tidy { IsTidy self.now.checked.now.plan (mine pass.old) }
         requires room { length faults.old.items ≡ length self.now.checked.now.plan.actions }
-        requires noted { Noted (setting_of S.failures F.tells F.lets self.now.checked.now self.now.first.now self.now.second.now (terms_of S.content self.now.board.now.table.shared.key).told) (mine pass.old) faults.old.items }
+        requires noted { Noted (setting_of S.failures F.tells F.lets self.now.checked.now self.now.first.now self.now.second.now (terms_of S.content self.now.board.now.table.shared.key).told) (mine pass.old) (seen pass.old) faults.old.items }
         ensures pass { IsPassOf self.now.board.now.table.shared.table_id (terms_of S.content self.now.board.now.table.shared.key) pass.new × IsSamePart pass.old pass.new }
         ensures seen { StartsWith (seen pass.new) (seen pass.old) }
         ensures steps { (block : Run) × (mine pass.new ≡ mine pass.old ++ block) × IsTidy self.now.checked.now.plan block × ((k : ℕ) → Has block (finishes k) → k ≡ i) }
         ensures tried { Has (mine pass.new) (claims i) ⊎ ((mine pass.new ≡ mine pass.old) × (word_after self.now.checked.now.plan (seen pass.new) i ≢ 0)) }
-        ensures noted { Noted (setting_of S.failures F.tells F.lets self.now.checked.now self.now.first.now self.now.second.now (terms_of S.content self.now.board.now.table.shared.key).told) (mine pass.new) faults.new.items }
+        ensures noted { Noted (setting_of S.failures F.tells F.lets self.now.checked.now self.now.first.now self.now.second.now (terms_of S.content self.now.board.now.table.shared.key).told) (mine pass.new) (seen pass.new) faults.new.items }
         ensures room { length faults.new.items ≡ length self.now.checked.now.plan.actions }
     {
         if let Some(fault) = self.attempt(pass, i, unread) {

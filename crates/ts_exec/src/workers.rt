@@ -3,16 +3,16 @@ ghost use Rattle.std.specs.Prelude.{ℕ, List, ◌≡◌, ◌≢◌, ◌⊎◌, 
 ghost use Rattle.ts_board.specs.Calls.{HasPart, IsPassOf, IsSamePart, mine, seen};
 ghost use Rattle.ts_board.specs.Keys.{terms_of};
 ghost use Rattle.ts_board.specs.Runs.{StartsWith};
-ghost use Rattle.ts_exec.specs.Failures.{MayFail, setting_of};
+ghost use Rattle.ts_exec.specs.Failures.{AreTold, MayFail, setting_of};
 ghost use Rattle.ts_exec.specs.Tidy.{AreReleases, IsTidy, IsTry, Listed, Noted};
 ghost use Rattle.ts_model.specs.Plans.{Waits};
 ghost use Rattle.ts_model.specs.Runs.{Has, HasNot, Run, claims, finishes, releases, word_after};
 
-use crate::crew::{Failure, Member, next_hint};
+use crate::crew::{Failure, Member, Queues};
 use crate::fault::ActFault;
 use crate::gate::Gate;
 use crate::job::Job;
-use crossbeam_deque::{Stealer, Worker};
+use crossbeam_deque::Worker;
 use std::thread;
 use ts_board::Pass;
 use ts_folder::Folder;
@@ -36,9 +36,9 @@ impl<'a, 'b, S: Site, F: Folder + Sync, G: Gate + Sync> Job<'a, 'b, S, F, G> {
         requires tidy { IsTidy self.now.checked.now.plan (mine pass.old) }
         ensures pass { IsPassOf self.now.board.now.table.shared.table_id (terms_of S.content self.now.board.now.table.shared.key) pass.new × IsSamePart pass.old pass.new }
         ensures seen { StartsWith (seen pass.new) (seen pass.old) }
-        ensures steps { (block : Run) × (mine pass.new ≡ mine pass.old ++ block) × IsTry self.now.checked.now.plan i result block }
+        ensures steps { (block : Run) × (mine pass.new ≡ mine pass.old ++ block) × IsTry self.now.checked.now.plan i result block × AreTold (setting_of S.failures F.tells F.lets self.now.checked.now self.now.first.now self.now.second.now (terms_of S.content self.now.board.now.table.shared.key).told) (seen pass.new) block }
         ensures tried { Has (mine pass.new) (claims i) ⊎ ((mine pass.new ≡ mine pass.old) × (word_after self.now.checked.now.plan (seen pass.new) i ≢ 0)) }
-        ensures fault { IfSome result (MayFail (setting_of S.failures F.tells F.lets self.now.checked.now self.now.first.now self.now.second.now (terms_of S.content self.now.board.now.table.shared.key).told) i) }
+        ensures fault { IfSome result (MayFail (setting_of S.failures F.tells F.lets self.now.checked.now self.now.first.now self.now.second.now (terms_of S.content self.now.board.now.table.shared.key).told) (seen pass.new) i) }
     {
         let mut held = self.board.claim(pass, i)?;
         self.gate.pass(i);
@@ -74,13 +74,13 @@ impl<'a, 'b, S: Site, F: Folder + Sync, G: Gate + Sync> Job<'a, 'b, S, F, G> {
     }
 
     /// Follows hints until none has come for a while.
-    pub fn work(&self, stealers: &[Stealer<u32>], member: Member, pass: Pass<S>) -> Worked<S>
+    pub fn work(&self, queues: &[Queues], member: Member, pass: Pass<S>) -> Worked<S>
         requires pass { IsPassOf self.now.board.now.table.shared.table_id (terms_of S.content self.now.board.now.table.shared.key) pass }
         requires tidy { IsTidy self.now.checked.now.plan (mine pass) }
-        requires listed { Listed (setting_of S.failures F.tells F.lets self.now.checked.now self.now.first.now self.now.second.now (terms_of S.content self.now.board.now.table.shared.key).told) (mine pass) member.failures.items }
+        requires listed { Listed (setting_of S.failures F.tells F.lets self.now.checked.now self.now.first.now self.now.second.now (terms_of S.content self.now.board.now.table.shared.key).told) (mine pass) (seen pass) member.failures.items }
         ensures pass { IsPassOf self.now.board.now.table.shared.table_id (terms_of S.content self.now.board.now.table.shared.key) result.pass × IsSamePart pass result.pass }
         ensures tidy { IsTidy self.now.checked.now.plan (mine result.pass) }
-        ensures listed { Listed (setting_of S.failures F.tells F.lets self.now.checked.now self.now.first.now self.now.second.now (terms_of S.content self.now.board.now.table.shared.key).told) (mine result.pass) result.failures.items }
+        ensures listed { Listed (setting_of S.failures F.tells F.lets self.now.checked.now self.now.first.now self.now.second.now (terms_of S.content self.now.board.now.table.shared.key).told) (mine result.pass) (seen result.pass) result.failures.items }
     {
         let Member {
             mut hints,
@@ -93,10 +93,10 @@ impl<'a, 'b, S: Site, F: Folder + Sync, G: Gate + Sync> Job<'a, 'b, S, F, G> {
             if idle >= PATIENCE || worked.failures.len() >= worked.failures.capacity() {
                 return worked;
             }
-            match next_hint(&mut hints, stealers) {
+            match hints.next(queues) {
                 Some(i) => {
                     idle = 0;
-                    self.follow(&mut worked, i, &mut hints);
+                    self.follow(&mut worked, i, &mut hints.freed);
                 }
                 None => {
                     idle += 1;
@@ -113,19 +113,19 @@ impl<'a, 'b, S: Site, F: Folder + Sync, G: Gate + Sync> Job<'a, 'b, S, F, G> {
     }
 
     /// Tries the action of a hint, if there is one of this number.
-    fn follow(&self, worked: &mut Worked<S>, i: u32, hints: &mut Worker<u32>)
+    fn follow(&self, worked: &mut Worked<S>, i: u32, freed: &mut Worker<u32>)
         requires pass { IsPassOf self.now.board.now.table.shared.table_id (terms_of S.content self.now.board.now.table.shared.key) worked.old.pass }
         requires room { vec_len worked.old.failures < vec_capacity worked.old.failures }
         requires tidy { IsTidy self.now.checked.now.plan (mine worked.old.pass) }
-        requires listed { Listed (setting_of S.failures F.tells F.lets self.now.checked.now self.now.first.now self.now.second.now (terms_of S.content self.now.board.now.table.shared.key).told) (mine worked.old.pass) worked.old.failures.items }
+        requires listed { Listed (setting_of S.failures F.tells F.lets self.now.checked.now self.now.first.now self.now.second.now (terms_of S.content self.now.board.now.table.shared.key).told) (mine worked.old.pass) (seen worked.old.pass) worked.old.failures.items }
         ensures pass { IsPassOf self.now.board.now.table.shared.table_id (terms_of S.content self.now.board.now.table.shared.key) worked.new.pass × IsSamePart worked.old.pass worked.new.pass }
         ensures tidy { IsTidy self.now.checked.now.plan (mine worked.new.pass) }
-        ensures listed { Listed (setting_of S.failures F.tells F.lets self.now.checked.now self.now.first.now self.now.second.now (terms_of S.content self.now.board.now.table.shared.key).told) (mine worked.new.pass) worked.new.failures.items }
+        ensures listed { Listed (setting_of S.failures F.tells F.lets self.now.checked.now self.now.first.now self.now.second.now (terms_of S.content self.now.board.now.table.shared.key).told) (mine worked.new.pass) (seen worked.new.pass) worked.new.failures.items }
     {
         if i >= self.checked.action_count() {
             return;
         }
-        if let Some(fault) = self.attempt(&mut worked.pass, i, hints) {
+        if let Some(fault) = self.attempt(&mut worked.pass, i, freed) {
             worked.failures.push_reserved(Failure { action: i, fault });
         }
     }

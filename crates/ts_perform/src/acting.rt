@@ -7,6 +7,7 @@ ghost use Rattle.ts_board.specs.Terms.{commit_count};
 use crate::answers::write_fault;
 use crate::disk::Disk;
 use crate::fault::PerformFault;
+use crate::room::{largest_commit, workers_with_room};
 use std::alloc::Global;
 use std::fs::Files;
 use std::thread::Threads;
@@ -24,7 +25,7 @@ use ts_text::Sink;
 /// The exit status where an action failed, or the archive couldn't be written.
 const FAILED: u8 = 2;
 
-/// Carries out a checked plan by so many workers.
+/// Carries out a checked plan by so many workers, or fewer where commits are large.
 pub(crate) fn act<R>(
     rt: &R,
     pair: &Pair<'_>,
@@ -41,6 +42,7 @@ where
     ensures ended { IfOk result (λ o. HasEnded checked.now (slots_items o.closed.row.words)) }
 {
     let alloc = rt.alloc();
+    let workers = workers_with_room(largest_commit(checked), workers);
     let sites = sites(rt, pair, checked)?;
     let first = rt.folder(alloc, pair.first)?;
     let second = rt.folder(alloc, pair.second)?;

@@ -7,6 +7,7 @@ pub mod disk;
 pub mod fault;
 mod inputs;
 pub mod performing;
+mod room;
 mod running;
 
 pub use disk::Disk;

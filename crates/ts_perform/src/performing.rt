@@ -77,7 +77,7 @@ where
             write_all(out, text.as_bytes())?;
             Ok(0)
         }
-        Job::Trial => answer_bundle(rt.alloc(), input, out),
+        Job::Trial => answer_bundle(rt, input, out, workers),
         Job::Scan { folder } => print_scan(rt, folder, workers, out),
         Job::Show { archive } => show(rt, archive, out),
         Job::Plan { pair } => plan(rt, pair, workers, out),
@@ -88,16 +88,20 @@ where
 }
 
 /// Answers a bundle.
-fn answer_bundle<I: Source + Drop, O: Sink>(
-    alloc: Global,
+fn answer_bundle<R: AllocGlobal + Threads + Sync, I: Source + Drop, O: Sink>(
+    rt: &R,
     input: I,
     out: &mut O,
+    workers: u32,
 ) -> Result<u8, PerformFault>
+    requires some { 1 ≤ workers }
+    requires few { workers ≤ 64 }
     ensures answered { IfSome (I.holds input) (λ bytes. HasContentsApart bytes → WritesOne (Trial bytes) (O.holds out.old) (O.holds out.new) result) }
     ensures quiet { IfErr result IsQuiet }
 {
+    let alloc = rt.alloc();
     match Lines::new(alloc, input) {
-        Ok(mut lines) => Ok(trial(alloc, &mut lines, out)?),
+        Ok(mut lines) => Ok(trial(rt, alloc, &mut lines, out, workers)?),
         // nothing was read yet, so it is want of memory
         Err(_) => Err(PerformFault::OutOfMemory),
     }

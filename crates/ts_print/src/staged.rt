@@ -9,7 +9,7 @@ ghost use Rattle.ts_print.specs.Assemblies.{HasSoFar, IsComplete, assembly_of, b
 use crate::fault::PrintFault;
 use crate::stamps::{are_bytes, have_stamps};
 use crate::sub_print::SubPrint;
-use std::alloc::Global;
+use std::alloc::{AllocError, Global};
 use std::marker::Model;
 use std::mem;
 use ts_model::items::Items;
@@ -94,8 +94,9 @@ impl Staged {
         let Some(index) = find(&self.made, &rest) else {
             unreachable!();
         };
+        let whole = whole_size(self.wanted.rows(), index);
         let row = &mut self.made[index];
-        add_bytes(alloc, &mut row.content, offset, bytes)
+        add_bytes(alloc, &mut row.content, whole, offset, bytes)
     }
 
     /// Whether each file fits its stamp, in size and in digest. It takes no memory.
@@ -187,10 +188,23 @@ fn size_at(rows: &[Row<Items<u8>>], path: &Path) -> Option<u64>
     }
 }
 
-/// Puts bytes at the end of a file of `offset` bytes. At a refusal nothing changes, and the bytes come back.
+/// The size that the file of a row is to have in the end. It only says how much room is made.
+fn whole_size(wanted: &[Row<Stamp>], index: usize) -> u64 {
+    match wanted.get(index) {
+        Some(row) => match &row.content {
+            Content::File(stamp) => stamp.size,
+            Content::Absent | Content::Dir => 0,
+        },
+        None => 0,
+    }
+}
+
+/// Puts bytes at the end of a file of `offset` bytes, which has room for the `whole` size from its second part on. At a
+/// refusal nothing changes, and the bytes come back.
 fn add_bytes(
     alloc: Global,
     content: &mut Content<Items<u8>>,
+    whole: u64,
     offset: u64,
     bytes: Vec<u8>,
 ) -> Result<(), Vec<u8>>
@@ -210,7 +224,11 @@ fn add_bytes(
     }
     let mut had = mem::replace(file, Items::new(Vec::new(alloc))).into_vec();
     let mut bytes = bytes;
-    let added = had.append(&mut bytes);
+    let room = whole.saturating_sub(offset) as usize;
+    let added = match had.reserve_exact(room) {
+        Ok(()) => had.append(&mut bytes),
+        Err(_) => Err(AllocError),
+    };
     *file = Items::new(had);
     if added.is_err() {
         return Err(bytes);

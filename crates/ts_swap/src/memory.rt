@@ -35,6 +35,7 @@ impl MemPlaces {
     pub fn new(alloc: Global, target: SubTable<Items<u8>>, fails: Vec<bool>, blind: bool) -> Self
         ensures spots { spots_in result ≡ record { target = target; new = []; old = [] } }
         ensures failures { result.failures ≡ 0 }
+        ensures told { (result.fails ≡ fails) × (result.blind ≡ blind) }
     {
         MemPlaces {
             alloc,

@@ -5,6 +5,7 @@ ghost use Rattle.ts_model.specs.Swap as model;
 ghost use Rattle.ts_model.specs.Trees.{IsSubListing};
 ghost use Rattle.ts_model.specs.declared.row.Row.{Row};
 ghost use Rattle.ts_swap.specs.Leavings.{Does, FailedOnce, Grows, HasFailed, IsBack, IsInSwap, IsOriginal, IsPut, IsSetAside, IsSettled, KeepsOthers, Looks, OnSpots, Recovers, Replaces, Stumbles, Tells};
+ghost use Rattle.ts_swap.specs.declared.places.Spot.{Spot};
 ghost use Rattle.ts_swap.specs.declared.places.Spot.TheVariants as spot;
 
 use crate::places::{Failed, Places, Spot};
@@ -123,8 +124,12 @@ fn put_in_place<P: Places>(places: &mut P, wanted: bool, had: bool) -> Result<()
 }
 
 /// Undoes or ends a replacement that was stopped or failed: the target is then the original or the new tree, whole, and
-/// nothing lies at the other spots. It may itself be called again after a failure or a stop.
+/// nothing lies at the other spots. It fails only where a look or a call failed, and may itself be called again after a
+/// failure or a stop.
+#[tactic(auto, using(crate::proofs::Counting::grown, crate::proofs::Counting::still_grown))]
 pub fn recover<P: Places>(places: &mut P) -> Result<(), Failed>
+    ensures counted { IfOk result (λ _. P.failures places.new ≡ P.failures places.old) }
+    ensures fault { IsErr result → ((at : Spot) × P.hides places.old at) ⊎ HasFailed (P.failures places.old) (P.failures places.new) }
     ensures recovered { Recovers (P.spots places.old) (P.spots places.new) result }
     ensures settled { IsOk result → (original tree : List (Row (List ℕ))) → OnSpots (λ s left. IsInSwap original tree s → IsSettled original tree left) (P.spots places.old) (P.spots places.new) }
     ensures again { (original tree : List (Row (List ℕ))) → OnSpots (λ s left. IsInSwap original tree s → IsInSwap original tree left) (P.spots places.old) (P.spots places.new) }
@@ -136,9 +141,11 @@ pub fn recover<P: Places>(places: &mut P) -> Result<(), Failed>
 }
 
 /// Makes the calls of recovery, by what lies where.
+#[tactic(auto, using(crate::proofs::Counting::grown, crate::proofs::Counting::still_grown))]
 fn tidy<P: Places>(places: &mut P, target: bool, new: bool, old: bool) -> Result<(), Failed>
     requires { IfSome (P.spots places.old) (Looks target new old) }
-    ensures { MatchResult result (λ _. OnSpots (Does (recovery target new old)) (P.spots places.old) (P.spots places.new)) (λ _. OnSpots (Stumbles (recovery target new old)) (P.spots places.old) (P.spots places.new)) }
+    ensures counted { MatchResult result (λ _. P.failures places.new ≡ P.failures places.old) (λ _. HasFailed (P.failures places.old) (P.failures places.new)) }
+    ensures done { MatchResult result (λ _. OnSpots (Does (recovery target new old)) (P.spots places.old) (P.spots places.new)) (λ _. OnSpots (Stumbles (recovery target new old)) (P.spots places.old) (P.spots places.new)) }
 {
     if !target && new && old {
         places.rename(Spot::Old, Spot::Target)?;

@@ -4,9 +4,9 @@ ghost use Rattle.ts_trial.specs.Faults.{fault_number};
 use std::alloc::{AllocError, AllocFailed};
 use thiserror::Error;
 use ts_bundle::BundleFault;
-use ts_carry::CarryFault;
 use ts_print::PrintFault;
 use ts_text::TextFault;
+use ts_through::ThroughFault;
 
 /// Why `trial` ended without an answer.
 #[derive(Clone, Copy, Debug, PartialEq, Eq, Error)]
@@ -52,13 +52,13 @@ impl<T: Drop> From<AllocFailed<T>> for TrialFault {
 }
 
 /// A plan that is carried out meets want of memory alone.
-impl From<CarryFault> for TrialFault {
+impl From<ThroughFault> for TrialFault {
     ghost use Rattle.std.specs.Prelude.{◌≡◌};
     ghost use Rattle.ts_trial.specs.declared.fault.TrialFault.TheVariants.{OutOfMemory};
 
     ghost from_gives = { λ _ e. e ≡ OutOfMemory };
 
-    fn from(_fault: CarryFault) -> TrialFault {
+    fn from(_fault: ThroughFault) -> TrialFault {
         TrialFault::OutOfMemory
     }
 }

@@ -1,8 +1,8 @@
 use crate::trial;
-use std::alloc::Global;
 use std::io;
 use std::io::{ErrorKind, Read, Write};
 use std::test::Fail;
+use std::thread::Threads;
 use ts_text::{Counted, Lines};
 
 /// The first replica has a new file.
@@ -26,6 +26,9 @@ total 1 done 0 skipped 1 failed 0 blocked 0\n";
 /// The plan leaves out what the first replica has new.
 const LEFT_OUT: &[u8] =
     b"twosync-bundle 1\narchive\nfirst\nf /a 1\nx 61\nsecond\nholds\nplan\ntwosync-plan 1\nend 0 0\n";
+
+/// More than one, so that they meet.
+const WORKERS: u32 = 2;
 
 /// Gives at most `step` bytes a call, and fails once no more than `fails_at` bytes are left.
 #[derive(Drop)]
@@ -73,13 +76,14 @@ impl Write for Tight {
 
 /// What is written for a bundle that comes in pieces of `step` bytes and fails with `fails_at` bytes left, by a
 /// writer of that room; with the status, or the fault's number and 100.
-fn answered(
-    alloc: Global,
+fn answered<R: AllocGlobal + Threads + Sync>(
+    rt: &R,
     bundle: &[u8],
     step: usize,
     fails_at: Option<usize>,
     room: usize,
 ) -> Result<(Vec<u8>, u8), Fail> {
+    let alloc = rt.alloc();
     let drip = Drip {
         left: bundle,
         step,
@@ -91,7 +95,7 @@ fn answered(
         room,
         step,
     });
-    let status = match trial(alloc, &mut reader, &mut writer) {
+    let status = match trial(rt, alloc, &mut reader, &mut writer, WORKERS) {
         Ok(status) => status,
         Err(fault) => 100 + fault.number(),
     };
@@ -110,7 +114,7 @@ fn answers_each_kind_of_bundle(rt: HostRuntime) -> Result<(), Fail> {
     ];
     for (bundle, want, status) in cases {
         for step in [1, 7, 100_000] {
-            let got = answered(rt.alloc(), bundle, step, None, usize::MAX)?;
+            let got = answered(&rt, bundle, step, None, usize::MAX)?;
             assert!(rt; got.0.as_slice() == want, "by {step}: {got:?}");
             assert_eq!(rt; got.1, status, "by {step}");
         }
@@ -122,7 +126,7 @@ fn answers_each_kind_of_bundle(rt: HostRuntime) -> Result<(), Fail> {
 fn nothing_is_written_where_the_reader_fails(rt: HostRuntime) -> Result<(), Fail> {
     for bundle in [NEW_FILE, BOTH_CHANGED, LEFT_OUT] {
         for left in 0..=bundle.len() {
-            let got = answered(rt.alloc(), bundle, 1, Some(left), usize::MAX)?;
+            let got = answered(&rt, bundle, 1, Some(left), usize::MAX)?;
             assert_eq!(rt; got.1, 105, "{left} bytes are lost");
             assert!(rt; got.0.is_empty(), "{left} bytes are lost: {got:?}");
         }
@@ -140,14 +144,14 @@ fn a_beginning_is_written_where_the_writer_fails(rt: HostRuntime) -> Result<(), 
     ];
     for (bundle, want, status) in cases {
         for room in 0..want.len() {
-            let got = answered(rt.alloc(), bundle, 3, None, room)?;
+            let got = answered(&rt, bundle, 3, None, room)?;
             assert_eq!(rt; got.1, 105, "room for {room}");
             assert!(rt;
                 got.0.as_slice() == &want[..room],
                 "room for {room}: {got:?}"
             );
         }
-        let got = answered(rt.alloc(), bundle, 3, None, want.len())?;
+        let got = answered(&rt, bundle, 3, None, want.len())?;
         assert_eq!(rt; got.1, status, "room for all");
     }
     Ok(())

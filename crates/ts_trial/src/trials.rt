@@ -1,8 +1,6 @@
-ghost use Rattle.std.specs.Prelude.{◌≡◌, ◌≢◌, ◌∷◌, ◌++◌, ℕ, [], IfErr, IfOk, IfSome, OnOk, min};
+ghost use Rattle.std.specs.Prelude.{◌≡◌, ◌≢◌, ◌≤◌, ◌∷◌, ◌++◌, ℕ, [], IfErr, IfOk, IfSome, OnOk, min};
 ghost use Rattle.ts_bundle.specs.Bundles.{values};
 ghost use Rattle.ts_model.specs.Headline.{Meets};
-ghost use Rattle.ts_model.specs.Plans.{Valid};
-ghost use Rattle.ts_model.specs.Sync.{listed_snapshot};
 ghost use Rattle.ts_model.specs.Texts.{IsBundle, text};
 ghost use Rattle.ts_model.specs.Trees.{AreApart, at, print_of};
 ghost use Rattle.ts_model.specs.Trial.{HasContentsApart, Trial, skipped_count};
@@ -13,31 +11,36 @@ ghost use Rattle.ts_trial.specs.declared.fault.TrialFault.TheVariants.{OutOfMemo
 
 use crate::fault::TrialFault;
 use std::alloc::Global;
+use std::thread::Threads;
 use ts_bundle::{Bundle, BundleFault, count_skipped, decode, write_result};
-use ts_carry::carry_out;
-use ts_check::{CheckFault, check};
+use ts_check::{CheckFault, Checked, check};
 use ts_model::plan::{Entry, PlanRule};
 use ts_print::Print;
 use ts_text::{Lines, Sink, Source, push_decimal, write_line};
+use ts_through::carry_through;
 
 /// The exit status of a refusal.
 pub const REFUSED: u8 = 3;
 
-/// Answers a bundle: all that the reader has left. Reads it to its end, checks its plan and carries it out, and writes
-/// the result text, or the line `malformed` where the bytes are no bundle, or `refused <rule> <place>` where the plan
+/// Answers a bundle: all that the reader has left. Reads it to its end, checks its plan, lets 1 to 64 workers carry it out, and
+/// writes the result text, or the line `malformed` where the bytes are no bundle, or `refused <rule> <place>` where the plan
 /// isn't valid. The answer is the exit status: 0, or 1 where an entry is skipped, or 3 for a refusal.
 ///
 /// A fault comes only from the reader, the writer or want of memory, and after it a beginning of the text was written.
-pub fn trial<R: Source, W: Sink>(
+pub fn trial<T: Threads + Sync, R: Source, W: Sink>(
+    rt: &T,
     alloc: Global,
     reader: &mut Lines<R>,
     writer: &mut W,
+    workers: u32,
 ) -> Result<u8, TrialFault>
+    requires some { 1 ≤ workers }
+    requires few { workers ≤ 64 }
     ensures answered { IfSome reader.old.left (λ bytes. HasContentsApart bytes → WritesOne (Trial bytes) (W.holds writer.old) (W.holds writer.new) result) }
     ensures cause { HasCause reader.old reader.new (W.failures writer.old) (W.failures writer.new) result }
 {
     match decode(alloc, reader) {
-        Ok(bundle) => answer(alloc, &bundle, writer),
+        Ok(bundle) => answer(rt, alloc, &bundle, writer, workers),
         Err(BundleFault::Malformed) => refuse(b"malformed", writer),
         Err(BundleFault::OutOfMemory) => Err(TrialFault::OutOfMemory),
         Err(BundleFault::Failed) => Err(TrialFault::Failed),
@@ -45,8 +48,16 @@ pub fn trial<R: Source, W: Sink>(
 }
 
 /// Checks a bundle's plan, carries it out, and writes the result.
-fn answer<W: Sink>(alloc: Global, bundle: &Bundle, writer: &mut W) -> Result<u8, TrialFault>
-    requires { IsBundle (values bundle.now) }
+fn answer<T: Threads + Sync, W: Sink>(
+    rt: &T,
+    alloc: Global,
+    bundle: &Bundle,
+    writer: &mut W,
+    workers: u32,
+) -> Result<u8, TrialFault>
+    requires bundle { IsBundle (values bundle.now) }
+    requires some { 1 ≤ workers }
+    requires few { workers ≤ 64 }
     ensures answered { AreApart (Meets (at bundle.now.first) (at bundle.now.second) []) → WritesOne (AnswersBundle (values bundle.now)) (W.holds writer.old) (W.holds writer.new) result }
     ensures failures { FailuresFit (W.failures writer.old) (W.failures writer.new) result }
 {
@@ -60,42 +71,38 @@ fn answer<W: Sink>(alloc: Global, bundle: &Bundle, writer: &mut W) -> Result<u8,
         &second,
         &bundle.holds,
     ) {
-        Ok(_) => settle(alloc, bundle, &first, &second, writer),
+        Ok(checked) => settle(rt, alloc, bundle, &checked, writer, workers),
         Err(CheckFault::Broken { rule, place }) => refuse_plan(alloc, rule, place, writer),
         Err(CheckFault::OutOfMemory) => Err(TrialFault::OutOfMemory),
     }
 }
 
-/// Carries out a valid plan, and writes the result.
-fn settle<W: Sink>(
+/// Carries out a bundle's checked plan, and writes the result.
+fn settle<T: Threads + Sync, W: Sink>(
+    rt: &T,
     alloc: Global,
     bundle: &Bundle,
-    first: &Print,
-    second: &Print,
+    checked: &Checked<'_>,
     writer: &mut W,
+    workers: u32,
 ) -> Result<u8, TrialFault>
     requires bundle { IsBundle (values bundle.now) }
-    requires first { at first.now ≡ print_of (at bundle.now.first) }
-    requires second { at second.now ≡ print_of (at bundle.now.second) }
-    requires valid { Valid (listed_snapshot bundle.now.archive first.now second.now bundle.now.holds) bundle.now.plan }
+    requires same { checked.now ≡ record { plan = bundle.now.plan; archive = bundle.now.archive; first = checked.now.first; second = checked.now.second; rules = bundle.now.holds } }
+    requires first { at checked.now.first ≡ print_of (at bundle.now.first) }
+    requires second { at checked.now.second ≡ print_of (at bundle.now.second) }
+    requires some { 1 ≤ workers }
+    requires few { workers ≤ 64 }
     ensures answered { AreApart (Meets (at bundle.now.first) (at bundle.now.second) []) → WritesOne (AnswersBundle (values bundle.now)) (W.holds writer.old) (W.holds writer.new) result }
     ensures failures { FailuresFit (W.failures writer.old) (W.failures writer.new) result }
 {
-    let outcome = carry_out(
-        alloc,
-        &bundle.plan,
-        &bundle.archive,
-        &bundle.first,
-        &bundle.second,
-        first,
-        second,
-    )?;
+    let _plan = checked.plan();
+    let carried = carry_through(rt, alloc, checked, &bundle.first, &bundle.second, workers)?;
     let entries = bundle.plan.entries.as_slice();
     write_result(
         alloc,
-        outcome.first.rows(),
-        outcome.second.rows(),
-        outcome.archive.rows(),
+        carried.first.rows(),
+        carried.second.rows(),
+        carried.archive.rows(),
         entries,
         writer,
     )?;

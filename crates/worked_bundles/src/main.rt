@@ -1,15 +1,10 @@
 //! Runs `trial` on the worked bundles of the folder `data`, and says of each whether its answer and its status are
-//! those that stand beside it; where there is a plan to carry out, also whether the executor leaves the same with 1, 2 and
-//! 64 workers. Bundles that are kept packed are left to `tests/worked_bundles.sh`.
+//! those that stand beside it, with 1, 2 and 64 workers. Bundles that are kept packed are left to `tests/worked_bundles.sh`.
 #![tactic(auto)]
 
-ghost use Rattle.std.specs.Prelude.{◌≡◌, ◌↔◌, IsTrue};
-
-mod executed;
+ghost use Rattle.std.specs.Prelude.{◌≡◌, ◌≤◌, ◌↔◌, IsTrue};
 
 use anyhow::{Context, Result, bail};
-use executed::executed;
-use std::alloc::Global;
 use std::fs;
 use std::rt::Files;
 use std::thread::Threads;
@@ -46,28 +41,19 @@ fn wanted<R: Files + AllocGlobal>(rt: &R, name: &str, level: &str, status: &str)
     Ok(Answer { text, status })
 }
 
-/// The answer of `trial`.
-fn answered(alloc: Global, bundle: &[u8]) -> Result<Answer> {
-    let mut writer = Counted::new(Vec::new(alloc));
-    let mut reader = Lines::new(alloc, Counted::new(bundle))?;
-    let status = trial(alloc, &mut reader, &mut writer)?;
-    let text = writer.into_inner();
-    Ok(Answer { text, status })
-}
-
-/// Whether a bundle's plan was carried out, where it is known, and each number of workers left what is wanted.
-fn is_executed<R>(rt: &R, bundle: &[u8], want: &Answer) -> Option<bool>
+/// The answer of `trial` with so many workers.
+fn answered<R>(rt: &R, bundle: &[u8], workers: u32) -> Result<Answer>
 where
     R: AllocGlobal + Threads + Sync,
+    requires some { 1 ≤ workers }
+    requires few { workers ≤ 64 }
 {
-    let mut verdict = None;
-    for workers in [1, 2, 64] {
-        if let Some(text) = executed(rt, bundle, workers) {
-            let same = text.as_slice() == want.text.as_slice();
-            verdict = Some(same && verdict != Some(false));
-        }
-    }
-    verdict
+    let alloc = rt.alloc();
+    let mut writer = Counted::new(Vec::new(alloc));
+    let mut reader = Lines::new(alloc, Counted::new(bundle))?;
+    let status = trial(rt, alloc, &mut reader, &mut writer, workers)?;
+    let text = writer.into_inner();
+    Ok(Answer { text, status })
 }
 
 /// What is said of a bundle.
@@ -77,16 +63,14 @@ where
 {
     let file = format!(in rt.alloc(); "{name}.in")?;
     let bundle = fs::read(rt, file.as_str())?;
-    let got = answered(rt.alloc(), bundle.as_slice())?;
     let want = wanted(rt, name, level, status)?;
-    if !is_same(&got, &want) {
-        return Ok("WRONG");
+    for workers in [1, 2, 64] {
+        let got = answered(rt, bundle.as_slice(), workers)?;
+        if !is_same(&got, &want) {
+            return Ok("WRONG");
+        }
     }
-    match is_executed(rt, bundle.as_slice(), &want) {
-        None => Ok("as wanted"),
-        Some(true) => Ok("as wanted, by 1, 2 and 64 workers too"),
-        Some(false) => Ok("WRONG by workers"),
-    }
+    Ok("as wanted")
 }
 
 fn main(rt: HostRuntime) -> Result<()> {

@@ -1,12 +1,15 @@
-use Rattle.std.proofs.Common.{length, sym, ap, ◌∙◌}
-use Rattle.ts_board.specs.Terms.{commit_count}
-use Rattle.board_cases.proofs.Working.{one_commit, three}
+use Rattle.std.proofs.Common.{sym, ◌∙◌}
+use Rattle.board_cases.proofs.Working.{worked_commits, worked_inside, worked_task}
 use Rattle.board_cases.proofs.flow.worked_case.Goals as goal
 
 pub opened-requires-after_bounds : goal.opened-requires-after_bounds
-opened-requires-after_bounds g c κs within = c.requires.one ∙ sym (ap commit_count c.requires.actions ∙ one_commit c.args.piece.now)
+opened-requires-after_bounds g c κs within = let w = c.requires.actions in c.requires.one ∙ sym (worked_commits c.args.checked.now.plan w.0 w.1)
 
 pub invariant_of-desk : goal.invariant_of-desk
-invariant_of-desk g c =
-    let from = c.in_ok-board.ensures.from in
-    record { plan = from.0; first = from.1; second = from.2; actions = c.requires.actions; three = ap length c.requires.actions ∙ three c.args.piece.now }
+invariant_of-desk g c = let from = c.in_ok-board.ensures.from in record { plan = from.0; first = from.1; second = from.2 }
+
+pub copied-pass-requires-clause-file : goal.copied-pass-requires-clause-file
+copied-pass-requires-clause-file g c κs within = let w = c.requires.actions in worked_task c.args.checked.now.plan w.0 w.1
+
+pub ended-requires-clause-inside : goal.ended-requires-clause-inside
+ended-requires-clause-inside g c κs within = let w = c.requires.actions in worked_inside c.args.checked.now.plan w.0 w.1

@@ -1,5 +1,5 @@
 use Rattle.std.proofs.Common.{◌<◌, length}
 use Rattle.ts_exec.proofs.crew.deal.Given as goal
 
-abbrev pub invariant-loop-back : goal.invariant-loop-back
-invariant-loop-back l = l.next < length l.hints
+abbrev pub invariant-loop-i : goal.invariant-loop-i
+invariant-loop-i l = l.next < length l.shares

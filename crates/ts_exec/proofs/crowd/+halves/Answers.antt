@@ -1,4 +1,4 @@
-use Rattle.std.proofs.Common.{rules, ◌≡◌, List, [], refl}
+use Rattle.std.proofs.Common.{rules, ◌≡◌, [], refl}
 use Rattle.std.specs.Thread.{IsSend, IsSync}
 use denote.Param.{param}
 use denote.Param.Send.{sendable}
@@ -42,7 +42,7 @@ join-worked-requires-after_bounds g t c κs within =
     let popped = All-pop (λ (m : Member). m.failures.items ≡ []) c.args.members.items c.pop.new.self.items c.pop.result c.pop.ensures.items c.requires.fresh in
     let empty = of_popped (λ (m : Member). m.failures.items ≡ []) c.args.members.items c.pop.new.self.items c.pop.result c.in-Some.member c.pop.ensures.items c.in-Some.is c.requires.fresh in
     let list = fresh_list id terms x c.in-Ok.halves.1 c.in-Some.member.failures.items c.in-Ok.ensures.second c.in-Ok.ensures.mine.1 empty in
-    let notes = same_notes id terms x c.args.pass c.in-Ok.halves.0 c.args.faults.items c.in-Ok.ensures.first c.in-Ok.ensures.mine.0 c.requires.notes in
+    let notes = same_notes id terms x c.args.pass c.in-Ok.halves.0 c.args.faults.items c.in-Ok.ensures.first c.in-Ok.ensures.seen.0 c.in-Ok.ensures.mine.0 c.requires.notes in
     let fresh = popped.0 in
     search rules parts 30
 

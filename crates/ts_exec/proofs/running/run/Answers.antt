@@ -1,6 +1,6 @@
-use Rattle.std.proofs.Common.{◌≡◌, List, Option, refl, sym, subst}
+use Rattle.std.proofs.Common.{List, Option, refl, sym, subst}
 use Rattle.std.specs.Mem.Slots.{slots_items}
-use Rattle.ts_board.specs.Calls.{mine}
+use Rattle.ts_board.specs.Calls.{mine, seen}
 use Rattle.ts_board.specs.Keys.{terms_of}
 use Rattle.ts_board.specs.Terms.{placed, terms_with}
 use Rattle.ts_board.specs.declared.board.Closed.{Closed}
@@ -11,6 +11,7 @@ use Rattle.ts_exec.specs.Tidy.{Noted}
 use Rattle.ts_exec.specs.declared.fault.ActFault.{ActFault}
 use Rattle.ts_exec.specs.declared.outcome.ActionResult.{ActionResult}
 use Rattle.ts_exec.proofs.Ending.{end, outcome}
+use Rattle.ts_exec.proofs.Misfits.{misfits_untold, want_memory_alone}
 use Rattle.ts_exec.proofs.running.run.Goals as goal
 
 pub results_of-results-requires-clause-end : goal.results_of-results-requires-clause-end
@@ -19,7 +20,7 @@ results_of-results-requires-clause-end g c κs within = (
   end g.S.Site.content g.S.Site.failures g.F.Folder.tells g.F.Folder.lets c.args.checked.now c.plan-plan.ensures.valid c.args.first.now c.args.second.now
       (terms_of g.S.Site.content c.in-Ok-open.opened.0.table.shared.key) (terms_with g.S.Site.content c.args.checked.now.plan c.args.checked.now.first c.args.checked.now.second (placed c.args.checked.now.plan.actions c.args.sites.items)) c.in-Ok-open.ensures.board (refl, refl, refl)
       c.work_and_sweep-pass.result.0 (slots_items c.close-closed.result.row.words) (slots_items c.close-closed.result.row.slots) c.as_slice-2.result.now
-      c.close-closed.ensures.ends c.work_and_sweep-pass.ensures.pass.1 c.work_and_sweep-pass.ensures.tidy (subst (λ (f : List (Option ActFault)). Noted (setting_of g.S.Site.failures g.F.Folder.tells g.F.Folder.lets c.args.checked.now c.args.first.now c.args.second.now (terms_of g.S.Site.content c.in-Ok-open.opened.0.table.shared.key).told) (mine c.work_and_sweep-pass.result.0) f) (sym c.as_slice-2.ensures.value) c.work_and_sweep-pass.ensures.noted) c.work_and_sweep-pass.ensures.swept,
+      c.close-closed.ensures.ends c.work_and_sweep-pass.ensures.pass.1 c.work_and_sweep-pass.ensures.tidy (subst (λ (f : List (Option ActFault)). Noted (setting_of g.S.Site.failures g.F.Folder.tells g.F.Folder.lets c.args.checked.now c.args.first.now c.args.second.now (terms_of g.S.Site.content c.in-Ok-open.opened.0.table.shared.key).told) (mine c.work_and_sweep-pass.result.0) (seen c.work_and_sweep-pass.result.0) f) (sym c.as_slice-2.ensures.value) c.work_and_sweep-pass.ensures.noted) c.work_and_sweep-pass.ensures.swept,
 )
 
 pub returns-clause-outcome : goal.returns-clause-outcome
@@ -29,11 +30,11 @@ returns-clause-outcome g c =
     let is_end = end g.S.Site.content g.S.Site.failures g.F.Folder.tells g.F.Folder.lets c.args.checked.now c.plan-plan.ensures.valid c.args.first.now c.args.second.now
     (terms_of g.S.Site.content c.in-Ok-open.opened.0.table.shared.key) opened c.in-Ok-open.ensures.board (refl, refl, refl)
     c.work_and_sweep-pass.result.0 (slots_items c.close-closed.result.row.words) (slots_items c.close-closed.result.row.slots) c.as_slice-2.result.now
-    c.close-closed.ensures.ends c.work_and_sweep-pass.ensures.pass.1 c.work_and_sweep-pass.ensures.tidy (subst (λ (f : List (Option ActFault)). Noted (setting_of g.S.Site.failures g.F.Folder.tells g.F.Folder.lets c.args.checked.now c.args.first.now c.args.second.now (terms_of g.S.Site.content c.in-Ok-open.opened.0.table.shared.key).told) (mine c.work_and_sweep-pass.result.0) f) (sym c.as_slice-2.ensures.value) c.work_and_sweep-pass.ensures.noted) c.work_and_sweep-pass.ensures.swept in
+    c.close-closed.ensures.ends c.work_and_sweep-pass.ensures.pass.1 c.work_and_sweep-pass.ensures.tidy (subst (λ (f : List (Option ActFault)). Noted (setting_of g.S.Site.failures g.F.Folder.tells g.F.Folder.lets c.args.checked.now c.args.first.now c.args.second.now (terms_of g.S.Site.content c.in-Ok-open.opened.0.table.shared.key).told) (mine c.work_and_sweep-pass.result.0) (seen c.work_and_sweep-pass.result.0) f) (sym c.as_slice-2.ensures.value) c.work_and_sweep-pass.ensures.noted) c.work_and_sweep-pass.ensures.swept in
     let made = outcome g.S.Site.content g.S.Site.failures g.F.Folder.tells g.F.Folder.lets c.args.checked.now c.plan-plan.ensures.valid c.args.first.now c.args.second.now
     (terms_of g.S.Site.content c.in-Ok-open.opened.0.table.shared.key) opened c.in-Ok-open.ensures.board (refl, refl, refl)
     c.work_and_sweep-pass.result.0 (slots_items c.close-closed.result.row.words) (slots_items c.close-closed.result.row.slots) c.as_slice-2.result.now
-    c.close-closed.ensures.ends c.work_and_sweep-pass.ensures.pass.1 c.work_and_sweep-pass.ensures.tidy (subst (λ (f : List (Option ActFault)). Noted (setting_of g.S.Site.failures g.F.Folder.tells g.F.Folder.lets c.args.checked.now c.args.first.now c.args.second.now (terms_of g.S.Site.content c.in-Ok-open.opened.0.table.shared.key).told) (mine c.work_and_sweep-pass.result.0) f) (sym c.as_slice-2.ensures.value) c.work_and_sweep-pass.ensures.noted) c.work_and_sweep-pass.ensures.swept c.results_of-results.result.items c.results_of-results.ensures.count (c.results_of-results.ensures.each ends.0 is_end) in
+    c.close-closed.ensures.ends c.work_and_sweep-pass.ensures.pass.1 c.work_and_sweep-pass.ensures.tidy (subst (λ (f : List (Option ActFault)). Noted (setting_of g.S.Site.failures g.F.Folder.tells g.F.Folder.lets c.args.checked.now c.args.first.now c.args.second.now (terms_of g.S.Site.content c.in-Ok-open.opened.0.table.shared.key).told) (mine c.work_and_sweep-pass.result.0) (seen c.work_and_sweep-pass.result.0) f) (sym c.as_slice-2.ensures.value) c.work_and_sweep-pass.ensures.noted) c.work_and_sweep-pass.ensures.swept c.results_of-results.result.items c.results_of-results.ensures.count (c.results_of-results.ensures.each ends.0 is_end) in
     subst
     (λ (o : List ActionResult). IsOutcome g.S.Site.content (setting_of g.S.Site.failures g.F.Folder.tells g.F.Folder.lets c.args.checked.now c.args.first.now c.args.second.now opened.told) opened o (slots_items c.new.result.closed.row.words) (slots_items c.new.result.closed.row.slots))
     (sym c.new.ensures.results)
@@ -41,3 +42,15 @@ returns-clause-outcome g c =
     (λ (z : Closed g.row.S.Denot g.S.Site). IsOutcome g.S.Site.content (setting_of g.S.Site.failures g.F.Folder.tells g.F.Folder.lets c.args.checked.now c.args.first.now c.args.second.now opened.told) opened c.results_of-results.result.items (slots_items z.row.words) (slots_items z.row.slots))
     (sym c.new.ensures.closed)
     made)
+
+pub returns-clause-misfits : goal.returns-clause-misfits
+returns-clause-misfits g c =
+    let opened : Terms = terms_with g.S.Site.content c.args.checked.now.plan c.args.checked.now.first c.args.checked.now.second (placed c.args.checked.now.plan.actions c.args.sites.items) in
+    misfits_untold g.S.Site.content (setting_of g.S.Site.failures g.F.Folder.tells g.F.Folder.lets c.args.checked.now c.args.first.now c.args.second.now opened.told) c.plan-plan.ensures.valid opened
+    c.new.result.results.items (slots_items c.new.result.closed.row.words) (slots_items c.new.result.closed.row.slots) (returns-clause-outcome g c)
+
+pub returns-clause-steady : goal.returns-clause-steady
+returns-clause-steady g c =
+    let opened : Terms = terms_with g.S.Site.content c.args.checked.now.plan c.args.checked.now.first c.args.checked.now.second (placed c.args.checked.now.plan.actions c.args.sites.items) in
+    want_memory_alone g.S.Site.content (setting_of g.S.Site.failures g.F.Folder.tells g.F.Folder.lets c.args.checked.now c.args.first.now c.args.second.now opened.told) c.plan-plan.ensures.valid opened
+    c.new.result.results.items (slots_items c.new.result.closed.row.words) (slots_items c.new.result.closed.row.slots) (returns-clause-outcome g c)

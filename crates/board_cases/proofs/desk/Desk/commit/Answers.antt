@@ -1,75 +1,77 @@
-use Rattle.std.proofs.Common.{◌≡◌, ℕ, [], ◌∷◌, refl, sym, ap, ◌∙◌, subst}
+use Rattle.std.proofs.Common.{◌≡◌, ℕ, ◌+◌, arith, [], ◌∷◌, ◌++◌, refl, sym, ap, ◌∙◌, subst}
+use Rattle.std.specs.Prelude.{Option, IfNone}
+use Rattle.ts_model.specs.Plans.{KindIs}
 use Rattle.ts_model.specs.Runs.{Run, Has, HasNot, IsPending, IsPieceOf, takes}
+use Rattle.ts_model.specs.declared.plan.Kind.TheVariants.{Commit}
 use Rattle.ts_model.specs.declared.plan.Plan.{Plan}
-use Rattle.ts_model.specs.declared.step.Step.TheVariants.{Act, Claim, Take}
+use Rattle.ts_model.specs.declared.step.Step.TheVariants.{Act, Claim, Done, Take}
+use Rattle.ts_model.specs.declared.step.Work.{Work}
+use Rattle.ts_site.specs.declared.fault.SiteFault.{SiteFault}
 use Rattle.ts_board.specs.declared.board.Held.{Held}
-use Rattle.ts_board.specs.Calls.{mine, work_of}
+use Rattle.ts_board.specs.Calls.{IsFresh, mine}
 use Rattle.ts_board.specs.Keys.{terms_of}
-use Rattle.ts_board.specs.Terms.{is_place, IsTold, Suits}
-use Rattle.ts_board.proofs.Acting.{commit_may}
-use Rattle.board_cases.proofs.Acts.{acted_by}
-use Rattle.board_cases.proofs.Steps.{commit_after, has_not, has_right, still_pending}
-use Rattle.board_cases.proofs.Working.{all_taken, commit_kind, its_piece}
+use Rattle.ts_board.specs.Terms.{is_place}
+use Rattle.board_cases.proofs.Steps.{has_taken, put_after, put_may_free, still_pending}
 use Rattle.board_cases.proofs.desk.Desk.commit.Goals as goal
 
 pub staged-requires : goal.staged-requires
-staged-requires g c =
-    let d = c.args.self.now in (0, commit_kind d.checked.now.plan d.piece.now d.actions)
+staged-requires g c = let f = c.requires.file in (f.entry, f.commit)
 
 pub take-bytes-requires-clause-held : goal.take-bytes-requires-clause-held
 take-bytes-requires-clause-held g c κs within =
-    let won = c.in-Some.ensures.won in let own = mine c.look-claimed.new.pass in
-    subst (λ (i : ℕ). IsPending own i) (sym won.0) (subst (λ (r : Run). IsPending r 1) (sym c.look-claimed.ensures.sees.1) won.2)
+    let won = c.in_ok-held.ensures.won in
+    subst (λ (i : ℕ). IsPending (mine c.look-next.new.pass) i) (sym won.0) (subst (λ (r : Run). IsPending r (c.args.b + 1)) (sym (c.look-next.ensures.sees.1 ∙ c.look-claimed.ensures.sees.1)) won.2)
 
 pub take-bytes-requires-clause-piece : goal.take-bytes-requires-clause-piece
 take-bytes-requires-clause-piece g c κs within =
-    let d = c.args.self.now in let plan = d.board.now.table.shared.key.plan.value in let p = d.piece.now in
-    subst (λ (i : ℕ). IsPieceOf plan i 0) (sym c.in-Some.ensures.won.0) (its_piece plan p (ap (λ (z : Plan). z.actions) d.plan ∙ d.actions))
+    let d = c.args.self.now in let f = c.requires.file in let b = c.args.b in
+    let piece : IsPieceOf d.checked.now.plan (b + 1) b = record { entry = f.entry; offset = 0; size = 1; path = f.path; commit = f.commit; piece = f.piece } in
+    subst (λ (i : ℕ). IsPieceOf d.board.now.table.shared.key.plan.value i b) (sym c.in_ok-held.ensures.won.0) (subst (λ (z : Plan). IsPieceOf z (b + 1) b) (sym d.plan) piece)
 
 pub take-bytes-requires-clause-untaken : goal.take-bytes-requires-clause-untaken
 take-bytes-requires-clause-untaken g c κs within =
-    subst (λ (r : Run). HasNot r (takes 0)) (sym (c.look-claimed.ensures.sees.1 ∙ c.in-Some.ensures.won.1.2)) (has_not (takes 0) (mine c.args.pass.now) (Claim 1 ∷ []) c.requires.untaken refl)
+    subst (λ (r : Run). HasNot r (takes c.args.b)) (sym (c.look-next.ensures.sees.1 ∙ c.look-claimed.ensures.sees.1 ∙ c.in_ok-held.ensures.won.1.2 ∙ ap (λ (r : Run). r ++ Claim (c.args.b + 1) ∷ []) c.requires.fresh)) refl
 
-pub commit-requires-clause-site : goal.commit-requires-clause-site
-commit-requires-clause-site g c κs within =
-    let d = c.args.self.now in let plan = d.board.now.table.shared.key.plan.value in let p = d.piece.now in
-    ap (λ (h : Held g.row.S.Denot). is_place h.slot) c.take-bytes.ensures.held ∙ c.in-Some.ensures.site.0 0 (commit_kind plan p (ap (λ (z : Plan). z.actions) d.plan ∙ d.actions))
+pub put-ended-requires-clause-action : goal.put-ended-requires-clause-action
+put-ended-requires-clause-action g c κs within =
+    let same = ap (λ (h : Held g.row.S.Denot). h.action) c.take-bytes.ensures.held ∙ c.in_ok-held.ensures.won.0 in let long = c.requires.inside in omega (arith, same, long)
 
-pub done-requires-clause-acted : goal.done-requires-clause-acted
-done-requires-clause-acted g c κs within =
-    let d = c.args.self.now in let plan = d.board.now.table.shared.key.plan.value in let p = d.piece.now in
-    let content = g.S.Site.content in let t = terms_of content d.board.now.table.shared.key in
-    let own = mine c.look-claimed.new.pass in let own2 = mine c.take-bytes.new.pass in let now = c.commit.new.self in let won = c.in-Some.ensures.won in
-    let held = c.take-bytes.new.held in let i = c.in-Some.held.action in
-    let action : now.action ≡ 1 = c.commit.ensures.action ∙ ap (λ (h : Held g.row.S.Denot). h.action) c.take-bytes.ensures.held ∙ won.0 in
-    let claimed : IsPending own 1 = subst (λ (r : Run). IsPending r 1) (sym c.look-claimed.ensures.sees.1) won.2 in
-    let pending : IsPending own2 1 = subst (λ (r : Run). IsPending r 1) (sym c.take-bytes.ensures.taken.2) (still_pending own (Take i 0) 1 refl refl claimed) in
-    let taken : Has own2 (takes 0) = subst (λ (r : Run). Has r (takes 0)) (sym c.take-bytes.ensures.taken.2) (has_right (takes 0) own (Take i 0 ∷ []) refl) in
-    let suits : Suits t (Act now.action (work_of now)) = c.in-Ok-commit.ensures.suits t (d.plan, d.first, d.second) in
-    let told : IsTold content t held.action held.slot = subst (λ (h : Held g.row.S.Denot). IsTold content t h.action h.slot) (sym c.take-bytes.ensures.held) c.in-Some.ensures.fresh.2 in
-    acted_by content t own2 now 1 (work_of now) c.in-Ok-commit.ensures.ok.0 action refl
-    (commit_may t own2 1 (work_of now) pending (all_taken plan p (ap (λ (z : Plan). z.actions) d.plan ∙ d.actions) own2 taken), subst (λ (n : ℕ). Suits t (Act n (work_of now))) action suits)
-    (c.commit.ensures.told t told)
+pub put-ended-requires-clause-held : goal.put-ended-requires-clause-held
+put-ended-requires-clause-held g c κs within =
+    let won = c.in_ok-held.ensures.won in let own = mine c.look-next.new.pass in let own2 = mine c.take-bytes.new.pass in let i = c.args.b + 1 in
+    let action : c.take-bytes.new.held.action ≡ i = ap (λ (h : Held g.row.S.Denot). h.action) c.take-bytes.ensures.held ∙ won.0 in
+    let claimed : IsPending own i = subst (λ (r : Run). IsPending r i) (sym (c.look-next.ensures.sees.1 ∙ c.look-claimed.ensures.sees.1)) won.2 in
+    let pending : IsPending own2 i = subst (λ (r : Run). IsPending r i) (sym c.take-bytes.ensures.taken.2) (still_pending own (Take c.in_ok-held.held.action c.args.b) i refl refl claimed) in
+    subst (λ (r : Run). IsPending r c.take-bytes.new.held.action) (sym c.look-taken.ensures.sees.1) (subst (λ (n : ℕ). IsPending own2 n) (sym action) pending)
 
-pub fail-requires-clause-held : goal.fail-requires-clause-held
-fail-requires-clause-held g c κs within =
-    let own = mine c.look-claimed.new.pass in let own2 = mine c.take-bytes.new.pass in let now = c.commit.new.self in let won = c.in-Some.ensures.won in let i = c.in-Some.held.action in
-    let action : now.action ≡ 1 = c.commit.ensures.action ∙ ap (λ (h : Held g.row.S.Denot). h.action) c.take-bytes.ensures.held ∙ won.0 in
-    let claimed : IsPending own 1 = subst (λ (r : Run). IsPending r 1) (sym c.look-claimed.ensures.sees.1) won.2 in
-    let pending : IsPending own2 1 = subst (λ (r : Run). IsPending r 1) (sym c.take-bytes.ensures.taken.2) (still_pending own (Take i 0) 1 refl refl claimed) in
-    subst (λ (n : ℕ). IsPending own2 n) (sym action) pending
+pub put-ended-requires-clause-commit : goal.put-ended-requires-clause-commit
+put-ended-requires-clause-commit g c κs within =
+    let f = c.requires.file in let same = ap (λ (h : Held g.row.S.Denot). h.action) c.take-bytes.ensures.held ∙ c.in_ok-held.ensures.won.0 in
+    (f.entry, subst (λ (n : ℕ). KindIs c.args.self.now.checked.now.plan n (Commit f.entry)) (sym same) f.commit)
 
-pub fail-requires-clause-fresh : goal.fail-requires-clause-fresh
-fail-requires-clause-fresh g c κs within =
-    let content = g.S.Site.content in let t = terms_of content c.args.self.now.board.now.table.shared.key in let held = c.take-bytes.new.held in
-    let told : IsTold content t held.action held.slot = subst (λ (h : Held g.row.S.Denot). IsTold content t h.action h.slot) (sym c.take-bytes.ensures.held) c.in-Some.ensures.fresh.2 in
-    (c.in-Err.ensures.err.0, c.in-Err.ensures.err.1, c.commit.ensures.told t told)
+pub put-ended-requires-clause-taken : goal.put-ended-requires-clause-taken
+put-ended-requires-clause-taken g c κs within k piece =
+    let b = c.args.b in let same = ap (λ (h : Held g.row.S.Denot). h.action) c.take-bytes.ensures.held ∙ c.in_ok-held.ensures.won.0 in
+    let is : k ≡ b = c.requires.file.only k (subst (λ (n : ℕ). IsPieceOf c.args.self.now.checked.now.plan n k) same piece) in
+    subst (λ (n : ℕ). Has (mine c.look-taken.new.pass) (takes n)) (sym is)
+    (subst (λ (r : Run). Has r (takes b)) (sym (c.look-taken.ensures.sees.1 ∙ c.take-bytes.ensures.taken.2)) (has_taken (mine c.look-next.new.pass) c.in_ok-held.held.action b))
 
-pub returns-in-Ok-commit-clause-done : goal.returns-in-Ok-commit-clause-done
-returns-in-Ok-commit-clause-done g c =
-    let now = c.commit.new.self in let won = c.in-Some.ensures.won in let i = c.in-Some.held.action in
-    let action : now.action ≡ 1 = c.commit.ensures.action ∙ ap (λ (h : Held g.row.S.Denot). h.action) c.take-bytes.ensures.held ∙ won.0 in (
-      work_of now,
-      commit_after (mine c.args.pass.now) (mine c.claim.new.pass) (mine c.look-claimed.new.pass) (mine c.take-bytes.new.pass) (mine c.done.new.pass) (mine c.look-ended.new.pass) i now.action (work_of now)
-          won.1.2 c.look-claimed.ensures.sees.1 c.take-bytes.ensures.taken.2 c.done.ensures.done.2 c.look-ended.ensures.sees.1 won.0 action,
-    )
+pub put-ended-requires-clause-fresh : goal.put-ended-requires-clause-fresh
+put-ended-requires-clause-fresh g c κs within =
+    let content = g.S.Site.content in let t = terms_of content c.args.self.now.board.now.table.shared.key in
+    subst (λ (h : Held g.row.S.Denot). IsFresh content t h) (sym c.take-bytes.ensures.held) c.in_ok-held.ensures.fresh
+
+pub put-ended-requires-clause-place : goal.put-ended-requires-clause-place
+put-ended-requires-clause-place g c κs within =
+    let d = c.args.self.now in let f = c.requires.file in
+    ap (λ (h : Held g.row.S.Denot). is_place h.slot) c.take-bytes.ensures.held ∙ c.in_ok-held.ensures.site.0 f.entry (subst (λ (z : Plan). KindIs z (c.args.b + 1) (Commit f.entry)) (sym d.plan) f.commit)
+
+pub free-requires-clause-may : goal.free-requires-clause-may
+free-requires-clause-may g c κs within =
+    let b = c.args.b in let won = c.in_ok-held.ensures.won in let held = c.take-bytes.new.held in
+    let same : held.action ≡ b + 1 = ap (λ (h : Held g.row.S.Denot). h.action) c.take-bytes.ensures.held ∙ won.0 in
+    let done = subst (λ (o : Option SiteFault). IfNone o ((w : Work) × (mine c.put-ended.new.pass ≡ mine c.look-taken.new.pass ++ Act held.action w ∷ Done held.action ∷ []))) c.in-None.is c.put-ended.ensures.done in
+    put_may_free c.args.self.now.checked.now.plan (mine c.put-ended.new.pass) (b + 1) b (b + 2) done.0
+    (put_after (mine c.args.pass.now) (mine c.claim.new.pass) (mine c.look-next.new.pass) (mine c.take-bytes.new.pass) (mine c.look-taken.new.pass) (mine c.put-ended.new.pass) (b + 1) c.in_ok-held.held.action b held.action done.0
+        c.requires.fresh won.1.2 (c.look-next.ensures.sees.1 ∙ c.look-claimed.ensures.sees.1) c.take-bytes.ensures.taken.2 c.look-taken.ensures.sees.1 done.1 won.0 same)
+    c.requires.file.mark_waits

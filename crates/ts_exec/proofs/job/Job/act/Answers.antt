@@ -1,16 +1,16 @@
 use Rattle.std.proofs.Common.{◌≡◌, ℕ, sym, ap, ◌∙◌, subst}
 use Rattle.ts_model.specs.Plans.{KindIs}
-use Rattle.ts_model.specs.Runs.{IsPending, IsPieceOf}
+use Rattle.ts_model.specs.Runs.{Run, IsPending, IsPieceOf}
 use Rattle.ts_model.specs.declared.plan.Kind.{Kind}
-use Rattle.ts_model.specs.declared.plan.Kind.TheVariants.{Piece, Commit, Mark}
+use Rattle.ts_model.specs.declared.plan.Kind.TheVariants.{Piece, Mark}
 use Rattle.ts_model.specs.declared.plan.Plan.{Plan}
-use Rattle.ts_board.specs.Calls.{HasActed, mine, work_of}
+use Rattle.ts_board.specs.Calls.{HasActed, mine, seen, work_of}
 use Rattle.ts_board.specs.Keys.{terms_of}
 use Rattle.ts_board.specs.Terms.{IsTold, work_in}
 use Rattle.ts_board.specs.declared.board.Held.{Held}
-use Rattle.ts_exec.specs.Acts.{HasRead, IsActed, MayGoOn}
-use Rattle.ts_exec.specs.Failures.{Setting, setting_of}
-use Rattle.ts_exec.proofs.Failing.{mark_suits, no_pieces, on_err_map, on_ok, on_ok_map}
+use Rattle.ts_exec.specs.Acts.{IsActed, MayGoOn}
+use Rattle.ts_exec.specs.Failures.{Setting, HasRead, IsTold as IsToldWork, MayFail, setting_of}
+use Rattle.ts_exec.proofs.Failing.{if_err_map, mark_suits, no_pieces, on_err_map, on_ok_map}
 use Rattle.ts_exec.proofs.job.Job.act.Goals as goal
 
 pub returns-in-Piece-clause-ok : goal.returns-in-Piece-clause-ok
@@ -53,24 +53,25 @@ returns-in-Mark-clause-ok g c =
       (let told : IsTold content t a now.slot = subst (λ z. IsTold content t a z) (sym c.mark.ensures.slot) c.requires.fresh.2 in subst (λ (z : ℕ). IsTold content t z now.slot) (sym same) told),
     )
 
-pub returns-in-Piece-clause-read : goal.returns-in-Piece-clause-read
-returns-in-Piece-clause-read g c =
+pub returns-in-Piece-clause-told : goal.returns-in-Piece-clause-told
+returns-in-Piece-clause-told g c =
     let j = c.args.self.now in let plan = j.checked.now.plan in let w = work_of c.stage.new.held in
     let x : Setting = setting_of g.S.Site.failures g.F.Folder.tells g.F.Folder.lets j.checked.now j.first.now j.second.now (terms_of g.S.Site.content j.board.now.table.shared.key).told in
     let p : Kind = Piece c.in-Piece.entry c.in-Piece.offset c.in-Piece.length c.in-Piece.path in
     let kind : KindIs plan c.args.held.now.action p = subst (λ (z : ℕ). KindIs plan z p) c.action.ensures (subst (λ (z : Kind). KindIs plan c.action.result z) c.in-Piece.is c.kind.ensures) in
-    on_ok_map c.stage.result (HasRead x p w) ((k : Kind) × KindIs plan c.args.held.now.action k × HasRead x k w) c.stage.ensures.read (λ h. (p, kind, h))
+    on_ok_map c.stage.result (HasRead x p w) (IsToldWork x (seen c.args.pass.now) c.args.held.now.action w) c.stage.ensures.read (λ h. (p, kind, h))
 
-pub returns-in-Commit-clause-read : goal.returns-in-Commit-clause-read
-returns-in-Commit-clause-read g c =
-    let j = c.args.self.now in let plan = j.checked.now.plan in let w = work_of c.commit.new.held in
-    let x : Setting = setting_of g.S.Site.failures g.F.Folder.tells g.F.Folder.lets j.checked.now j.first.now j.second.now (terms_of g.S.Site.content j.board.now.table.shared.key).told in
-    let p : Kind = Commit c.in-Commit.entry in
-    let kind : KindIs plan c.args.held.now.action p = subst (λ (z : ℕ). KindIs plan z p) c.action.ensures (subst (λ (z : Kind). KindIs plan c.action.result z) c.in-Commit.is c.kind.ensures) in
-    on_ok c.commit.result ((k : Kind) × KindIs plan c.args.held.now.action k × HasRead x k w) (p, kind, tt)
+pub returns-in-Commit-clause-told : goal.returns-in-Commit-clause-told
+returns-in-Commit-clause-told g c = c.commit.ensures.told
 
-pub returns-in-Mark-clause-read : goal.returns-in-Mark-clause-read
-returns-in-Mark-clause-read g c =
+pub returns-in-Mark-clause-told : goal.returns-in-Mark-clause-told
+returns-in-Mark-clause-told g c =
     let plan = c.args.self.now.checked.now.plan in
     let p : Kind = Mark c.in-Mark.entry in
     let kind : KindIs plan c.args.held.now.action p = subst (λ (z : ℕ). KindIs plan z p) c.action.ensures (subst (λ (z : Kind). KindIs plan c.action.result z) c.in-Mark.is c.kind.ensures) in (p, kind, tt)
+
+pub returns-in-Piece-clause-fault : goal.returns-in-Piece-clause-fault
+returns-in-Piece-clause-fault g c =
+    let j = c.args.self.now in let a = c.args.held.now.action in let r = seen c.args.pass.now in
+    let x : Setting = setting_of g.S.Site.failures g.F.Folder.tells g.F.Folder.lets j.checked.now j.first.now j.second.now (terms_of g.S.Site.content j.board.now.table.shared.key).told in
+    if_err_map c.stage.result (λ f. (run : Run) → MayFail x run a f) (MayFail x r a) c.stage.ensures.fault (λ f h. h r)

@@ -1,6 +1,6 @@
 use Rattle.std.proofs.Common.{◌++◌, List, sym, subst, arith}
 use Rattle.ts_model.specs.Runs.{Run}
-use Rattle.ts_board.specs.Calls.{mine}
+use Rattle.ts_board.specs.Calls.{mine, seen}
 use Rattle.ts_board.specs.Keys.{terms_of}
 use Rattle.ts_exec.specs.Failures.{setting_of}
 use Rattle.ts_exec.specs.Tidy.{IsTidy, Listed}
@@ -24,12 +24,14 @@ returns-in-Some-clause-listed g c =
     let j = c.args.self.now in let own = mine c.args.worked.now.pass in let s = c.in-Some.ensures.steps in let fs = c.args.worked.now.failures.items in
     let x = setting_of g.S.Site.failures g.F.Folder.tells g.F.Folder.lets j.checked.now j.first.now j.second.now (terms_of g.S.Site.content j.board.now.table.shared.key).told in
     let count = c.action_count.ensures.count in let less = c.if-i-action_count.false in
-    subst (λ (z : Run). Listed x z c.push_reserved.new.self.items) (sym s.1)
-    (subst (λ (z : List Failure). Listed x (own ++ s.0) z) (sym c.push_reserved.ensures.items)
-    (listed_failed x own s.0 fs c.args.i c.in-Some.fault c.requires.listed s.2 c.in-Some.ensures.fault (omega arith)))
+    let before = seen c.args.worked.now.pass in let then = seen c.attempt.new.pass in
+    subst (λ (z : Run). Listed x z then c.push_reserved.new.self.items) (sym s.1)
+    (subst (λ (z : List Failure). Listed x (own ++ s.0) then z) (sym c.push_reserved.ensures.items)
+    (listed_failed x own before then s.0 fs c.args.i c.in-Some.fault c.requires.listed c.in-Some.ensures.seen s.2 s.3 c.in-Some.ensures.fault (omega arith)))
 
 pub returns-in_default-clause-listed : goal.returns-in_default-clause-listed
 returns-in_default-clause-listed g c =
     let j = c.args.self.now in let own = mine c.args.worked.now.pass in let s = c.in_default.ensures.steps in let fs = c.args.worked.now.failures.items in
     let x = setting_of g.S.Site.failures g.F.Folder.tells g.F.Folder.lets j.checked.now j.first.now j.second.now (terms_of g.S.Site.content j.board.now.table.shared.key).told in
-    subst (λ (z : Run). Listed x z fs) (sym s.1) (listed_none x own s.0 fs c.args.i c.requires.listed s.2)
+    let before = seen c.args.worked.now.pass in let then = seen c.attempt.new.pass in
+    subst (λ (z : Run). Listed x z then fs) (sym s.1) (listed_none x own before then s.0 fs c.args.i c.requires.listed c.in_default.ensures.seen s.2 s.3)

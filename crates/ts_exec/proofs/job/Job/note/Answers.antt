@@ -16,14 +16,14 @@ loop-failure-preserved g c =
     let e : Failure = slice_index_or fs n (record { action = 0; fault = fault.OutOfMemory }) in
     let h : n < length fs = c.loop-failure-test.true in
     let at = got_index fs n (record { action = 0; fault = fault.OutOfMemory }) h in
-    let may = c.requires.may n e at in let room = c.requires.room in let same = inv.0 in let less = may.0 in
+    let room = c.requires.room in let same = inv.0 in let less = c.requires.within n e at in
     let within : e.action < length faults = omega arith in (
       length-set faults e.action (Some e.fault) ∙ inv.0,
-      (λ i had. fault_kept x faults e.action e.fault within may.1 i (inv.1 i had)),
-      noted_more x faults fs n e at within may.1 inv.2,
+      (λ r may i had. fault_kept x r faults e.action e.fault within (may n e at).1 i (inv.1 r may i had)),
+      (λ r may. noted_more x r faults fs n e at within (may n e at).1 (inv.2 r may)),
     )
 
 pub returns-clause-noted : goal.returns-clause-noted
-returns-clause-noted g c = λ i listed.
+returns-clause-noted g c = λ r may i listed.
     let fs = c.args.failures.now in let n = c.loop-failure.failure-index in
-    c.loop-failure.invariant.2 i (subst (λ (z : List Failure). IsListed i z) (sym (take_all n fs c.loop-failure-test.false)) listed)
+    c.loop-failure.invariant.2 r may i (subst (λ (z : List Failure). IsListed i z) (sym (take_all n fs c.loop-failure-test.false)) listed)

@@ -1,6 +1,7 @@
 use Rattle.std.proofs.Common.{◌≡◌, ◌+◌, IfSome, sym, subst, arith}
 use Rattle.ts_model.specs.Plans.{KindIs}
 use Rattle.ts_model.specs.Trees.{at}
+use Rattle.ts_model.specs.Runs.{Run}
 use Rattle.ts_model.specs.declared.plan.Kind.TheVariants.{Piece}
 use Rattle.ts_folder.specs.Folders.{Reads}
 use Rattle.ts_folder.specs.declared.folder.Call.TheVariants.{Read}
@@ -29,8 +30,8 @@ pub returns-in_err-bytes-clause-fault : goal.returns-in_err-bytes-clause-fault
 returns-in_err-bytes-clause-fault g c =
     let j = c.args.self.now in let s = c.source.ensures in let p = c.args.path.now in let end = c.args.offset + c.args.length in
     let x = setting_of g.S.Site.failures g.F.Folder.tells g.F.Folder.lets j.checked.now j.first.now j.second.now (terms_of g.S.Site.content j.board.now.table.shared.key).told in
-    exit_maps c.from_residual.result (λ f. f ≡ of_folder c.in_err-bytes.field-0.0) (MayFail x c.args.held.now.action) c.from_residual.ensures.1
-    (λ f same. (
+    exit_maps c.from_residual.result (λ f. f ≡ of_folder c.in_err-bytes.field-0.0) (λ f. (r : Run) → MayFail x r c.args.held.now.action f) c.from_residual.ensures.1
+    (λ f same r. (
       Piece c.args.entry c.args.offset c.args.length p,
       c.requires.kind,
       (
@@ -44,7 +45,7 @@ returns-in_err-bytes-clause-fault g c =
     ))
 
 pub returns-then-len-length-clause-fault : goal.returns-then-len-length-clause-fault
-returns-then-len-length-clause-fault g c =
+returns-then-len-length-clause-fault g c = λ r.
     let s = c.source.ensures in let p = c.args.path.now in (
       Piece c.args.entry c.args.offset c.args.length p,
       c.requires.kind,

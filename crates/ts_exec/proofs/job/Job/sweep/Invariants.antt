@@ -11,6 +11,6 @@ invariant-loop-i g l = record {
   part : IsSamePart l.fn.pass l.pass;
   tidy : IsTidy l.self.checked.now.plan (mine l.pass);
   room : length l.faults.items ≡ length l.self.checked.now.plan.actions;
-  noted : Noted (setting_of g.S.Site.failures g.F.Folder.tells g.F.Folder.lets l.self.checked.now l.self.first.now l.self.second.now (terms_of g.S.Site.content l.self.board.now.table.shared.key).told) (mine l.pass) l.faults.items;
+  noted : Noted (setting_of g.S.Site.failures g.F.Folder.tells g.F.Folder.lets l.self.checked.now l.self.first.now l.self.second.now (terms_of g.S.Site.content l.self.board.now.table.shared.key).told) (mine l.pass) (seen l.pass) l.faults.items;
   swept : Swept l.self.checked.now.plan l.i (mine l.pass) (seen l.pass);
 }

@@ -1,6 +1,6 @@
 use Rattle.std.proofs.Common.{Some, set, sym, subst, arith}
 use Rattle.ts_model.specs.Runs.{Run}
-use Rattle.ts_board.specs.Calls.{mine}
+use Rattle.ts_board.specs.Calls.{mine, seen}
 use Rattle.ts_board.specs.Keys.{terms_of}
 use Rattle.ts_exec.specs.Failures.{setting_of}
 use Rattle.ts_exec.specs.Tidy.{Noted}
@@ -12,11 +12,13 @@ returns-in-Some-clause-noted g c =
     let j = c.args.self.now in let own = mine c.args.pass.now in let s = c.in-Some.ensures.steps in let fs = c.args.faults.now.items in
     let x = setting_of g.S.Site.failures g.F.Folder.tells g.F.Folder.lets j.checked.now j.first.now j.second.now (terms_of g.S.Site.content j.board.now.table.shared.key).told in
     let room = c.requires.room in let less = c.requires.action in
-    subst (λ (z : Run). Noted x z (set fs c.args.i (Some c.in-Some.fault))) (sym s.1)
-    (noted_failed x own s.0 fs c.args.i c.in-Some.fault c.requires.noted s.2 c.in-Some.ensures.fault (omega arith))
+    let before = seen c.args.pass.now in let then = seen c.attempt.new.pass in
+    subst (λ (z : Run). Noted x z then (set fs c.args.i (Some c.in-Some.fault))) (sym s.1)
+    (noted_failed x own before then s.0 fs c.args.i c.in-Some.fault c.requires.noted c.in-Some.ensures.seen s.2 s.3 c.in-Some.ensures.fault (omega arith))
 
 pub returns-in_default-clause-noted : goal.returns-in_default-clause-noted
 returns-in_default-clause-noted g c =
     let j = c.args.self.now in let own = mine c.args.pass.now in let s = c.in_default.ensures.steps in let fs = c.args.faults.now.items in
     let x = setting_of g.S.Site.failures g.F.Folder.tells g.F.Folder.lets j.checked.now j.first.now j.second.now (terms_of g.S.Site.content j.board.now.table.shared.key).told in
-    subst (λ (z : Run). Noted x z fs) (sym s.1) (noted_none x own s.0 fs c.args.i c.requires.noted s.2)
+    let before = seen c.args.pass.now in let then = seen c.attempt.new.pass in
+    subst (λ (z : Run). Noted x z then fs) (sym s.1) (noted_none x own before then s.0 fs c.args.i c.requires.noted c.in_default.ensures.seen s.2 s.3)

@@ -1,4 +1,4 @@
-use Rattle.ts_board.specs.Calls.{IsPassOf, IsSamePart, mine}
+use Rattle.ts_board.specs.Calls.{IsPassOf, IsSamePart, mine, seen}
 use Rattle.ts_board.specs.Keys.{terms_of}
 use Rattle.ts_exec.specs.Failures.{setting_of}
 use Rattle.ts_exec.specs.Tidy.{IsTidy, Listed}
@@ -9,5 +9,5 @@ invariant-turns g l = record {
   pass : IsPassOf l.self.board.now.table.shared.table_id (terms_of g.S.Site.content l.self.board.now.table.shared.key) l.worked.pass;
   part : IsSamePart l.fn.pass l.worked.pass;
   tidy : IsTidy l.self.checked.now.plan (mine l.worked.pass);
-  listed : Listed (setting_of g.S.Site.failures g.F.Folder.tells g.F.Folder.lets l.self.checked.now l.self.first.now l.self.second.now (terms_of g.S.Site.content l.self.board.now.table.shared.key).told) (mine l.worked.pass) l.worked.failures.items;
+  listed : Listed (setting_of g.S.Site.failures g.F.Folder.tells g.F.Folder.lets l.self.checked.now l.self.first.now l.self.second.now (terms_of g.S.Site.content l.self.board.now.table.shared.key).told) (mine l.worked.pass) (seen l.worked.pass) l.worked.failures.items;
 }

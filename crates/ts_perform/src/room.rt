@@ -1,0 +1,48 @@
+//! How many workers may carry a plan out, by the memory that they need.
+ghost use Rattle.std.specs.Prelude.{◌+◌, ◌*◌, ◌≤◌};
+
+use ts_check::Checked;
+use ts_model::plan::Kind;
+
+/// How many bytes may be staged beyond one of the largest commits and a quarter of it.
+const SPARE: u64 = 52_428_800;
+
+/// How many of some workers may carry out a plan whose largest commit stages so many bytes, at least one. A worker at a commit
+/// may hold these bytes twice: the files are put together from pieces, whose memory the allocator may keep until the last
+/// one is taken. So fewer work where commits are large, and together they hold at most two and a half of the largest commit
+/// and 100 MiB.
+pub(crate) fn workers_with_room(largest: u64, workers: u32) -> u32
+    requires some { 1 ≤ workers }
+    ensures some { 1 ≤ result }
+    ensures few { result ≤ workers }
+    ensures room { 4 * (result * largest) ≤ 5 * largest + 209715200 }
+{
+    let more = (SPARE + largest / 4) / largest.max(1);
+    match u32::try_from(more) {
+        Ok(more) => more.saturating_add(1).min(workers),
+        Err(_) => workers,
+    }
+}
+
+/// How many bytes the largest commit of a plan stages.
+pub(crate) fn largest_commit(checked: &Checked<'_>) -> u64 {
+    let mut largest: u64 = 0;
+    for commit in 0..checked.action_count() {
+        largest = largest.max(staged_bytes(checked, commit));
+    }
+    largest
+}
+
+/// How many bytes the pieces of a commit have.
+fn staged_bytes(checked: &Checked<'_>, commit: u32) -> u64 {
+    let actions = checked.plan().actions.as_slice();
+    let mut bytes: u64 = 0;
+    for piece in checked.pieces(commit) {
+        if let Some(action) = actions.get(*piece as usize)
+            && let Kind::Piece { length, .. } = &action.kind
+        {
+            bytes = bytes.saturating_add(*length);
+        }
+    }
+    bytes
+}

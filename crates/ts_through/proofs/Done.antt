@@ -1,0 +1,28 @@
+-- A run in which each result says that its action is done.
+use Rattle.std.proofs.Common.{◌≡◌, ℕ, ◌<◌, List, Option, Some, length, slice_get, ap, ◌∙◌, arith}
+use Rattle.std.specs.Prelude.{slice_index}
+use Rattle.std.specs.Int.{bit_at}
+use Rattle.ts_model.specs.Trees.{Listing}
+use Rattle.ts_model.specs.Plans.{Valid}
+use Rattle.ts_model.specs.Runs.{word_after}
+use Rattle.ts_check.specs.Checkup.{Checkup, snapshot_of}
+use Rattle.ts_board.specs.Archives.{IsDone}
+use Rattle.ts_board.specs.Checks.{IsFromCheck}
+use Rattle.ts_board.specs.declared.law.Slot.{Slot}
+use Rattle.ts_board.specs.declared.law.Terms.{Terms}
+use Rattle.ts_exec.specs.Failures.{Setting}
+use Rattle.ts_exec.specs.Outcomes.{IsOutcome}
+use Rattle.ts_exec.specs.declared.outcome.ActionResult.{ActionResult}
+use Rattle.ts_exec.specs.declared.outcome.ActionResult.TheVariants.{Done}
+use Rattle.ts_exec.proofs.Closing.{done_word, few_open, weight}
+
+-- so do the words
+pub words_done : {S : Type 0} {content : S → Option (Listing (List ℕ))} {x : Setting} {t : Terms} {results : List ActionResult} {words : List ℕ} {slots : List (Slot S)} (k : Checkup)
+    → IsOutcome content x t results words slots → IsFromCheck t k → Valid (snapshot_of k) k.plan → ((i : ℕ) → i < length results → slice_get results i ≡ Some Done)
+    → (i : ℕ) → i < length k.plan.actions → IsDone (slice_index words i)
+words_done {t = t} k o from valid all i within =
+    let same : length t.plan.actions ≡ length k.plan.actions = ap (λ p. length p.actions) from.0 in
+    let count = o.count in
+    ap (λ n. bit_at n 33) (o.left.words_are i (omega arith) ∙ ap (λ p. word_after p o.run i) from.0)
+    ∙ done_word k.plan o.run i (few_open (snapshot_of k) k.plan valid o.run i)
+    ∙ ap weight (o.each i Done (all i (omega arith)))

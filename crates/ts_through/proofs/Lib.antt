@@ -1,0 +1,5 @@
+pub mod Archive
+pub mod Done
+pub mod Held
+pub mod Parts
+pub mod Taking

@@ -1,0 +1,160 @@
+//! Carrying a plan through.
+ghost use Rattle.std.specs.Prelude.{◌≡◌, ◌≤◌, IfOk, length};
+ghost use Rattle.std.specs.Mem.Slots.{slots_items, slots_len};
+ghost use Rattle.ts_board.specs.Archives.{HasEnded};
+ghost use Rattle.ts_board.specs.Terms.{commit_count};
+ghost use Rattle.ts_check.specs.Checkup.{snapshot_of};
+ghost use Rattle.ts_laws.specs.Carried.{copied, marked_all};
+ghost use Rattle.ts_model.specs.Texts.{IsTreeBody};
+ghost use Rattle.ts_model.specs.Trees.{IsListing, at, print_of};
+ghost use Rattle.ts_model.specs.declared.plan.Reason.TheVariants as reason;
+ghost use Rattle.ts_through.specs.Parts.{AreDone, AreHeld};
+
+use crate::cut::{cut, no_parts, sites};
+use crate::fault::ThroughFault;
+use crate::join::joined;
+use crate::put::{is_done, take_parts};
+use std::alloc::Global;
+use std::thread::Threads;
+use ts_check::Checked;
+use ts_exec::{OpenGate, Outcome, run};
+use ts_folder::MemFolder;
+use ts_model::plan::Reason;
+use ts_print::Print;
+use ts_site::MemSite;
+use ts_tree::Tree;
+
+/// What a plan leaves: the two replicas, and the archive.
+#[derive(Drop)]
+pub struct Carried {
+    pub first: Tree,
+    pub second: Tree,
+    pub archive: Print,
+}
+
+/// What a checked plan leaves, carried out by 1 to 64 workers over these replicas: each copied entry's subtree is its
+/// source's, and the archive has every mark.
+///
+/// # Errors
+///
+/// `OutOfMemory` alone, and then nothing comes of the plan: a call found no memory, or an action isn't done.
+pub fn carry_through<R: Threads + Sync>(
+    rt: &R,
+    alloc: Global,
+    checked: &Checked<'_>,
+    first: &Tree,
+    second: &Tree,
+    workers: u32,
+) -> Result<Carried, ThroughFault>
+    requires some { 1 ≤ workers }
+    requires few { workers ≤ 64 }
+    requires first { at checked.now.first ≡ print_of (at first.now) }
+    requires second { at checked.now.second ≡ print_of (at second.now) }
+    ensures first { IfOk result (λ carried. at carried.first ≡ copied reason.Second (at second.now) (at first.now) checked.now.plan.entries) }
+    ensures second { IfOk result (λ carried. at carried.second ≡ copied reason.First (at first.now) (at second.now) checked.now.plan.entries) }
+    ensures archive { IfOk result (λ carried. at carried.archive ≡ marked_all (snapshot_of checked.now) (at checked.now.archive) checked.now.plan.entries) }
+    ensures lawful { IfOk result (λ carried. IsTreeBody carried.first × IsTreeBody carried.second × IsListing carried.archive) }
+{
+    let plan = checked.plan();
+    let _archive = checked.archive().rows();
+    let _first = checked.first().rows();
+    let _second = checked.second().rows();
+    let entries = plan.entries.as_slice();
+    let mut parts = no_parts(alloc, entries)?;
+    let first_frame = cut(alloc, first, entries, Reason::Second, &mut parts)?;
+    let second_frame = cut(alloc, second, entries, Reason::First, &mut parts)?;
+    let sites = sites(alloc, plan, &mut parts)?;
+    let mut outcome = ran(rt, alloc, checked, first, second, sites, workers)?;
+    let archive = archive_after(alloc, checked, &outcome)?;
+    take_parts(checked, &mut outcome, &mut parts);
+    Ok(Carried {
+        first: joined(
+            alloc,
+            first_frame,
+            entries,
+            Reason::Second,
+            second,
+            &mut parts,
+        )?,
+        second: joined(
+            alloc,
+            second_frame,
+            entries,
+            Reason::First,
+            first,
+            &mut parts,
+        )?,
+        archive,
+    })
+}
+
+/// What comes of the plan, where each action is done.
+fn ran<R: Threads + Sync>(
+    rt: &R,
+    alloc: Global,
+    checked: &Checked<'_>,
+    first: &Tree,
+    second: &Tree,
+    sites: Vec<MemSite>,
+    workers: u32,
+) -> Result<Outcome<MemSite>, ThroughFault>
+    requires some { 1 ≤ workers }
+    requires few { workers ≤ 64 }
+    requires first { at checked.now.first ≡ print_of (at first.now) }
+    requires second { at checked.now.second ≡ print_of (at second.now) }
+    requires sites { length sites.items ≡ commit_count checked.now.plan.actions }
+    ensures words { IfOk result (λ o. length checked.now.plan.actions ≤ slots_len o.closed.row.words) }
+    ensures slots { IfOk result (λ o. length checked.now.plan.actions ≤ slots_len o.closed.row.slots) }
+    ensures ended { IfOk result (λ o. HasEnded checked.now (slots_items o.closed.row.words)) }
+    ensures held { IfOk result (λ o. AreHeld checked.now.plan first.now second.now (slots_items o.closed.row.slots)) }
+    ensures done { IfOk result (λ o. AreDone checked.now.plan (slots_items o.closed.row.words)) }
+{
+    let first = folder(alloc, first)?;
+    let second = folder(alloc, second)?;
+    let _plan = checked.plan();
+    match run(
+        rt, alloc, &*checked, &first, &second, sites, workers, &OpenGate,
+    ) {
+        Ok(outcome) => {
+            if is_done(&outcome) {
+                Ok(outcome)
+            } else {
+                Err(ThroughFault::OutOfMemory)
+            }
+        }
+        Err(_) => Err(ThroughFault::OutOfMemory),
+    }
+}
+
+/// A folder of this tree.
+fn folder(alloc: Global, tree: &Tree) -> Result<MemFolder, ThroughFault>
+    ensures { IfOk result (λ folder. folder ≡ tree.now) }
+{
+    match tree.copy(alloc) {
+        Ok(tree) => Ok(MemFolder::new(tree)),
+        Err(_) => Err(ThroughFault::OutOfMemory),
+    }
+}
+
+/// The archive after all marks.
+fn archive_after(
+    alloc: Global,
+    checked: &Checked<'_>,
+    outcome: &Outcome<MemSite>,
+) -> Result<Print, ThroughFault>
+    requires words { length checked.now.plan.actions ≤ slots_len outcome.now.closed.row.words }
+    requires ended { HasEnded checked.now (slots_items outcome.now.closed.row.words) }
+    requires done { AreDone checked.now.plan (slots_items outcome.now.closed.row.words) }
+    ensures archive { IfOk result (λ archive. at archive ≡ marked_all (snapshot_of checked.now) (at checked.now.archive) checked.now.plan.entries) }
+    ensures lawful { IfOk result IsListing }
+{
+    let _plan = checked.plan();
+    let _archive = checked.archive().rows();
+    let _first = checked.first().rows();
+    let _second = checked.second().rows();
+    let Ok(archive) = outcome.archive(alloc, checked) else {
+        return Err(ThroughFault::OutOfMemory);
+    };
+    let _rows = archive.rows();
+    Ok(archive)
+}

@@ -1,0 +1,104 @@
+//! Taking what stands at the commits' paths out of a replica.
+ghost use Rattle.std.specs.Prelude.{◌≡◌, ◌<◌, ℕ, IfOk, length};
+ghost use Rattle.ts_board.specs.Terms.{commit_count};
+ghost use Rattle.ts_model.specs.Plans.{KindIs};
+ghost use Rattle.ts_model.specs.Trees.{at};
+ghost use Rattle.ts_model.specs.declared.plan.Kind.TheVariants.{Commit};
+ghost use Rattle.ts_table.specs.Splits.{MaySplit, without};
+ghost use Rattle.ts_through.specs.Parts.{paths_with};
+
+use crate::fault::ThroughFault;
+use std::alloc::Global;
+use std::mem;
+use ts_model::plan::{Entry, Kind, Plan, Reason};
+use ts_name::Path;
+use ts_site::MemSite;
+use ts_tree::{Frame, SubTree, Tree};
+
+/// A part for each entry, with nothing in it.
+pub(crate) fn no_parts(alloc: Global, entries: &[Entry]) -> Result<Vec<SubTree>, ThroughFault>
+    ensures { IfOk result (λ parts. length parts.items ≡ length entries.now) }
+{
+    let mut parts = Vec::new(alloc);
+    for _ in entries {
+        parts.push(SubTree::absent(alloc))?;
+    }
+    Ok(parts)
+}
+
+/// The tree without what stands at the paths of the entries of this reason, which goes to their parts.
+pub(crate) fn cut(
+    alloc: Global,
+    tree: &Tree,
+    entries: &[Entry],
+    reason: Reason,
+    parts: &mut Vec<SubTree>,
+) -> Result<Frame, ThroughFault>
+    requires parts { length parts.old.items ≡ length entries.now }
+    requires apart { MaySplit (at tree.now) (paths_with reason entries.now) }
+    ensures paths { IfOk result (λ frame. frame.paths ≡ paths_with reason entries.now) }
+    ensures rows { IfOk result (λ frame. at frame.rows ≡ without (at tree.now) (paths_with reason entries.now)) }
+    ensures count { length parts.new.items ≡ length parts.old.items }
+{
+    let paths = paths_of(alloc, entries, reason)?;
+    let Ok(tree) = tree.copy(alloc) else {
+        return Err(ThroughFault::OutOfMemory);
+    };
+    let Ok((frame, taken)) = tree.split(alloc, paths.as_slice()) else {
+        return Err(ThroughFault::OutOfMemory);
+    };
+    lay(taken, entries, reason, parts);
+    Ok(frame)
+}
+
+/// The paths of the entries of this reason, in their order.
+fn paths_of(alloc: Global, entries: &[Entry], reason: Reason) -> Result<Vec<Path>, ThroughFault>
+    ensures { IfOk result (λ paths. paths.items ≡ paths_with reason entries.now) }
+{
+    let mut paths = Vec::new(alloc);
+    for entry in entries {
+        if entry.reason == reason {
+            let Ok(path) = entry.path.copy(alloc) else {
+                return Err(ThroughFault::OutOfMemory);
+            };
+            paths.push(path)?;
+        }
+    }
+    Ok(paths)
+}
+
+/// Lays what was taken out at the paths of the entries of this reason, in their order, at the entries' places.
+fn lay(taken: Vec<SubTree>, entries: &[Entry], reason: Reason, parts: &mut Vec<SubTree>)
+    requires { length parts.old.items ≡ length entries.now }
+    ensures { length parts.new.items ≡ length parts.old.items }
+{
+    let mut taken = taken.into_iter();
+    for (index, entry) in entries.iter().enumerate() {
+        if entry.reason == reason {
+            if let Some(part) = taken.next() {
+                parts[index] = part;
+            }
+        }
+    }
+}
+
+/// A site for each commit, in the order of the actions, with the part of its entry.
+pub(crate) fn sites(
+    alloc: Global,
+    plan: &Plan,
+    parts: &mut Vec<SubTree>,
+) -> Result<Vec<MemSite>, ThroughFault>
+    requires parts { length parts.old.items ≡ length plan.now.entries }
+    requires within { (i e : ℕ) → KindIs plan.now i (Commit e) → e < length plan.now.entries }
+    ensures sites { IfOk result (λ sites. length sites.items ≡ commit_count plan.now.actions) }
+    ensures count { length parts.new.items ≡ length parts.old.items }
+{
+    let mut sites = Vec::new(alloc);
+    for action in plan.actions.as_slice() {
+        if let Kind::Commit { entry } = action.kind {
+            let part = mem::replace(&mut parts[entry as usize], SubTree::absent(alloc));
+            sites.push(MemSite::new(part))?;
+        }
+    }
+    Ok(sites)
+}
