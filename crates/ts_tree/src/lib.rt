@@ -18,6 +18,3 @@ pub use frame::Frame;
 pub use reader::TreeReader;
 pub use subtree::SubTree;
 pub use tree::{Node, Tree};
-
-#[cfg(test)]
-mod tests;
