@@ -1,17 +1,15 @@
 -- What the marks that are done leave of the archive: what the run that did them left.
-use Rattle.std.proofs.Common.{◌≡◌, ◌≢◌, ◌⊎◌, ℕ, suc, ◌+◌, ◌*◌, ◌<◌, ◌≤◌, ◌/◌, ◌%◌, Bool, true, false, leb, leb-true, leb-false, List, [], ◌∷◌, ◌++◌, length, sym, refl, ap, ◌∙◌, subst, inl, inr, append-nil, arith}
+use Rattle.std.proofs.Common.{◌≡◌, ◌≢◌, ◌⊎◌, ℕ, suc, ◌+◌, ◌*◌, ◌<◌, ◌≤◌, ◌/◌, ◌%◌, Bool, true, false, List, [], ◌∷◌, ◌++◌, length, sym, refl, ap, ◌∙◌, subst, inl, inr, append-nil, arith}
 use Rattle.std.specs.Prelude.{slice_index, slice_index_or, Result, Ok, Err, IfOk}
 use Rattle.std.specs.List.{AllByRecursion, list_any}
 use Rattle.std.specs.Int.{bit_at}
-use Rattle.std.proofs.lemmas.Nat.{div-mul-add}
 use Rattle.std.proofs.lemmas.Bool.{true≢false, cases_Bool, cases_eq, cases_order}
 use Rattle.std.proofs.lemmas.Option.{slice_get_within}
 use Rattle.ts_name.specs.Paths.{Name, Path, IsBefore}
 use Rattle.ts_model.specs.Trees.{Listing, Tree, Print, IsListing, at}
 use Rattle.ts_model.specs.Sync.{Snapshot, IsSnapshot, AreBothDirs, IsBelowDirs, HasReason, IsSkipped}
-use Rattle.ts_model.specs.Plans.{ActionIs, EntryIs, KindIs, AscendBelow, Valid}
-use Rattle.ts_model.specs.Runs as model
-use Rattle.ts_model.specs.Runs.{Run, Legal, Has, acts, claims, takes, fails, finishes, graft, marked, after, start, open_count, pred_count, word_after}
+use Rattle.ts_model.specs.Plans.{ActionIs, EntryIs, KindIs, Valid}
+use Rattle.ts_model.specs.Runs.{Run, Legal, Has, acts, finishes, graft, marked, after, start, word_after}
 use Rattle.ts_model.specs.declared.row.Content.TheVariants.{Absent, Dir}
 use Rattle.ts_model.specs.declared.row.Stamp.{Stamp}
 use Rattle.ts_model.specs.declared.plan.Reason.{Reason}
@@ -20,7 +18,6 @@ use Rattle.ts_model.specs.declared.plan.Entry.{Entry}
 use Rattle.ts_model.specs.declared.plan.Action.{Action}
 use Rattle.ts_model.specs.declared.plan.Kind.TheVariants.{Mark}
 use Rattle.ts_model.specs.declared.plan.Plan.{Plan}
-use Rattle.ts_model.specs.declared.plan.PlanRule.TheVariants.{Limits}
 use Rattle.ts_table.specs.Tables.{IsPlace}
 use Rattle.ts_laws.proofs.Settings.{Setting}
 use Rattle.ts_laws.proofs.Basics.{by_each, stable, same_stamp_at, same_names}
@@ -30,7 +27,7 @@ use Rattle.ts_laws.proofs.Reasons.{IsWhole, IsWhole-from_snapshot, dirs_above, e
 use Rattle.ts_laws.proofs.Steps.{same_entry, reason_holds, mark_is_marked}
 use Rattle.ts_laws.proofs.Plans.{in_order, one_place, one_mark, mark_exists, mark_waits_for_dir}
 use Rattle.ts_laws.proofs.Entries.{reason_has_entry, parent_is_nearest}
-use Rattle.ts_laws.proofs.Runs.{IsRun, IsRun-from_legal, waited_for, preds_ascend, pred_count_is}
+use Rattle.ts_laws.proofs.Runs.{IsRun, IsRun-from_legal, waited_for}
 use Rattle.ts_laws.proofs.Marks.{entry_edge, over_is_Dir, mark_kept, mark_over, mark_over_mark, archive_kept, marked_after}
 use Rattle.ts_laws.proofs.Carried.{AreFrom, first_from, rest_from}
 use Rattle.ts_carry.specs.Edits.{marks, left_by, with_put, ComesFirst, MayFollow}
@@ -40,6 +37,7 @@ use Rattle.ts_board.specs.declared.law.Terms.{Terms}
 use Rattle.ts_board.specs.Checks.{IsFromCheck}
 use Rattle.ts_board.specs.Kept.{HasLeft}
 use Rattle.ts_board.specs.Archives.{AreMarked, picked}
+use Rattle.ts_board.proofs.Words.{done_word, few_open, weight, weight_one}
 
 -- the mark of the entry at this place has acted
 abbrev pub IsMarkedIn : Plan → Run → ℕ → Type 0
@@ -287,66 +285,6 @@ module _ (given : Setting) (r : Run) (legal : Legal given.s given.plan r) where
       at_place q (inside dirs) = subst (λ z. t z ≡ (after s plan (start s a b) r).archive z) (append-nil q) (at_path q [] (inr (dirs, refl)))
       at_place q (outside p rest e edge) = subst (λ z. t z ≡ (after s plan (start s a b) r).archive z) (sym e) (at_path p rest (inl edge))
 
--- ---- what words say
-
--- ascending numbers below n are n at most
-ascend_few : (n x : ℕ) (xs : List ℕ) → AscendBelow n (x ∷ xs) → x + length (x ∷ xs) ≤ n
-ascend_few n x [] h = omega (arith, h)
-ascend_few n x (y ∷ ys) h = let less = h.0 in let more = ascend_few n y ys h.1 in omega arith
-
-few_below : (n : ℕ) (xs : List ℕ) → AscendBelow n xs → length xs ≤ n
-few_below n [] h = omega arith
-few_below n (x ∷ xs) h = let few = ascend_few n x xs h in omega arith
-
--- a valid plan has few actions
-few_actions : (s : Snapshot) (plan : Plan) → Valid s plan → length plan.actions ≤ 1048576
-few_actions s plan valid = go (leb (length plan.actions) 1048576) refl
-  where
-    go : (few : Bool) → leb (length plan.actions) 1048576 ≡ few → length plan.actions ≤ 1048576
-    go true e = leb-true (length plan.actions) 1048576 e
-    go false e = absurd (valid Limits 0 (refl, λ w. (let most = w.actions in let many = leb-false (length plan.actions) 1048576 e in absurd (omega arith))))
-
--- so an action has few predecessors
-few_open : (s : Snapshot) (plan : Plan) → Valid s plan → (r : Run) (i : ℕ) (action : Action) → ActionIs plan i action → open_count plan r i < 4294967296
-few_open s plan valid r i action is =
-    let few = few_actions s plan valid in let within = slice_get_within plan.actions i action is in
-    let below = few_below i action.preds (preds_ascend s plan valid i action is) in let count = pred_count_is plan i action is in
-    omega arith
-
-bit_in : (n k low : ℕ) → n ≡ k * 8589934592 + low → low < 8589934592 → bit_at n 33 ≡ k % 2
-bit_in n k low e less = ap (λ z. z / 8589934592 % 2) e ∙ ap (λ z. z % 2) (div-mul-add k 8589934592 low less)
-
-abbrev weight : Bool → ℕ
-weight true = 1
-weight false = 0
-
-done_bit : (free : ℕ) (c d f t : Bool) → free < 4294967296 → bit_at (free + model.bit 32 c + model.bit 33 d + model.bit 34 f + model.bit 35 t) 33 ≡ weight d
-done_bit free true true true true less = bit_in _ 7 (free + 4294967296) (omega arith) (omega arith)
-done_bit free true true true false less = bit_in _ 3 (free + 4294967296) (omega arith) (omega arith)
-done_bit free true true false true less = bit_in _ 5 (free + 4294967296) (omega arith) (omega arith)
-done_bit free true true false false less = bit_in _ 1 (free + 4294967296) (omega arith) (omega arith)
-done_bit free true false true true less = bit_in _ 6 (free + 4294967296) (omega arith) (omega arith)
-done_bit free true false true false less = bit_in _ 2 (free + 4294967296) (omega arith) (omega arith)
-done_bit free true false false true less = bit_in _ 4 (free + 4294967296) (omega arith) (omega arith)
-done_bit free true false false false less = bit_in _ 0 (free + 4294967296) (omega arith) (omega arith)
-done_bit free false true true true less = bit_in _ 7 free (omega arith) (omega arith)
-done_bit free false true true false less = bit_in _ 3 free (omega arith) (omega arith)
-done_bit free false true false true less = bit_in _ 5 free (omega arith) (omega arith)
-done_bit free false true false false less = bit_in _ 1 free (omega arith) (omega arith)
-done_bit free false false true true less = bit_in _ 6 free (omega arith) (omega arith)
-done_bit free false false true false less = bit_in _ 2 free (omega arith) (omega arith)
-done_bit free false false false true less = bit_in _ 4 free (omega arith) (omega arith)
-done_bit free false false false false less = bit_in _ 0 free (omega arith) (omega arith)
-
--- the bit says whether the action is done
-done_word : (s : Snapshot) (plan : Plan) → Valid s plan → (r : Run) (i : ℕ) (action : Action) → ActionIs plan i action → bit_at (word_after plan r i) 33 ≡ weight (list_any (finishes i) r)
-done_word s plan valid r i action is =
-    done_bit (open_count plan r i) (list_any (claims i) r) (list_any (finishes i) r) (list_any (fails i) r) (list_any (takes i) r) (few_open s plan valid r i action is)
-
-from_weight : (b : Bool) → weight b ≡ 1 → b ≡ true
-from_weight true h = refl
-from_weight false h = absurd (omega arith)
-
 -- ---- what is left
 
 flags_from : (given : Setting) (r : Run) (legal : Legal given.s given.plan r) (k : ℕ) (xs : List Entry) (flags : List Bool) → length flags ≡ length xs
@@ -383,14 +321,14 @@ module _ (k : Checkup) (words : List ℕ) (flags : List Bool) (archive : IsListi
   word_is i action is =
       let within = slice_get_within k.plan.actions i action is in
       let size_is : length t.plan.actions ≡ length k.plan.actions = ap (λ p. length p.actions) from.0 in
-      ap (λ n. bit_at n 33) (left.words_are i (omega arith) ∙ ap (λ p. word_after p run i) from.0) ∙ done_word (snapshot_of k) k.plan valid run i action is
+      ap (λ n. bit_at n 33) (left.words_are i (omega arith) ∙ ap (λ p. word_after p run i) from.0) ∙ done_word k.plan run i (few_open (snapshot_of k) k.plan valid run i)
 
   flags_are : (e : ℕ) → e < length k.plan.entries → (slice_index_or flags e false ≡ true → IsMarkedIn k.plan run e) × (IsMarkedIn k.plan run e → slice_index_or flags e false ≡ true)
   flags_are e within = (
     (λ set. let found = marked.only e set in (
       found.0,
       found.1,
-      ran.ordered.finished found.0 (from_weight (list_any (finishes found.0) run) (sym (word_is found.0 found.1.0 found.1.1) ∙ found.2)),
+      ran.ordered.finished found.0 (weight_one (list_any (finishes found.0) run) (sym (word_is found.0 found.1.0 found.1.1) ∙ found.2)),
     )),
     λ (i, kind, acted). marked.all i e (slice_get_within k.plan.actions i kind.0 kind.1) kind (word_is i kind.0 kind.1 ∙ ap weight (left.settled i acted)) within,
   )

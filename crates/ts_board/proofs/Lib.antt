@@ -6,6 +6,8 @@ pub mod Passes
 pub mod Sites
 pub mod Orderly
 pub mod Fitting
+pub mod Words
 pub mod Archives
 pub mod Flags
 pub mod Acting
+pub mod Crossing

@@ -5,7 +5,7 @@ use Rattle.std.proofs.lemmas.Bool.{true≢false}
 use Rattle.ts_model.specs.Sync.{Snapshot}
 use Rattle.ts_model.specs.Plans.{Waits}
 use Rattle.ts_model.specs.Runs as model
-use Rattle.ts_model.specs.Runs.{Run, Has, HasNot, WordsAllow, LegalFrom, Legal, IsPieceOf, IsPending, open_count, pred_count, word_after, takes, acts, finishes, fails, releases, releases_to}
+use Rattle.ts_model.specs.Runs.{Has, HasNot, WordsAllow, LegalFrom, Legal, IsPieceOf, IsPending, open_count, pred_count, word_after, takes, acts, finishes, fails, releases, releases_to}
 use Rattle.ts_model.specs.declared.plan.Action.{Action}
 use Rattle.ts_model.specs.declared.plan.Plan.{Plan}
 use Rattle.ts_model.specs.declared.step.Step.{Step}

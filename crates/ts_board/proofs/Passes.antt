@@ -8,7 +8,7 @@ use lib.ListN.{get_elem?}
 use Rattle.atomic_table.specs.Table.{step, keeps, Allows, Splits, Joins, opening, Final, Seen}
 use Rattle.atomic_table.proofs.Lists.{at_snoc, set_else, set_again}
 use Rattle.ts_model.specs.Runs as model
-use Rattle.ts_model.specs.Runs.{Run, Has, HasNot}
+use Rattle.ts_model.specs.Runs.{Run, Has}
 use Rattle.ts_model.specs.Trees.{Listing}
 use Rattle.ts_model.specs.declared.plan.Action.{Action}
 use Rattle.ts_model.specs.declared.step.Step.{Step}

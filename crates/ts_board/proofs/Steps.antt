@@ -1,7 +1,7 @@
 -- One step more keeps the rule.
 use Rattle.std.proofs.Common.{◌≡◌, ◌≢◌, ℕ, zero, suc, ◌+◌, ◌-◌, ◌^◌, ◌<◌, ◌≤◌, Bool, eqb, List, [], ◌∷◌, ◌++◌, length, get_or, set, sym, refl, ap, ◌∙◌, subst, ⊎_elim, inl, inr, arith, append_assoc, append-nil, eq-eqb, ne_eqb, length-set, get_or-set_same, get_or-set_other, set-set, mod-eq_of_lt, ◌%◌, bit_or}
 use native.Mathlib.Nat.{add-mod_right}
-use Rattle.std.specs.Prelude.{slice_index, slice_get, Option, Contains}
+use Rattle.std.specs.Prelude.{slice_index, Option}
 use Rattle.std.specs.Prelude as prelude
 use mathlib.Core.Option as maybe
 use mathlib.Core.Logic.{dite}

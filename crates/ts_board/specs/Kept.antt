@@ -4,7 +4,7 @@ use mathlib.Core.Option.{some}
 use mathlib.Core.Option as maybe
 use lib.ListN.{get_elem?}
 use Rattle.atomic_table.specs.Table.{State, Me, Step, rest}
-use Rattle.ts_model.specs.Runs.{Run, word_after, open_count, IsPending, IsPieceOf, Has, HasNot, acts, finishes, takes}
+use Rattle.ts_model.specs.Runs.{Run, word_after, open_count, IsPending, Has, HasNot, acts, finishes, takes}
 use Rattle.ts_model.specs.Runs as model
 use Rattle.ts_model.specs.declared.step.Step.TheVariants.{Claim, Take, Act, Done, Fail, Release}
 use Rattle.ts_model.specs.declared.step.Work.{Work}

@@ -2,23 +2,21 @@
 ghost use Rattle.std.specs.Prelude.{ℕ, List, ◌≡◌, ◌<◌, ◌≤◌, IfOk, IfSome, IfNone, length, slice_index};
 ghost use Rattle.std.specs.Mem.Slots.{slots_items, slots_len};
 ghost use Rattle.ts_board.specs.Archives.{AreMarked, HasEnded, IsDone, LeftArchive, picked};
-ghost use Rattle.ts_carry.specs.Edits.{AreEdits, Gives, IsPart, MayFollow, left_by, marks};
-ghost use Rattle.ts_model.specs.Runs.{bare_directory};
-ghost use Rattle.ts_model.specs.Trees.{at, sub};
+ghost use Rattle.ts_carry.specs.Edits.{AreEdits, MayFollow, left_by, marks};
+ghost use Rattle.ts_model.specs.Trees.{at};
 ghost use Rattle.ts_model.specs.declared.plan.Kind.TheVariants.{Mark};
-ghost use Rattle.ts_name.specs.Paths.{IsPath};
 
 use crate::board::Closed;
 use crate::calls::DONE;
 use crate::fault::ArchiveFault;
 use std::alloc::Global;
+use ts_carry::mark_of;
 use ts_check::Checked;
-use ts_model::plan::{Action, Entry, Kind, Plan, Reason};
+use ts_model::plan::{Action, Entry, Kind, Plan};
 use ts_model::row::Stamp;
-use ts_name::Path;
 use ts_print::{Print, PrintFault};
 use ts_site::Site;
-use ts_table::{Edit, SubTable};
+use ts_table::Edit;
 
 impl<S: Site> Closed<S> {
     /// The archive that the plan was checked against, with the mark of each action that is done: the archive after the run
@@ -118,48 +116,4 @@ fn mark_edits(
         }
     }
     Ok(edits)
-}
-
-/// What a mark puts into the archive, where the entry has one.
-fn mark_of(
-    alloc: Global,
-    entry: &Entry,
-    first: &Print,
-    second: &Print,
-) -> Result<Option<Edit<Stamp>>, ArchiveFault>
-    ensures { IfOk result (λ edit. Gives (marks (at first.now) (at second.now) entry.now.reason entry.now.path) entry.now.path edit) }
-{
-    let Ok(path) = entry.path.copy(alloc) else {
-        return Err(ArchiveFault::OutOfMemory);
-    };
-    let part = match entry.reason {
-        Reason::Dir => new_dir(alloc, &path)?,
-        Reason::Same | Reason::First => subtree(alloc, first, &path)?,
-        Reason::Second => subtree(alloc, second, &path)?,
-        Reason::Conflict | Reason::Held => return Ok(None),
-    };
-    Ok(Some(Edit { path, part }))
-}
-
-/// A directory without children, at a path.
-fn new_dir(alloc: Global, path: &Path) -> Result<SubTable<Stamp>, ArchiveFault>
-    requires { IsPath path.now }
-    ensures { IfOk result (IsPart path.now bare_directory) }
-{
-    let Ok(part) = SubTable::dir(alloc) else {
-        return Err(ArchiveFault::OutOfMemory);
-    };
-    let _rows = part.rows();
-    Ok(part)
-}
-
-/// What a print has at a path and below it.
-fn subtree(alloc: Global, print: &Print, path: &Path) -> Result<SubTable<Stamp>, ArchiveFault>
-    ensures { IfOk result (IsPart path.now (sub (at print.now) path.now)) }
-{
-    let Ok(part) = print.sub_table(alloc, path) else {
-        return Err(ArchiveFault::OutOfMemory);
-    };
-    let _rows = part.rows();
-    Ok(part)
 }

@@ -3,6 +3,7 @@ ghost use Rattle.std.specs.Prelude.{◌≡◌};
 
 use std::alloc::{AllocError, AllocFailed};
 use thiserror::Error;
+use ts_carry::CarryFault;
 
 /// Why a board isn't opened. Nothing was done with the sites.
 #[derive(Clone, Copy, Debug, PartialEq, Eq, Error)]
@@ -50,6 +51,12 @@ impl From<AllocError> for ArchiveFault {
 
 impl<T: Drop> From<AllocFailed<T>> for ArchiveFault {
     fn from(_: AllocFailed<T>) -> Self {
+        ArchiveFault::OutOfMemory
+    }
+}
+
+impl From<CarryFault> for ArchiveFault {
+    fn from(_: CarryFault) -> Self {
         ArchiveFault::OutOfMemory
     }
 }

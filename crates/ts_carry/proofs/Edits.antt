@@ -1,13 +1,10 @@
 -- The edits of entries: what they leave, and that they may be spliced.
-use Rattle.std.proofs.Common.{◌≡◌, ◌≢◌, ◌⊎◌, inl, inr, ℕ, Bool, true, false, cond, List, [], ◌∷◌, ◌++◌, Option, Some, None, refl, sym, ap, ◌∙◌, subst, append_assoc, append-nil, length, drop, get_or, suc, add-one, drop-cons, ◌+◌, ◌<◌, ◌≤◌}
-use Rattle.std.proofs.Math.ListN.{drop_of_length-le}
+use Rattle.std.proofs.Common.{◌≡◌, ◌≢◌, ◌⊎◌, inl, inr, ℕ, Bool, true, false, cond, List, [], ◌∷◌, ◌++◌, Option, Some, None, refl, sym, ap, ◌∙◌, subst, append-nil, ◌+◌, ◌<◌, ◌≤◌}
 use Rattle.std.specs.List.{AllByRecursion}
 use Rattle.ts_name.specs.Paths.{Path, IsPath, IsBefore}
 use Rattle.ts_model.specs.Trees.{Listing, Tree, Print, IsListing, at, listed, print_of, sub}
-use Rattle.ts_model.specs.Runs.{graft, bare_directory, marked}
-use Rattle.ts_model.specs.Plans.{Valid}
-use Rattle.ts_model.specs.Sync.{Snapshot, IsSnapshot, AreReplicas, listed_snapshot}
-use Rattle.ts_model.specs.declared.plan.Plan.{Plan}
+use Rattle.ts_model.specs.Runs.{graft, bare_directory}
+use Rattle.ts_model.specs.Sync.{IsSnapshot, AreReplicas, listed_snapshot}
 use Rattle.ts_model.specs.declared.row.Content.{Content}
 use Rattle.ts_model.specs.declared.row.Content.TheVariants.{Absent}
 use Rattle.ts_model.specs.Texts.{IsTreeBody}
@@ -23,10 +20,8 @@ use Rattle.ts_table.specs.declared.splice.Edit.{Edit}
 use Rattle.ts_table.proofs.Rows.{weaker, all_both, all_map, at_each}
 use Rattle.ts_tree.specs.Trees.{EditFits}
 use Rattle.ts_tree.proofs.Parts.{lists_each, part_fits}
-use Rattle.ts_laws.specs.Carried.{copied, marked_all, same_reason, is_skipped}
-use Rattle.ts_laws.proofs.Carried.{same_reason_equal, same_reason_itself}
+use Rattle.ts_laws.specs.Carried.{copied, same_reason}
 use Rattle.ts_laws.proofs.Listings.{IsTree-from_listing}
-use Rattle.ts_laws.proofs.Places.{entries_in_place}
 use Rattle.ts_carry.specs.Edits.{copies, marks, with_put, left_by, ComesFirst, MayFollow, IsPart, IsEditAt, Gives, Begins, AreEdits}
 
 -- ---- what the laws call what entries leave
@@ -40,20 +35,6 @@ left_copied r source (entry ∷ entries) t =
     go : (b : Bool) → with_put t entry.path (cond b (Some (sub source entry.path)) None) ≡ cond b (graft t entry.path (sub source entry.path)) t
     go true = refl
     go false = refl
-
--- and so do marks
-pub left_marked : (s : Snapshot) (entries : List Entry) (t : Print) → left_by (marks s.first s.second) t entries ≡ marked_all s t entries
-left_marked s [] t = refl
-left_marked s (entry ∷ entries) t =
-    ap (λ u. left_by (marks s.first s.second) u entries) (go entry.reason) ∙ left_marked s entries _
-  where
-    go : (r : Reason) → with_put t entry.path (marks s.first s.second r entry.path) ≡ cond (is_skipped r) t (graft t entry.path (marked s r entry.path))
-    go reason.Same = refl
-    go reason.First = refl
-    go reason.Second = refl
-    go reason.Conflict = refl
-    go reason.Held = refl
-    go reason.Dir = refl
 
 -- ---- edits one by one
 
@@ -159,24 +140,6 @@ edits_order {F} puts (entry ∷ entries) t edits may h = go (λ u es m k. edits_
 
 -- ---- conditions, from where the entries stand
 
--- what each entry leaves, after what those before it leave
-pub left_by_append : {F : Type 0} (puts : Reason → Path → Option (Path → Content F)) (before : List Entry) (entry : Entry) (t : Path → Content F)
-    → left_by puts t (before ++ entry ∷ []) ≡ with_put (left_by puts t before) entry.path (puts entry.reason entry.path)
-left_by_append puts [] entry t = refl
-left_by_append puts (first ∷ before) entry t = left_by_append puts before entry (with_put t first.path (puts first.reason first.path))
-
--- where an entry stands among all, as the entries before it left it
-abbrev pub StandsWell : {F : Type 0} → (Reason → Path → Option (Path → Content F)) → (Path → Content F) → List Entry → Entry → List Entry → Type 0
-StandsWell puts t before entry after = IsPlace (left_by puts t before) entry.path × ComesFirst entry.path (puts entry.reason entry.path) after
-
-pub may_follow : {F : Type 0} (puts : Reason → Path → Option (Path → Content F)) (t : Path → Content F) (all : List Entry)
-    → ((before : List Entry) (entry : Entry) (after : List Entry) → all ≡ before ++ entry ∷ after → StandsWell puts t before entry after)
-    → (entries before : List Entry) → all ≡ before ++ entries → MayFollow puts (left_by puts t before) entries
-may_follow puts t all well [] before split = tt
-may_follow {F} puts t all well (entry ∷ entries) before split =
-    let here = well before entry entries split in
-    (here.0, here.1, subst (λ u. MayFollow puts u entries) (left_by_append puts before entry t) (may_follow puts t all well entries (before ++ entry ∷ []) (split ∙ sym (append_assoc before (entry ∷ []) entries))))
-
 -- what is put comes before later entries, where all below it does, or it is a bare directory
 first_from_bare : {F : Type 0} (p : Path) (entries : List Entry) → AllByRecursion (λ later. IsBefore p later.path) entries → ComesFirst {F = F} p (Some bare_directory) entries
 first_from_bare {F} p entries before = (before, rest)
@@ -184,16 +147,6 @@ first_from_bare {F} p entries before = (before, rest)
     rest : (more : Path) → bare_directory {F = F} more ≢ Absent → AllByRecursion (λ later. IsBefore (p ++ more) later.path) entries
     rest [] there = subst (λ z. AllByRecursion (λ (later : Entry). IsBefore z later.path) entries) (sym (append-nil p)) before
     rest (name ∷ names) there = absurd (there refl)
-
-pub first_copies : (r : Reason) (source : Tree) (entry : Entry) (after : List Entry) → r ≢ reason.Dir
-    → AllByRecursion (λ later. IsBefore entry.path later.path) after
-    → (entry.reason ≢ reason.Dir → (rest : Path) → AllByRecursion (λ later. IsBefore (entry.path ++ rest) later.path) after)
-    → ComesFirst entry.path (copies r source entry.reason entry.path) after
-first_copies r source entry after no_dir ascends apart = go (same_reason entry.reason r) refl
-  where
-    go : (b : Bool) → same_reason entry.reason r ≡ b → ComesFirst entry.path (cond b (Some (sub source entry.path)) None) after
-    go true e = (ascends, λ rest there. apart (λ is. no_dir (sym (same_reason_equal entry.reason r e) ∙ is)) rest)
-    go false e = tt
 
 pub first_marks : (first second : Print) (entry : Entry) (after : List Entry)
     → AllByRecursion (λ later. IsBefore entry.path later.path) after
@@ -210,53 +163,11 @@ first_marks first second entry after ascends apart = go entry.reason apart
     go reason.Held h = tt
     go reason.Dir h = first_from_bare entry.path after ascends
 
--- ---- a valid plan
-
-pub copies_follow_first : (s : Snapshot) (plan : Plan) (a b : Tree) → Valid s plan → IsSnapshot s → AreReplicas s a b → MayFollow (copies reason.Second b) a plan.entries
-copies_follow_first s plan a b valid lawful are =
-    may_follow (copies reason.Second b) a plan.entries
-    (λ before entry after split. let here = entries_in_place s plan a b valid lawful are before entry after split in (
-      record { not_root = here.not_root; parent = λ parent name at. ap (λ t. t parent) (left_copied reason.Second b before a) ∙ here.in_first parent name at },
-      first_copies reason.Second b entry after (λ e. cc) here.ascends here.apart,
-    ))
-    plan.entries [] refl
-
-pub copies_follow_second : (s : Snapshot) (plan : Plan) (a b : Tree) → Valid s plan → IsSnapshot s → AreReplicas s a b → MayFollow (copies reason.First a) b plan.entries
-copies_follow_second s plan a b valid lawful are =
-    may_follow (copies reason.First a) b plan.entries
-    (λ before entry after split. let here = entries_in_place s plan a b valid lawful are before entry after split in (
-      record { not_root = here.not_root; parent = λ parent name at. ap (λ t. t parent) (left_copied reason.First a before b) ∙ here.in_second parent name at },
-      first_copies reason.First a entry after (λ e. cc) here.ascends here.apart,
-    ))
-    plan.entries [] refl
-
-pub marks_follow : (s : Snapshot) (plan : Plan) (a b : Tree) → Valid s plan → IsSnapshot s → AreReplicas s a b → MayFollow (marks s.first s.second) s.archive plan.entries
-marks_follow s plan a b valid lawful are =
-    may_follow (marks s.first s.second) s.archive plan.entries
-    (λ before entry after split. let here = entries_in_place s plan a b valid lawful are before entry after split in (
-      record { not_root = here.not_root; parent = λ parent name at. ap (λ t. t parent) (left_marked s before s.archive) ∙ here.in_archive parent name at },
-      first_marks s.first s.second entry after here.ascends here.apart,
-    ))
-    plan.entries [] refl
-
--- ---- loops
-
--- the edits of entries that were all gone through
-pub all_edits : {F : Type 0} (puts : Reason → Path → Option (Path → Content F)) (entries : List Entry) (i : ℕ) (edits : List (Edit F)) → length entries ≤ i
-    → ((more : List (Edit F)) → AreEdits puts (drop i entries) more → AreEdits puts entries (edits ++ more)) → AreEdits puts entries edits
-all_edits {F} puts entries i edits past so_far =
-    subst (λ es. AreEdits puts entries es) (append-nil edits) (so_far [] (subst (λ rest. AreEdits {F = F} puts rest []) (sym (drop_of_length-le entries past)) refl))
-
 -- ---- parts
 
 -- a part at a path stands at each path that is the same
 pub edit_moved : {F : Type 0} (q p : Path) (content : Path → Path → Content F) (part : Listing F) → q ≡ p → IsPart q (content q) part → IsEditAt p (content p) (record { path = q; part = part })
 edit_moved q p content part e is = record { path = e; part = subst (λ z. IsPart z (content z) part) e is }
-
--- a copy is given where the reason is the one that is asked for
-pub gives_copy : (r : Reason) (source : Tree) (of : Reason) (p : Path) (edit : Edit (List ℕ)) → of ≡ r → IsEditAt p (sub source p) edit → Gives (copies r source of p) p (Some edit)
-gives_copy r source of p edit e is =
-    subst (λ b. Gives (cond b (Some (sub source p)) None) p (Some edit)) (sym (ap (λ x. same_reason x r) e ∙ same_reason_itself r)) is
 
 -- a mark is given where it is that of the entry's reason
 pub gives_mark : (first second : Print) (of r : Reason) (p : Path) (edit : Edit Stamp) → of ≡ r → Gives (marks first second r p) p (Some edit) → Gives (marks first second of p) p (Some edit)
@@ -273,32 +184,6 @@ edits_fit r rows body (entry ∷ entries) edits h = go (λ es k. edits_fit r row
     go rest false edits h = rest edits h
     go rest true [] h = absurd h
     go rest true (edit ∷ edits) h = (part_fits rows edit.part entry.path body h.0.part.rows h.0.part.lists, rest edits h.1)
-
--- one more entry of a loop, whether it gives an edit or not
-pub one_more : {F : Type 0} (puts : Reason → Path → Option (Path → Content F)) (entries : List Entry) (i : ℕ) (entry : Entry) (found : Option (Edit F)) (edits now : List (Edit F))
-    → i < length entries → entry ≡ get_or entries i entry → Gives (puts entry.reason entry.path) entry.path found → now ≡ edits ++ elim found [ None ↦ [] | Some one ↦ one ∷ [] ]
-    → ((more : List (Edit F)) → AreEdits puts (drop i entries) more → AreEdits puts entries (edits ++ more))
-    → (more : List (Edit F)) → AreEdits puts (drop (i + 1) entries) more → AreEdits puts entries (now ++ more)
-one_more {F} puts entries i entry found edits now within is gives now_is so_far more h =
-    subst (λ es. AreEdits puts entries es) (sym (ap (λ z. z ++ more) now_is ∙ joined found)) (so_far _ (subst (λ rest. AreEdits puts rest (after found)) (sym step) (push_edit (puts entry.reason entry.path) entry.path found edits more (λ rest. AreEdits puts (drop (i + 1) entries) rest) gives h)))
-  where
-    after : Option (Edit F) → List (Edit F)
-    after o = elim o [ None ↦ more | Some one ↦ one ∷ more ]
-
-    joined : (o : Option (Edit F)) → (edits ++ elim o [ None ↦ [] | Some one ↦ one ∷ [] ]) ++ more ≡ edits ++ after o
-    joined None = ap (λ z. z ++ more) (append-nil edits)
-    joined (Some one) = append_assoc edits (one ∷ []) more
-
-    step : drop i entries ≡ entry ∷ drop (i + 1) entries
-    step = rw (add-one, drop-cons entries i entry within) (ap (λ (e : Entry). e ∷ drop (suc i) entries) (sym is))
-
--- the edits of a loop, where an entry gave one
-pub now_some : {F : Type 0} (found : Option (Edit F)) (one : Edit F) (edits now : List (Edit F)) → found ≡ Some one → now ≡ edits ++ one ∷ [] → now ≡ edits ++ elim found [ None ↦ [] | Some one ↦ one ∷ [] ]
-now_some found one edits now e is = is ∙ ap (λ o. edits ++ elim o [ None ↦ [] | Some one ↦ one ∷ [] ]) (sym e)
-
--- and where it gave none
-pub now_none : {F : Type 0} (found : Option (Edit F)) (edits now : List (Edit F)) → found ≡ None → now ≡ edits → now ≡ edits ++ elim found [ None ↦ [] | Some one ↦ one ∷ [] ]
-now_none found edits now e is = is ∙ sym (append-nil edits) ∙ ap (λ o. edits ++ elim o [ None ↦ [] | Some one ↦ one ∷ [] ]) (sym e)
 
 -- listed prints are a lawful snapshot
 pub are_trees : (archive first second : Listing Stamp) (rules : List Rule) → IsListing archive → IsListing first → IsListing second → IsSnapshot (listed_snapshot archive first second rules)

@@ -1,10 +1,10 @@
-//! Why a plan can't be carried out.
+//! Why a mark can't be made.
 ghost use Rattle.std.specs.Prelude.{◌≡◌};
 
 use std::alloc::{AllocError, AllocFailed};
 use thiserror::Error;
 
-/// Why a plan can't be carried out.
+/// Why a mark can't be made.
 #[derive(Debug, Drop, Error)]
 pub enum CarryFault {
     /// There is no memory.

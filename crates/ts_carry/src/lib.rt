@@ -1,9 +1,8 @@
-//! What a valid plan leaves, once each of its actions is done.
+//! What entries put at their paths: copies into a replica, and marks into the archive.
 #![tactic(auto)]
 
-mod carry;
 mod fault;
 mod parts;
 
-pub use carry::{Outcome, carry_out};
 pub use fault::CarryFault;
+pub use parts::mark_of;

@@ -1,50 +1,31 @@
-//! What an entry puts at its path.
+//! What the mark of an entry puts into the archive.
 ghost use Rattle.std.specs.Prelude.{IfOk};
-ghost use Rattle.ts_carry.specs.Edits.{Gives, IsPart, copies, marks};
+ghost use Rattle.ts_carry.specs.Edits.{Gives, IsPart, marks};
 ghost use Rattle.ts_model.specs.Runs.{bare_directory};
 ghost use Rattle.ts_model.specs.Trees.{at, sub};
 ghost use Rattle.ts_name.specs.Paths.{IsPath};
 
 use crate::fault::CarryFault;
 use std::alloc::Global;
-use ts_model::items::Items;
 use ts_model::plan::{Entry, Reason};
 use ts_model::row::Stamp;
 use ts_name::Path;
 use ts_print::Print;
 use ts_table::{Edit, SubTable};
-use ts_tree::Tree;
 
-/// What a commit puts into the target, where the entry has this reason: the source's subtree.
-pub(crate) fn copy_of(
-    alloc: Global,
-    entry: &Entry,
-    reason: Reason,
-    source: &Tree,
-) -> Result<Option<Edit<Items<u8>>>, CarryFault>
-    ensures edit { IfOk result (λ edit. Gives (copies reason (at source.now) entry.now.reason entry.now.path) entry.now.path edit) }
-{
-    if entry.reason != reason {
-        return Ok(None);
-    }
-    let Ok(path) = entry.path.copy(alloc) else {
-        return Err(CarryFault::OutOfMemory);
-    };
-    let Ok(part) = source.sub_table(alloc, &path) else {
-        return Err(CarryFault::OutOfMemory);
-    };
-    let _rows = part.rows();
-    Ok(Some(Edit { path, part }))
-}
-
-/// What a mark puts into the archive, where the entry has one.
-pub(crate) fn mark_of(
+/// What the mark of an entry puts into the archive, where its reason has one: a bare directory where the directory is new,
+/// else what the replica that the entry goes by has at its path and below it.
+///
+/// # Errors
+///
+/// Want of memory alone.
+pub fn mark_of(
     alloc: Global,
     entry: &Entry,
     first: &Print,
     second: &Print,
 ) -> Result<Option<Edit<Stamp>>, CarryFault>
-    ensures edit { IfOk result (λ edit. Gives (marks (at first.now) (at second.now) entry.now.reason entry.now.path) entry.now.path edit) }
+    ensures { IfOk result (λ edit. Gives (marks (at first.now) (at second.now) entry.now.reason entry.now.path) entry.now.path edit) }
 {
     let Ok(path) = entry.path.copy(alloc) else {
         return Err(CarryFault::OutOfMemory);

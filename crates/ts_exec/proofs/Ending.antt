@@ -22,12 +22,10 @@ use Rattle.ts_exec.specs.declared.fault.ActFault.{ActFault}
 use Rattle.ts_exec.specs.declared.outcome.ActionResult.{ActionResult}
 use Rattle.ts_exec.specs.declared.outcome.ActionResult.TheVariants.{Done, Failed, Blocked}
 use Rattle.ts_exec.proofs.Claims.{legal_for}
-use Rattle.ts_exec.proofs.Closing.{few_open, open_pred}
+use Rattle.ts_board.proofs.Words.{few_open}
+use Rattle.ts_exec.proofs.Closing.{open_pred}
 use Rattle.ts_exec.proofs.Reading.{read_told}
 use Rattle.ts_exec.proofs.Wholes.{put_told}
-
-pub none_noted : (x : Setting) (seen : Run) (faults : List (Option ActFault)) → Noted x [] seen faults
-none_noted x seen faults = record { each = λ i h. absurd (true≢false (sym h)); told = tt }
 
 -- the end of a run in which everything was tried
 pub end_of : (k : Checkup) → Valid (snapshot_of k) k.plan → (t : Terms) → IsFromCheck t k → (r : Run) (words : List ℕ) → HasLeft t words r

@@ -1,2 +1,1 @@
 mod Trials
-mod Commits

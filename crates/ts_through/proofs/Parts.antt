@@ -1,19 +1,16 @@
 -- Parts at the paths of entries: they are edits, and where they may be taken out.
-use Rattle.std.proofs.Common.{◌≡◌, ◌≢◌, ℕ, Bool, true, false, cond, List, [], ◌∷◌, ◌++◌, Some, None, refl, sym, ap, ◌∙◌, subst, append_assoc, append-nil, length, drop, get_or, set, slice_get, suc, add-one, drop-cons, ◌+◌, ◌<◌, ◌≤◌, inl, ⊎_elim, arith}
-use Rattle.std.proofs.lemmas.Bool.{cases_lt}
-use Rattle.std.proofs.lemmas.Option.{same_Some, slice_get_within}
+use Rattle.std.proofs.Common.{◌≡◌, ◌≢◌, ℕ, Bool, true, false, cond, List, [], ◌∷◌, ◌++◌, Some, None, refl, sym, ap, ◌∙◌, subst, append_assoc, append-nil, length, drop, get_or, set, slice_get, suc, add-one, drop-cons, ◌+◌, ◌<◌, ◌≤◌, ⊎_elim, arith}
+use Rattle.std.proofs.lemmas.Option.{same_Some}
 use Rattle.std.proofs.Math.ListN.{drop_of_length-le}
 use Rattle.std.specs.List.{AllByRecursion}
 use Rattle.ts_name.specs.Paths.{Path, IsAbove, IsBefore, IsPath}
 use Rattle.ts_model.specs.Trees.{IsListing, IsSubListing, Listing, Tree, at, listed, sub}
-use Rattle.ts_model.specs.Plans.{KindIs, Valid}
+use Rattle.ts_model.specs.Plans.{Valid}
 use Rattle.ts_model.specs.Sync.{Snapshot, IsSnapshot, AreReplicas}
 use Rattle.ts_model.specs.declared.row.Content.TheVariants.{Absent}
 use Rattle.ts_model.specs.declared.row.Row.{Row}
 use Rattle.ts_model.specs.declared.plan.Entry.{Entry}
-use Rattle.ts_model.specs.declared.plan.Kind.TheVariants.{Commit}
 use Rattle.ts_model.specs.declared.plan.Plan.{Plan}
-use Rattle.ts_model.specs.declared.plan.PlanRule.TheVariants.{OneCommit}
 use Rattle.ts_model.specs.declared.plan.Reason.{Reason}
 use Rattle.ts_model.specs.declared.plan.Reason.TheVariants as reason
 use Rattle.ts_table.specs.Splits.{AreSeparate, MaySplit, edits_of}
@@ -28,15 +25,6 @@ use Rattle.ts_laws.proofs.Places.{entries_in_place}
 use Rattle.ts_check.proofs.Scans.{got_beside}
 use Rattle.ts_carry.specs.Edits.{AreEdits, Begins, IsPart, copies}
 use Rattle.ts_through.specs.Parts.{AreParts, Leads, paths_with}
-
--- ---- commits
-
--- each commit is for an entry
-pub entry_within : (s : Snapshot) (plan : Plan) → Valid s plan → (i e : ℕ) → KindIs plan i (Commit e) → e < length plan.entries
-entry_within s plan valid i e kind = ⊎_elim
-    (λ (less : e < length plan.entries). less)
-    (λ (past : length plan.entries ≤ e). absurd (valid OneCommit i (inl (e, kind, inl (λ c. (let within = slice_get_within plan.entries e c.0 c.2.0 in absurd (omega arith)))))))
-    (cases_lt e (length plan.entries))
 
 -- ---- parts as edits
 

@@ -5,7 +5,8 @@ use denote.Param.Send.{sendable}
 use Rattle.std.proofs.Crossing.{crosses}
 use Rattle.atomic_blocks.proofs.rows.shared.Rows.TheSendSync as rows
 use Rattle.atomic_table.proofs.shared.Seat.TheSendSync as seat
-use Rattle.ts_exec.proofs.Crossing.{job_sync, member_field_send, pass_field_send, slot_send}
+use Rattle.ts_board.proofs.Crossing.{pass_field_send, slot_send}
+use Rattle.ts_exec.proofs.Crossing.{job_sync, member_field_send}
 use Rattle.std.proofs.lemmas.List.Elements.{All-pop}
 use Rattle.ts_board.specs.Keys.{terms_of}
 use Rattle.ts_exec.specs.Failures.{setting_of}

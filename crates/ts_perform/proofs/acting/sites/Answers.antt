@@ -6,7 +6,7 @@ use Rattle.ts_model.specs.declared.plan.Action.{Action}
 use Rattle.ts_model.specs.declared.plan.Entry.{Entry}
 use Rattle.ts_model.specs.declared.plan.Kind.TheVariants.{Commit}
 use Rattle.ts_model.specs.declared.plan.Plan.{Plan}
-use Rattle.ts_perform.proofs.Commits.{entry_within}
+use Rattle.ts_laws.proofs.Bounds.{entry_within}
 use Rattle.ts_perform.proofs.acting.sites.Goals as goal
 
 pub bounds-entries-entry : goal.bounds-entries-entry

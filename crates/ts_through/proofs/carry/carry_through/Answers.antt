@@ -13,7 +13,8 @@ use Rattle.std.specs.Mem.Slots.{slots_items}
 use Rattle.ts_model.specs.declared.plan.Side.TheVariants as side
 use Rattle.ts_through.specs.Parts.{AreLaid, paths_with}
 use Rattle.ts_through.proofs.Held.{laid, still_laid}
-use Rattle.ts_through.proofs.Parts.{entry_within, first_may_split, second_may_split}
+use Rattle.ts_laws.proofs.Bounds.{entry_within}
+use Rattle.ts_through.proofs.Parts.{first_may_split, second_may_split}
 use Rattle.ts_through.proofs.carry.carry_through.Goals as goal
 
 pub cut-requires-clause-apart : goal.cut-requires-clause-apart

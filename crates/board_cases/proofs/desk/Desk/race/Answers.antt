@@ -4,7 +4,8 @@ use denote.Param.{param}
 use denote.Param.Send.{sendable}
 use Rattle.std.proofs.Crossing.{crosses}
 use Rattle.atomic_table.proofs.shared.Seat.TheSendSync as seat
-use Rattle.board_cases.proofs.Crossing.{desk_sync, slot_send}
+use Rattle.ts_board.proofs.Crossing.{slot_send}
+use Rattle.board_cases.proofs.Crossing.{desk_sync}
 use Rattle.board_cases.proofs.desk.Desk.race.Goals as goal
 
 pub join-this-requires-send-F : goal.join-this-requires-send-F
