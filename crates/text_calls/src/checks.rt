@@ -1,221 +1,167 @@
 //! Whether a plan is valid, and what a checked plan tells.
+use crate::shared::{Scene, World, plan_of, scene_of};
 use std::alloc::Global;
-use std::test::Fail;
 use ts_check::{CheckFault, Checked, check};
-use ts_hold::Holds;
 use ts_model::items::Items;
-use ts_model::plan::{Action, Entry, Kind, Plan, PlanRule, Reason};
+use ts_model::plan::{Entry, Plan, PlanRule, Reason};
 use ts_name::Path;
-use ts_print::{Print, PrintReader};
 
-/// Checks a plan of these entries and actions where nothing is anywhere.
-fn verdict(
-    rt: &HostRuntime,
-    entries: Vec<Entry>,
-    actions: Vec<Action>,
-) -> Result<Option<(PlanRule, u64)>, Fail> {
-    let alloc = rt.alloc();
-    let archive = Print::empty(alloc);
-    let first = Print::empty(alloc);
-    let second = Print::empty(alloc);
-    let holds = Holds::none(alloc);
-    let plan = Plan {
-        entries: Items::new(entries),
-        actions: Items::new(actions),
-    };
-    match check(alloc, &plan, &archive, &first, &second, &holds) {
-        Ok(_) => Ok(None),
-        Err(CheckFault::Broken { rule, place }) => Ok(Some((rule, place))),
-        Err(fault) => Err(fault)?,
+/// What is found wrong with a plan.
+fn verdict(alloc: Global, scene: &Scene, plan: &Plan) -> Option<Option<(PlanRule, u64)>> {
+    match check(
+        alloc,
+        plan,
+        &scene.archive,
+        &scene.first,
+        &scene.second,
+        &scene.holds,
+    ) {
+        Ok(_) => Some(None),
+        Err(CheckFault::Broken { rule, place }) => Some(Some((rule, place))),
+        Err(_) => None,
     }
 }
 
-#[test]
-fn an_empty_plan_is_valid_where_nothing_is(rt: HostRuntime) -> Result<(), Fail> {
-    let found = verdict(&rt, Vec::new(rt.alloc()), Vec::new(rt.alloc()))?;
-    assert!(rt; found == None);
-    Ok(())
+/// Nothing anywhere.
+const NOTHING: World<'static> = World {
+    archive: &[],
+    first: &[],
+    second: &[],
+    rules: b"",
+};
+
+/// What is found wrong with the plan of this text where nothing is anywhere.
+fn verdict_of_text(alloc: Global, text: &[u8]) -> Option<Option<(PlanRule, u64)>> {
+    let plan = plan_of(alloc, text)?;
+    verdict(alloc, &scene_of(alloc, &NOTHING)?, &plan)
 }
 
 #[test]
-fn an_entry_without_a_reason_is_refused(rt: HostRuntime) -> Result<(), Fail> {
-    let path = Path::parse_text(rt.alloc(), b"/a")?;
-    let entries = vec![in rt.alloc();
-        Entry {
-            path,
-            reason: Reason::First
-        },
-    ]?;
-    let found = verdict(&rt, entries, Vec::new(rt.alloc()))?;
-    assert!(rt; found == Some((PlanRule::ReasonsHold, 0)));
-    Ok(())
-}
-
-#[test]
-fn a_commit_of_no_entry_is_refused(rt: HostRuntime) -> Result<(), Fail> {
-    let preds = Items::new(Vec::new(rt.alloc()));
-    let actions = vec![in rt.alloc();
-        Action {
-            kind: Kind::Commit { entry: 0 },
-            preds
-        },
-    ]?;
-    let found = verdict(&rt, Vec::new(rt.alloc()), actions)?;
-    assert!(rt; found == Some((PlanRule::OneCommit, 0)));
-    Ok(())
-}
-
-#[test]
-fn an_action_that_waits_for_itself_is_refused(rt: HostRuntime) -> Result<(), Fail> {
-    let preds = Items::new(vec![in rt.alloc(); 0u32]?);
-    let actions = vec![in rt.alloc();
-        Action {
-            kind: Kind::Mark { entry: 0 },
-            preds
-        },
-    ]?;
-    let found = verdict(&rt, Vec::new(rt.alloc()), actions)?;
-    assert!(rt; found == Some((PlanRule::PredsAscend, 0)));
-    Ok(())
-}
-
-/// The print of one file of one byte.
-fn one_file(alloc: Global) -> Result<Print, Fail> {
-    let mut reader = PrintReader::new(alloc);
-    reader.line(
-        alloc,
-        b"f /a 1 aaaaaaaaaaaaaaaaaaaaaaaaaaaaaaaaaaaaaaaaaaaaaaaaaaaaaaaaaaaaaaaa",
-    )?;
-    Ok(reader.finish()?)
-}
-
-/// The plan that copies that file to the second replica.
-fn copying(alloc: Global) -> Result<Plan, Fail> {
-    let entry = Entry {
-        path: Path::parse_text(alloc, b"/a")?,
-        reason: Reason::First,
-    };
-    let piece = Kind::Piece {
-        entry: 0,
-        offset: 0,
-        length: 1,
-        path: Path::parse_text(alloc, b"/a")?,
-    };
-    let mut actions = Vec::new(alloc);
-    actions.push(Action {
-        kind: piece,
-        preds: Items::new(Vec::new(alloc)),
-    })?;
-    actions.push(Action {
-        kind: Kind::Commit { entry: 0 },
-        preds: Items::new(vec![in alloc; 0u32]?),
-    })?;
-    actions.push(Action {
-        kind: Kind::Mark { entry: 0 },
-        preds: Items::new(vec![in alloc; 1u32]?),
-    })?;
-    Ok(Plan {
-        entries: Items::new(vec![in alloc; entry]?),
-        actions: Items::new(actions),
-    })
-}
-
-/// What a plan is checked against, and the plan.
-#[derive(Drop)]
-struct Fixture {
-    archive: Print,
-    first: Print,
-    second: Print,
-    holds: Holds,
-    plan: Plan,
-}
-
-/// The first replica has a new file, which the plan copies.
-fn new_file_copied(alloc: Global) -> Result<Fixture, Fail> {
-    Ok(Fixture {
-        archive: Print::empty(alloc),
-        first: one_file(alloc)?,
-        second: Print::empty(alloc),
-        holds: Holds::none(alloc),
-        plan: copying(alloc)?,
-    })
-}
-
-fn accepted(alloc: Global, given: &Fixture) -> Result<Checked<'_>, Fail> {
-    Ok(check(
-        alloc,
-        &given.plan,
-        &given.archive,
-        &given.first,
-        &given.second,
-        &given.holds,
-    )?)
-}
-
-#[test]
-fn a_checked_plan_tells_what_its_actions_wait_for(rt: HostRuntime) -> Result<(), Fail> {
-    let alloc = rt.alloc();
-    let given = new_file_copied(alloc)?;
-    let checked = accepted(alloc, &given)?;
-    assert!(rt; checked.action_count() == 3);
-    assert!(rt; checked.preds(1) == [0u32].as_slice());
-    assert!(rt; checked.preds(3).is_empty());
-    assert!(rt; checked.successors(1) == [2u32].as_slice());
-    assert!(rt; checked.successors(2).is_empty());
-    Ok(())
-}
-
-#[test]
-fn a_checked_plan_tells_the_pieces_of_its_commits(rt: HostRuntime) -> Result<(), Fail> {
-    let alloc = rt.alloc();
-    let given = new_file_copied(alloc)?;
-    let checked = accepted(alloc, &given)?;
-    assert!(rt; !checked.is_commit(0));
-    assert!(rt; checked.is_commit(1));
-    assert!(rt; checked.pieces(1) == [0u32].as_slice());
-    assert!(rt; checked.pieces(2).is_empty());
-    assert!(rt; checked.commit_of(0) == Some(1));
-    assert!(rt; checked.commit_of(2) == None);
-    Ok(())
-}
-
-#[test]
-fn a_checked_plan_tells_what_it_was_checked_against(rt: HostRuntime) -> Result<(), Fail> {
-    let alloc = rt.alloc();
-    let given = new_file_copied(alloc)?;
-    let checked = accepted(alloc, &given)?;
-    assert!(rt; checked.plan().entries.as_slice().len() == 1);
-    assert!(rt; checked.archive().rows().is_empty());
-    assert!(rt; checked.first().rows().len() == 1);
-    assert!(rt; checked.second().rows().is_empty());
-    Ok(())
-}
-
-#[test]
-fn a_checked_plan_tells_both_sides_of_its_commits(rt: HostRuntime) -> Result<(), Fail> {
-    let alloc = rt.alloc();
-    let given = new_file_copied(alloc)?;
-    let checked = accepted(alloc, &given)?;
-    assert!(rt; checked.is_commit(1));
-    if checked.is_commit(1) {
-        assert!(rt; checked.before(1).rows().is_empty());
-        assert!(rt; checked.after(1).rows().len() == 1);
-        let staged = checked.staged(alloc, 1)?;
-        assert!(rt; staged.rows().len() == 1);
+fn a_plan_keeps_the_rules(rt: HostRuntime) {
+    let cases: [(&[u8], Option<(PlanRule, u64)>); 4] = [
+        (b"twosync-plan 1\nend 0 0\n", None),
+        // an entry without a reason
+        (
+            b"twosync-plan 1\nentry first /a\nend 1 0\n",
+            Some((PlanRule::ReasonsHold, 0)),
+        ),
+        // a commit of no entry
+        (
+            b"twosync-plan 1\ncommit 0\nend 0 1\n",
+            Some((PlanRule::OneCommit, 0)),
+        ),
+        // an action that waits for itself
+        (
+            b"twosync-plan 1\nmark 0\np 0\nend 0 1\n",
+            Some((PlanRule::PredsAscend, 0)),
+        ),
+    ];
+    for (text, want) in cases {
+        assert!(rt; verdict_of_text(rt.alloc(), text) == Some(want));
     }
-    Ok(())
 }
 
-#[test]
-fn too_many_entries_are_past_a_limit(rt: HostRuntime) -> Result<(), Fail> {
-    let mut entries = Vec::new(rt.alloc());
+/// One entry more than a plan may have.
+fn too_many_entries(alloc: Global) -> Option<Vec<Entry>> {
+    let mut entries = Vec::new(alloc);
     for _ in 0..1_048_577u32 {
-        entries.push(Entry {
-            path: Path::root(rt.alloc()),
-            reason: Reason::Same,
-        })?;
+        let path = Path::root(alloc);
+        let reason = Reason::Same;
+        entries.push(Entry { path, reason }).ok()?;
     }
-    let found = verdict(&rt, entries, Vec::new(rt.alloc()))?;
-    assert!(rt; found == Some((PlanRule::Limits, 0)));
-    Ok(())
+    Some(entries)
+}
+
+/// What is found wrong with the plan of too many entries and no actions where nothing is anywhere.
+fn verdict_of_too_many(alloc: Global) -> Option<Option<(PlanRule, u64)>> {
+    let scene = scene_of(alloc, &NOTHING)?;
+    let plan = Plan {
+        entries: Items::new(too_many_entries(alloc)?),
+        actions: Items::new(Vec::new(alloc)),
+    };
+    verdict(alloc, &scene, &plan)
+}
+
+#[test]
+fn too_many_entries_are_past_a_limit(rt: HostRuntime) {
+    assert!(rt; verdict_of_too_many(rt.alloc()) == Some(Some((PlanRule::Limits, 0))));
+}
+
+/// What the actions wait for, and what waits for them.
+fn tells_waits(checked: &Checked<'_>) -> bool {
+    checked.action_count() == 3
+        && checked.preds(1) == [0u32].as_slice()
+        && checked.preds(3).is_empty()
+        && checked.successors(1) == [2u32].as_slice()
+        && checked.successors(2).is_empty()
+}
+
+/// The pieces of the commits.
+fn tells_pieces(checked: &Checked<'_>) -> bool {
+    !checked.is_commit(0)
+        && checked.is_commit(1)
+        && checked.pieces(1) == [0u32].as_slice()
+        && checked.pieces(2).is_empty()
+        && checked.commit_of(0) == Some(1)
+        && checked.commit_of(2) == None
+}
+
+/// What the plan was checked against.
+fn tells_given(checked: &Checked<'_>) -> bool {
+    checked.plan().entries.as_slice().len() == 1
+        && checked.archive().rows().is_empty()
+        && checked.first().rows().len() == 1
+        && checked.second().rows().is_empty()
+}
+
+/// Both sides of the commit.
+fn tells_sides(alloc: Global, checked: &Checked<'_>) -> bool {
+    if !checked.is_commit(1) {
+        return false;
+    }
+    let Ok(staged) = checked.staged(alloc, 1) else {
+        return false;
+    };
+    staged.rows().len() == 1
+        && checked.before(1).rows().is_empty()
+        && checked.after(1).rows().len() == 1
+}
+
+/// What is told of a plan that copies the one file of the first replica.
+fn told(alloc: Global) -> Option<[bool; 4]> {
+    let plan = plan_of(
+        alloc,
+        b"twosync-plan 1\nentry first /a\npiece 0 0 1 /a\ncommit 0\np 0\nmark 0\np 1\nend 1 3\n",
+    )?;
+    let world = World {
+        archive: &[],
+        first: &[b"f /a 1 aaaaaaaaaaaaaaaaaaaaaaaaaaaaaaaaaaaaaaaaaaaaaaaaaaaaaaaaaaaaaaaa"],
+        second: &[],
+        rules: b"",
+    };
+    let scene = scene_of(alloc, &world)?;
+    let checked = accepted(alloc, &scene, &plan)?;
+    Some([
+        tells_waits(&checked),
+        tells_pieces(&checked),
+        tells_given(&checked),
+        tells_sides(alloc, &checked),
+    ])
+}
+
+fn accepted<'a>(alloc: Global, scene: &'a Scene, plan: &'a Plan) -> Option<Checked<'a>> {
+    check(
+        alloc,
+        plan,
+        &scene.archive,
+        &scene.first,
+        &scene.second,
+        &scene.holds,
+    )
+    .ok()
+}
+
+#[test]
+fn a_checked_plan_tells_of_its_actions(rt: HostRuntime) {
+    assert!(rt; told(rt.alloc()) == Some([true; 4]));
 }

@@ -1,11 +1,8 @@
 //! Which paths hold rules name, and their text.
-use std::alloc::{AllocError, Global};
-use std::io;
-use std::io::Write;
-use std::test::Fail;
+use crate::shared::{has_taken, path, repeated, sink_of};
+use std::alloc::Global;
+use std::io::ErrorKind;
 use ts_hold::{HoldFault, Holds, RuleReader};
-use ts_name::Path;
-use ts_text::Counted;
 
 /// The number of a fault, and its line where it has one.
 fn told(fault: &HoldFault) -> (u8, u64) {
@@ -15,232 +12,211 @@ fn told(fault: &HoldFault) -> (u8, u64) {
     }
 }
 
-#[test]
-fn rules_name_paths(rt: HostRuntime) -> Result<(), Fail> {
-    let cases: [(&str, &str, bool); 24] = [
-        ("name *.o\n", "/n/x.o", true),
-        ("name *.o\n", "/.o", true),
-        ("name *.o\n", "/x.oo", false),
-        ("name *.o\n", "/n.o/x", false),
-        ("name %2A\n", "/*", true),
-        ("name %2A\n", "/d/*", true),
-        ("name %2A\n", "/ab", false),
-        ("name *\n", "/a/b", true),
-        ("name *\n", "", false),
-        ("name a\n", "/a", true),
-        ("name a\n", "/a/b", false),
-        ("name a*\n", "/a", true),
-        ("name *b*d\n", "/abcbcd", true),
-        ("name *b*d\n", "/abcbcde", false),
-        ("name *ab\n", "/aab", true),
-        ("name a*bc*c\n", "/abcbc", true),
-        ("name a*bc*c\n", "/abc", false),
-        ("name %20%25%7F\n", "/%20%25%7F", true),
-        ("path /a\n", "/a", true),
-        ("path /a\n", "/a/b", false),
-        ("path /a%20b/c\n", "/a%20b/c", true),
-        ("path /a\nname *.o\n", "/x.o", true),
-        ("path /a\nname *.o\n", "/b", false),
-        ("", "/a", false),
-    ];
-    for (rules, text, want) in cases {
-        let holds = Holds::parse(rt.alloc(), rules.as_bytes())?;
-        let path = Path::parse_text(rt.alloc(), text.as_bytes())?;
-        assert_eq!(rt; holds.holds(&path), want, "{rules} at {text}");
+/// What is told of the text of rules: 0 and how many they are, or the fault.
+fn outcome(alloc: Global, text: &[u8]) -> (u8, u64) {
+    match Holds::parse(alloc, text) {
+        Ok(holds) => (0, holds.rules().len() as u64),
+        Err(fault) => told(&fault),
     }
-    Ok(())
 }
 
+/// Whether rules name a path.
+fn names(alloc: Global, rules: &[u8], text: &[u8]) -> Option<bool> {
+    let holds = Holds::parse(alloc, rules).ok()?;
+    let path = path(alloc, text)?;
+    Some(holds.holds(&path))
+}
+
+/// Rules, a path, and whether they name it.
+const NAMED: [(&[u8], &[u8], bool); 25] = [
+    (b"name *.o\n", b"/n/x.o", true),
+    (b"name *.o\n", b"/.o", true),
+    (b"name *.o\n", b"/x.oo", false),
+    (b"name *.o\n", b"/n.o/x", false),
+    (b"name %2A\n", b"/*", true),
+    (b"name %2A\n", b"/d/*", true),
+    (b"name %2A\n", b"/ab", false),
+    (b"name *\n", b"/a/b", true),
+    (b"name *\n", b"", false),
+    (b"name a\n", b"/a", true),
+    (b"name a\n", b"/a/b", false),
+    (b"name a*\n", b"/a", true),
+    (b"name *b*d\n", b"/abcbcd", true),
+    (b"name *b*d\n", b"/abcbcde", false),
+    (b"name *ab\n", b"/aab", true),
+    (b"name a*bc*c\n", b"/abcbc", true),
+    (b"name a*bc*c\n", b"/abc", false),
+    (b"name %20%25%7F\n", b"/%20%25%7F", true),
+    (b"path /a\n", b"/a", true),
+    (b"path /a\n", b"/a/b", false),
+    (b"path /a%20b/c\n", b"/a%20b/c", true),
+    (b"path /a\nname *.o\n", b"/x.o", true),
+    (b"path /a\nname *.o\n", b"/b", false),
+    (b"", b"/a", false),
+    // bytes stand alone
+    (b"name \xc3*\n", b"/\xc3\xa9", true),
+];
+
+/// The same, where a pattern goes back to an earlier star.
+const GOING_BACK: [(&[u8], &[u8], bool); 14] = [
+    (b"name *a*b\n", b"/ab", true),
+    (b"name *a*b\n", b"/abab", true),
+    (b"name *a*b\n", b"/bab", true),
+    (b"name *a*b\n", b"/ba", false),
+    (b"name *a*b\n", b"/abc", false),
+    (b"name *a*b\n", b"/acbcb", true),
+    (b"name *ab*ab\n", b"/abab", true),
+    (b"name *ab*ab\n", b"/aab", false),
+    (b"name *aab\n", b"/aaab", true),
+    (b"name *aba*\n", b"/ababa", true),
+    (b"name a*a\n", b"/a", false),
+    (b"name a*a\n", b"/aa", true),
+    (b"name *a*a*\n", b"/ba", false),
+    (b"name *a*a*\n", b"/bacad", true),
+];
+
 #[test]
-fn patterns_go_back_where_they_must(rt: HostRuntime) -> Result<(), Fail> {
-    let cases: [(&str, &str, bool); 14] = [
-        ("name *a*b\n", "/ab", true),
-        ("name *a*b\n", "/abab", true),
-        ("name *a*b\n", "/bab", true),
-        ("name *a*b\n", "/ba", false),
-        ("name *a*b\n", "/abc", false),
-        ("name *a*b\n", "/acbcb", true),
-        ("name *ab*ab\n", "/abab", true),
-        ("name *ab*ab\n", "/aab", false),
-        ("name *aab\n", "/aaab", true),
-        ("name *aba*\n", "/ababa", true),
-        ("name a*a\n", "/a", false),
-        ("name a*a\n", "/aa", true),
-        ("name *a*a*\n", "/ba", false),
-        ("name *a*a*\n", "/bacad", true),
-    ];
-    for (rules, text, want) in cases {
-        let holds = Holds::parse(rt.alloc(), rules.as_bytes())?;
-        let path = Path::parse_text(rt.alloc(), text.as_bytes())?;
-        assert_eq!(rt; holds.holds(&path), want, "{rules} at {text}");
+fn rules_name_paths(rt: HostRuntime) {
+    for (rules, text, want) in NAMED {
+        assert!(rt; names(rt.alloc(), rules, text) == Some(want), "{rules:?}");
     }
-    Ok(())
+    for (rules, text, want) in GOING_BACK {
+        assert!(rt; names(rt.alloc(), rules, text) == Some(want), "{rules:?}");
+    }
+}
+
+/// A text before and a text behind so many times another.
+fn around(
+    alloc: Global,
+    before: &[u8],
+    text: &[u8],
+    count: usize,
+    behind: &[u8],
+) -> Option<Vec<u8>> {
+    let mut all = Vec::from_slice(alloc, before).ok()?;
+    let middle = repeated(alloc, text, count)?;
+    all.extend_from_slice(&middle).ok()?;
+    all.extend_from_slice(behind).ok()?;
+    Some(all)
+}
+
+/// Whether 127 stars, each with an `a` behind it, and this end name 255 letters `a`.
+fn many_stars_name(alloc: Global, end: &[u8]) -> Option<bool> {
+    let rules = around(alloc, b"name ", b"*a", 127, end)?;
+    let text = around(alloc, b"/", b"a", 255, b"")?;
+    names(alloc, &rules, &text)
+}
+
+/// Whether one of 4,096 rules with two stars names 255 letters `a`.
+fn many_rules_name(alloc: Global) -> Option<bool> {
+    let rules = repeated(alloc, b"name *aaaaaaaaaaaaaaaaaaaaaaaaaaaaaab*\n", 4096)?;
+    let text = around(alloc, b"/", b"a", 255, b"")?;
+    names(alloc, &rules, &text)
 }
 
 /// Trying every way to part the name among the stars would never end.
 #[test]
-fn many_stars_take_few_steps(rt: HostRuntime) -> Result<(), Fail> {
-    for (last, want) in [(b'b', false), (b'a', true), (b'*', true)] {
-        let mut text = repeated(rt.alloc(), b"name ", 1)?;
-        text.extend_from_slice(&repeated(rt.alloc(), b"*a", 127)?)?;
-        text.push(last)?;
-        text.push(b'\n')?;
-        let holds = Holds::parse(rt.alloc(), &text)?;
-        let mut name = repeated(rt.alloc(), b"/", 1)?;
-        name.extend_from_slice(&repeated(rt.alloc(), b"a", 255)?)?;
-        let path = Path::parse_text(rt.alloc(), &name)?;
-        assert_eq!(rt; holds.holds(&path), want);
-    }
-    let stars = Holds::parse(
-        rt.alloc(),
-        &repeated(
-            rt.alloc(),
-            b"name *aaaaaaaaaaaaaaaaaaaaaaaaaaaaaab*\n",
-            4096,
-        )?,
-    )?;
-    let mut name = repeated(rt.alloc(), b"/", 1)?;
-    name.extend_from_slice(&repeated(rt.alloc(), b"a", 255)?)?;
-    let path = Path::parse_text(rt.alloc(), &name)?;
-    assert!(rt; !stars.holds(&path));
-    Ok(())
+fn many_stars_take_few_steps(rt: HostRuntime) {
+    assert!(rt; many_stars_name(rt.alloc(), b"b\n") == Some(false));
+    assert!(rt; many_stars_name(rt.alloc(), b"a\n") == Some(true));
+    assert!(rt; many_stars_name(rt.alloc(), b"*\n") == Some(true));
+    assert!(rt; many_rules_name(rt.alloc()) == Some(false));
+}
+
+/// What is told of a bad line between two good ones, and how many rules there are in the end.
+fn taken_by_line(alloc: Global) -> Option<((u8, u64), usize)> {
+    let mut reader = RuleReader::new(alloc);
+    reader.line(b"path /a").ok()?;
+    let told = match reader.line(b"path a") {
+        Ok(()) => (0, 0),
+        Err(fault) => told(&fault),
+    };
+    reader.line(b"name *").ok()?;
+    Some((told, reader.finish().rules().len()))
+}
+
+/// How many rules a reader of no line has, and whether they name `/a`.
+fn taken_of_nothing(alloc: Global) -> Option<(usize, bool)> {
+    let none = RuleReader::new(alloc).finish();
+    Some((none.rules().len(), none.holds(&path(alloc, b"/a")?)))
 }
 
 #[test]
-fn rules_are_taken_line_by_line(rt: HostRuntime) -> Result<(), Fail> {
-    let mut reader = RuleReader::new(rt.alloc());
-    reader.line(b"path /a")?;
-    match reader.line(b"path a") {
-        Ok(()) => assert!(rt; false, "a bad line was taken"),
-        Err(fault) => assert_eq!(rt; told(&fault), (11, 2)),
+fn rules_are_taken_line_by_line(rt: HostRuntime) {
+    assert!(rt; taken_by_line(rt.alloc()) == Some(((11, 2), 2)));
+    assert!(rt; taken_of_nothing(rt.alloc()) == Some((0, false)));
+}
+
+/// Texts of rules, and the first line that is bad.
+const BAD: [(&[u8], u64); 26] = [
+    (b"name **\n", 1),
+    (b"name a/b\n", 1),
+    (b"name a%2Fb\n", 1),
+    (b"name a\0b\n", 1),
+    (b"name %00\n", 1),
+    (b"name %2a\n", 1),
+    (b"name %41\n", 1),
+    (b"name %4\n", 1),
+    (b"name %\n", 1),
+    (b"name a b\n", 1),
+    (b"name a\r\n", 1),
+    (b"name \n", 1),
+    (b"name\n", 1),
+    (b"names a\n", 1),
+    (b" name a\n", 1),
+    (b"path\n", 1),
+    (b"path \n", 1),
+    (b"path /\n", 1),
+    (b"path a\n", 1),
+    (b"path /%2A\n", 1),
+    (b"path /a \n", 1),
+    (b"path /..\n", 1),
+    (b"\n", 1),
+    (b"path /a", 1),
+    (b"path /a\nname \n", 2),
+    (b"path /a\nname a\nname **\nname **\n", 3),
+];
+
+#[test]
+fn bad_lines_are_told(rt: HostRuntime) {
+    for (text, line) in BAD {
+        assert!(rt; outcome(rt.alloc(), text) == (11, line), "{text:?}");
     }
-    reader.line(b"name *")?;
-    let holds = reader.finish();
-    assert_eq!(rt; holds.rules().len(), 2);
-    let none = RuleReader::new(rt.alloc()).finish();
-    assert_eq!(rt; none.rules().len(), 0);
-    assert!(rt; !none.holds(&Path::parse_text(rt.alloc(), b"/a")?));
-    Ok(())
+}
+
+/// What is told of so many rules.
+fn outcome_of_many(alloc: Global, count: usize) -> Option<(u8, u64)> {
+    Some(outcome(alloc, &repeated(alloc, b"name a\n", count)?))
+}
+
+/// What is told of a rule of so many symbols.
+fn outcome_of_long(alloc: Global, symbols: usize) -> Option<(u8, u64)> {
+    Some(outcome(alloc, &around(alloc, b"name ", b"%20", symbols, b"\n")?))
 }
 
 #[test]
-fn bytes_stand_alone(rt: HostRuntime) -> Result<(), Fail> {
-    let holds = Holds::parse(rt.alloc(), b"name \xc3*\n")?;
-    let path = Path::parse_text(rt.alloc(), "/é".as_bytes())?;
-    assert!(rt; holds.holds(&path));
-    Ok(())
+fn limits_are_kept(rt: HostRuntime) {
+    assert!(rt; outcome_of_many(rt.alloc(), 4096) == Some((0, 4096)));
+    assert!(rt; outcome_of_many(rt.alloc(), 4097) == Some((11, 4097)));
+    assert!(rt; outcome_of_long(rt.alloc(), 255) == Some((0, 1)));
+    assert!(rt; outcome_of_long(rt.alloc(), 256) == Some((11, 1)));
+}
+
+/// Whether the rules are written as far as there is room, and it is told where that isn't all.
+fn writes_into(alloc: Global, holds: &Holds, text: &[u8], room: usize) -> bool {
+    let mut sink = sink_of(alloc, 1, room, Some(ErrorKind::WriteZero));
+    let result = holds.encode(alloc, &mut sink);
+    result.is_ok() == (room == text.len()) && has_taken(sink, text, room)
 }
 
 #[test]
-fn bad_lines_are_told(rt: HostRuntime) -> Result<(), Fail> {
-    let cases: [(&str, u64); 26] = [
-        ("name **\n", 1),
-        ("name a/b\n", 1),
-        ("name a%2Fb\n", 1),
-        ("name a\0b\n", 1),
-        ("name %00\n", 1),
-        ("name %2a\n", 1),
-        ("name %41\n", 1),
-        ("name %4\n", 1),
-        ("name %\n", 1),
-        ("name a b\n", 1),
-        ("name a\r\n", 1),
-        ("name \n", 1),
-        ("name\n", 1),
-        ("names a\n", 1),
-        (" name a\n", 1),
-        ("path\n", 1),
-        ("path \n", 1),
-        ("path /\n", 1),
-        ("path a\n", 1),
-        ("path /%2A\n", 1),
-        ("path /a \n", 1),
-        ("path /..\n", 1),
-        ("\n", 1),
-        ("path /a", 1),
-        ("path /a\nname \n", 2),
-        ("path /a\nname a\nname **\nname **\n", 3),
-    ];
-    for (text, line) in cases {
-        match Holds::parse(rt.alloc(), text.as_bytes()) {
-            Ok(holds) => assert_eq!(rt; holds.rules().len(), 4097, "{text} was read"),
-            Err(fault) => assert_eq!(rt; told(&fault), (11, line), "{text}"),
-        }
-    }
-    Ok(())
-}
-
-/// So many times the text.
-fn repeated(alloc: Global, text: &[u8], count: usize) -> Result<Vec<u8>, AllocError> {
-    let mut bytes = Vec::new(alloc);
-    for _ in 0..count {
-        bytes.extend_from_slice(text)?;
-    }
-    Ok(bytes)
-}
-
-#[test]
-fn limits_are_kept(rt: HostRuntime) -> Result<(), Fail> {
-    let most = repeated(rt.alloc(), b"name a\n", 4096)?;
-    assert_eq!(rt; Holds::parse(rt.alloc(), &most)?.rules().len(), 4096);
-    let more = repeated(rt.alloc(), b"name a\n", 4097)?;
-    match Holds::parse(rt.alloc(), &more) {
-        Ok(holds) => assert_eq!(rt; holds.rules().len(), 0, "4,097 rules were read"),
-        Err(fault) => assert_eq!(rt; told(&fault), (11, 4097)),
-    }
-    for (symbols, is_read) in [(255, true), (256, false)] {
-        let mut line = repeated(rt.alloc(), b"%20", symbols)?;
-        line.insert(0, b' ')?;
-        line.push(b'\n')?;
-        let mut text = repeated(rt.alloc(), b"name", 1)?;
-        text.extend_from_slice(&line)?;
-        assert_eq!(rt;
-            Holds::parse(rt.alloc(), &text).is_ok(),
-            is_read,
-            "{symbols} symbols"
-        );
-    }
-    Ok(())
-}
-
-/// Takes so many bytes and then fails.
-#[derive(Drop)]
-struct Short {
-    room: usize,
-    taken: Vec<u8>,
-}
-
-impl Write for Short {
-    fn write(&mut self, buf: &[u8]) -> io::Result<usize> {
-        if self.room == 0 || buf.is_empty() {
-            return Err(io::ErrorKind::WriteZero.into());
-        }
-        let front = &buf[..1];
-        self.taken.extend_from_slice(front)?;
-        self.room -= 1;
-        Ok(1)
-    }
-
-    fn flush(&mut self) -> io::Result<()> {
-        Ok(())
-    }
-}
-
-#[test]
-fn rules_are_written(rt: HostRuntime) -> Result<(), Fail> {
+fn rules_are_written(rt: HostRuntime) {
     let text = b"path /a%20b\nname *.o\nname %2A%2A\nname \xff*%25\nname *.o\n";
-    let holds = Holds::parse(rt.alloc(), text)?;
+    let Ok(holds) = Holds::parse(rt.alloc(), text) else {
+        panic!(rt; "no rules");
+    };
     for room in 0..=text.len() {
-        let writer = Short {
-            room,
-            taken: Vec::new(rt.alloc()),
-        };
-        let mut sink = Counted::new(writer);
-        let result = holds.encode(rt.alloc(), &mut sink);
-        let written = sink.into_inner();
-        assert_eq!(rt; result.is_ok(), room == text.len());
-        assert!(rt; written.taken.as_slice() == &text[..room], "at {room}");
+        assert!(rt; writes_into(rt.alloc(), &holds, text, room), "at {room}");
     }
-    assert_eq!(rt; Holds::none(rt.alloc()).rules().len(), 0);
-    Ok(())
+    assert!(rt; Holds::none(rt.alloc()).rules().len() == 0);
 }

@@ -19,6 +19,8 @@ mod reports;
 #[cfg(test)]
 mod resumed;
 #[cfg(test)]
+mod shared;
+#[cfg(test)]
 mod swaps;
 #[cfg(test)]
 mod texts;

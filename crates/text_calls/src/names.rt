@@ -1,33 +1,24 @@
 //! What no clause says: vectors from outside, and that each call succeeds with ample memory.
-use std::alloc::{AllocError, Global};
-use std::process::Abort;
-use std::test::Fail;
+use crate::shared::{path, repeated};
+use std::alloc::Global;
 use ts_name::{Name, NameFault, Path, PathFault};
 
-/// The number of the fault, or 0 where the text is read.
-fn outcome(alloc: Global, text: &[u8]) -> u8 {
-    match Path::parse_text(alloc, text) {
+/// The number of the fault, or 0.
+fn number_of(answer: Result<Path, PathFault>) -> u8 {
+    match answer {
         Ok(_) => 0,
         Err(fault) => fault.number(),
     }
 }
 
-/// The text of `count` names of `size` times the letter `a`.
-fn repeated(alloc: Global, count: usize, size: usize) -> Result<Vec<u8>, AllocError> {
-    let mut text = Vec::new(alloc);
-    for _ in 0..count {
-        text.push(b'/')?;
-        for _ in 0..size {
-            text.push(b'a')?;
-        }
-    }
-    Ok(text)
+fn outcome(alloc: Global, text: &[u8]) -> u8 {
+    number_of(Path::parse_text(alloc, text))
 }
 
-fn text_of(alloc: Global, path: &Path) -> Result<Vec<u8>, AllocError> {
+fn text_of(alloc: Global, path: &Path) -> Option<Vec<u8>> {
     let mut out = Vec::new(alloc);
-    path.write_text(&mut out)?;
-    Ok(out)
+    path.write_text(&mut out).ok()?;
+    Some(out)
 }
 
 #[test]
@@ -73,80 +64,117 @@ fn texts_of_every_kind(rt: HostRuntime) {
         (b"//%zz", 3),
     ];
     for (text, wanted) in cases {
-        assert_eq!(rt; outcome(rt.alloc(), text), wanted);
+        assert!(rt; outcome(rt.alloc(), text) == wanted);
     }
 }
 
-#[test]
-fn limits_of_names_and_bytes(rt: HostRuntime) -> Result<(), Fail> {
-    let cases = [
-        (64, 1, 0),
-        (65, 1, 4),
-        (1, 255, 0),
-        (1, 256, 2),
-        (65, 256, 2),
-        (64, 64, 0),
-        (17, 241, 4),
-        (16, 255, 0),
-        (17, 240, 0),
-    ];
-    for (count, size, wanted) in cases {
-        let text = repeated(rt.alloc(), count, size)?;
-        assert_eq!(rt; outcome(rt.alloc(), &text), wanted);
-    }
-    // 16 names of 255 bytes, and one of 16 or of 17 more
-    let mut text = repeated(rt.alloc(), 16, 255)?;
-    text.extend_from_slice(b"/0123456789abcdef")?;
-    assert_eq!(rt; outcome(rt.alloc(), &text), 0);
-    text.push(b'g')?;
-    assert_eq!(rt; outcome(rt.alloc(), &text), 4);
-    // one bad name among too many
-    let mut text = repeated(rt.alloc(), 64, 1)?;
-    text.extend_from_slice(b"/..")?;
-    assert_eq!(rt; outcome(rt.alloc(), &text), 2);
-    Ok(())
+/// The text of `count` names of `size` times the letter `a`, with another text behind it.
+fn repeated_names(alloc: Global, count: usize, size: usize, last: &[u8]) -> Option<Vec<u8>> {
+    let mut name = repeated(alloc, b"a", size)?;
+    name.insert(0, b'/').ok()?;
+    let mut text = repeated(alloc, &name, count)?;
+    text.extend_from_slice(last).ok()?;
+    Some(text)
+}
+
+/// The outcome of that text.
+fn outcome_of_names(alloc: Global, count: usize, size: usize, last: &[u8]) -> Option<u8> {
+    Some(outcome(alloc, &repeated_names(alloc, count, size, last)?))
 }
 
 #[test]
-fn escaped_bytes_have_two_digits(rt: HostRuntime) -> Result<(), Fail> {
-    let root = Path::root(rt.alloc());
-    let escaped: [(u8, &[u8]); 9] = [
-        (1, b"/%01"),
-        (9, b"/%09"),
-        (10, b"/%0A"),
-        (15, b"/%0F"),
-        (16, b"/%10"),
-        (31, b"/%1F"),
-        (32, b"/%20"),
-        (37, b"/%25"),
-        (127, b"/%7F"),
+fn limits_of_names_and_bytes(rt: HostRuntime) {
+    let cases: [(usize, usize, &[u8], u8); 12] = [
+        (64, 1, b"", 0),
+        (65, 1, b"", 4),
+        (1, 255, b"", 0),
+        (1, 256, b"", 2),
+        (65, 256, b"", 2),
+        (64, 64, b"", 0),
+        (17, 241, b"", 4),
+        (16, 255, b"", 0),
+        (17, 240, b"", 0),
+        // 16 names of 255 bytes, and one of 16 or of 17 more
+        (16, 255, b"/0123456789abcdef", 0),
+        (16, 255, b"/0123456789abcdefg", 4),
+        // one bad name among too many
+        (64, 1, b"/..", 2),
     ];
-    for (byte, text) in escaped {
-        let path = root.child(rt.alloc(), &Name::parse(rt.alloc(), &[byte])?)?;
-        assert_eq!(rt; text_of(rt.alloc(), &path)?.as_slice(), text);
-        assert!(rt; Path::parse_text(rt.alloc(), text)? == path);
+    for (count, size, last, wanted) in cases {
+        assert!(rt; outcome_of_names(rt.alloc(), count, size, last) == Some(wanted));
+    }
+}
+
+/// The path of one name of these bytes.
+fn child_of_root(alloc: Global, bytes: &[u8]) -> Option<Path> {
+    let name = Name::parse(alloc, bytes).ok()?;
+    Path::root(alloc).child(alloc, &name).ok()
+}
+
+/// The text of that path, where it reads as the path again.
+fn spelled(alloc: Global, bytes: &[u8]) -> Option<Vec<u8>> {
+    let path = child_of_root(alloc, bytes)?;
+    let text = text_of(alloc, &path)?;
+    if Path::parse_text(alloc, &text).ok()? != path {
+        return None;
+    }
+    Some(text)
+}
+
+fn is_spelled(alloc: Global, bytes: &[u8], want: &[u8]) -> bool {
+    match spelled(alloc, bytes) {
+        Some(text) => text.as_slice() == want,
+        None => false,
+    }
+}
+
+fn spelled_size(alloc: Global, byte: u8) -> Option<usize> {
+    Some(spelled(alloc, &[byte])?.len())
+}
+
+#[test]
+fn escaped_bytes_have_two_digits(rt: HostRuntime) {
+    let escaped: [(&[u8], &[u8]); 10] = [
+        (b"\x01", b"/%01"),
+        (b"\x09", b"/%09"),
+        (b"\x0a", b"/%0A"),
+        (b"\x0f", b"/%0F"),
+        (b"\x10", b"/%10"),
+        (b"\x1f", b"/%1F"),
+        (b"\x20", b"/%20"),
+        (b"\x25", b"/%25"),
+        (b"\x7f", b"/%7F"),
+        (b"a b%", b"/a%20b%25"),
+    ];
+    for (bytes, text) in escaped {
+        assert!(rt; is_spelled(rt.alloc(), bytes, text));
     }
     for byte in 1..128u8 {
         if byte == b'/' || byte == b'.' {
             continue;
         }
-        let path = root.child(rt.alloc(), &Name::parse(rt.alloc(), &[byte])?)?;
-        let text = text_of(rt.alloc(), &path)?;
         let is_long = byte <= 32 || byte == b'%' || byte == 127;
-        assert_eq!(rt; text.len(), if is_long { 4 } else { 2 });
-        assert!(rt; Path::parse_text(rt.alloc(), &text)? == path);
+        let size = if is_long { 4 } else { 2 };
+        assert!(rt; spelled_size(rt.alloc(), byte) == Some(size), "{byte}");
     }
-    let name = Name::parse(rt.alloc(), b"a b%")?;
-    let path = root.child(rt.alloc(), &name)?;
-    assert_eq!(rt;
-        text_of(rt.alloc(), &path)?.as_slice(),
-        b"/a%20b%25".as_slice()
-    );
-    Ok(())
+}
+
+/// Whether the first path is less, and whether both are equal.
+fn compared(alloc: Global, first: &[u8], second: &[u8]) -> Option<(bool, bool)> {
+    let first = path(alloc, first)?;
+    let second = path(alloc, second)?;
+    Some((first < second, first == second))
+}
+
+/// The same of names.
+fn names_compared(alloc: Global, first: &[u8], second: &[u8]) -> Option<(bool, bool)> {
+    let first = Name::parse(alloc, first).ok()?;
+    let second = Name::parse(alloc, second).ok()?;
+    Some((first < second, first != second))
 }
 
 #[test]
-fn paths_are_in_the_order_of_their_names(rt: HostRuntime) -> Result<(), Fail> {
+fn paths_are_in_the_order_of_their_names(rt: HostRuntime) {
     let ascending: [&[u8]; 9] = [
         b"",
         b"/%20",
@@ -158,84 +186,121 @@ fn paths_are_in_the_order_of_their_names(rt: HostRuntime) -> Result<(), Fail> {
         b"/ab",
         b"/\xc3\xa9",
     ];
-    for (i, text) in ascending.iter().enumerate() {
-        let path = Path::parse_text(rt.alloc(), text)?;
-        for (j, other) in ascending.iter().enumerate() {
-            let other = Path::parse_text(rt.alloc(), other)?;
-            assert_eq!(rt; path < other, i < j);
-            assert_eq!(rt; path == other, i == j);
+    for i in 0..9_usize {
+        for j in 0..9_usize {
+            let found = compared(rt.alloc(), ascending[i], ascending[j]);
+            assert!(rt; found == Some((i < j, i == j)), "{i} and {j}");
         }
     }
-    let space = Name::parse(rt.alloc(), b" ")?;
-    let mark = Name::parse(rt.alloc(), b"!")?;
-    assert!(rt; space < mark);
-    assert!(rt; space != mark);
-    Ok(())
+    assert!(rt; names_compared(rt.alloc(), b" ", b"!") == Some((true, true)));
 }
 
-#[test]
-fn calls_without_memory(rt: HostRuntime) -> Result<(), Fail> {
-    let root = Path::root(rt.alloc());
-    let top = Path::parse_text(rt.alloc(), b"/a")?;
-    let path = Path::parse_text(rt.alloc(), b"/a/bc")?;
-    let beside = Path::parse_text(rt.alloc(), b"/ab")?;
-    assert_eq!(rt; (path.depth(), path.size()), (2, 3));
-    assert!(rt; root.is_root() && !top.is_root());
-    assert!(rt; top.is_prefix(&path) && !top.is_prefix(&beside));
-    assert!(rt; top.is_parent_of(&path) && !root.is_parent_of(&path));
-    assert!(rt; path.has_parent_above(&path) && !path.has_parent_above(&beside));
-    assert_eq!(rt; path.last().ok_or("no name")?, b"bc".as_slice());
-    assert!(rt; root.last().is_none());
-    Ok(())
+/// What `/a/bc` tells, beside the root, `/a` and `/ab`.
+fn tells_places(root: &Path, top: &Path, path: &Path, beside: &Path) -> bool {
+    path.depth() == 2
+        && path.size() == 3
+        && root.is_root()
+        && !top.is_root()
+        && top.is_prefix(path)
+        && !top.is_prefix(beside)
+        && top.is_parent_of(path)
+        && !root.is_parent_of(path)
+        && path.has_parent_above(path)
+        && !path.has_parent_above(beside)
 }
 
-#[test]
-fn calls_with_ample_memory(rt: HostRuntime) -> Result<(), Fail> {
-    let top = Path::parse_text(rt.alloc(), b"/a")?;
-    let path = Path::parse_text(rt.alloc(), b"/a/bc")?;
-    assert!(rt; path.copy(rt.alloc())? == path);
-    assert!(rt; path.parent(rt.alloc())?.ok_or("no parent")? == top);
-    let rest = path.below(rt.alloc(), &top)?.ok_or("not below")?;
-    assert_eq!(rt; text_of(rt.alloc(), &rest)?.as_slice(), b"/bc".as_slice());
-    assert!(rt; top.join(rt.alloc(), &rest)? == path);
-    let name = Name::parse(rt.alloc(), b"bc")?;
-    assert_eq!(rt; name.as_bytes(), b"bc".as_slice());
-    assert!(rt; top.child(rt.alloc(), &name)? == path);
-    Ok(())
+fn tells(alloc: Global) -> Option<bool> {
+    let top = path(alloc, b"/a")?;
+    let place = path(alloc, b"/a/bc")?;
+    let beside = path(alloc, b"/ab")?;
+    Some(tells_places(&Path::root(alloc), &top, &place, &beside))
 }
 
-#[test]
-fn what_is_refused(rt: HostRuntime) -> Result<(), Fail> {
-    let deep = Path::parse_text(rt.alloc(), &repeated(rt.alloc(), 64, 1)?)?;
-    let one = Path::parse_text(rt.alloc(), b"/a")?;
-    let name = Name::parse(rt.alloc(), b"a")?;
-    refuses_as_too_long(&rt, deep.child(rt.alloc(), &name));
-    refuses_as_too_long(&rt, deep.join(rt.alloc(), &one));
-    refuses_as_too_long(&rt, one.join(rt.alloc(), &deep));
-    let long = Path::parse_text(rt.alloc(), &repeated(rt.alloc(), 64, 64)?)?;
-    refuses_as_too_long(&rt, long.join(rt.alloc(), &one));
-    for bytes in [
-        b"".as_slice(),
-        b"/",
-        b".",
-        b"..",
-        b".twosync",
-        b"\x80",
-        b"a\x00",
-    ] {
-        match Name::parse(rt.alloc(), bytes) {
-            Ok(_) => assert!(rt; false),
-            Err(fault) => assert_eq!(rt; fault.number(), 2),
-        }
+/// Whether the last name of a path is this.
+fn ends_in(path: &Path, want: &[u8]) -> bool {
+    match path.last() {
+        Some(name) => name == want,
+        None => false,
     }
-    assert_eq!(rt; NameFault::OutOfMemory.number(), 1);
-    assert_eq!(rt; PathFault::OutOfMemory.number(), 1);
-    Ok(())
 }
 
-fn refuses_as_too_long(rt: &impl Abort, answer: Result<Path, PathFault>) {
-    match answer {
-        Ok(_) => assert!(rt; false),
-        Err(fault) => assert_eq!(rt; fault.number(), 4),
+#[test]
+fn calls_without_memory(rt: HostRuntime) {
+    assert!(rt; tells(rt.alloc()) == Some(true));
+    match path(rt.alloc(), b"/a/bc") {
+        Some(path) => assert!(rt; ends_in(&path, b"bc")),
+        None => assert!(rt; false),
     }
+    assert!(rt; Path::root(rt.alloc()).last().is_none());
+}
+
+/// Whether a path's copy is like it, and its parent is the one above it.
+fn has_copy_and_parent(alloc: Global, path: &Path, top: &Path) -> Option<bool> {
+    let is_copied = path.copy(alloc).ok()? == *path;
+    Some(is_copied && path.parent(alloc).ok()?? == *top)
+}
+
+/// Whether the path is joined of the one above it and the rest, of this text.
+fn is_joined(alloc: Global, path: &Path, top: &Path, want: &[u8]) -> Option<bool> {
+    let rest = path.below(alloc, top).ok()??;
+    let is_rest = text_of(alloc, &rest)?.as_slice() == want;
+    Some(is_rest && top.join(alloc, &rest).ok()? == *path)
+}
+
+/// Whether the path is the child of this name.
+fn is_child(alloc: Global, path: &Path, top: &Path, bytes: &[u8]) -> Option<bool> {
+    let name = Name::parse(alloc, bytes).ok()?;
+    Some(name.as_bytes() == bytes && top.child(alloc, &name).ok()? == *path)
+}
+
+fn made(alloc: Global) -> Option<[bool; 3]> {
+    let top = path(alloc, b"/a")?;
+    let place = path(alloc, b"/a/bc")?;
+    Some([
+        has_copy_and_parent(alloc, &place, &top)?,
+        is_joined(alloc, &place, &top, b"/bc")?,
+        is_child(alloc, &place, &top, b"bc")?,
+    ])
+}
+
+#[test]
+fn calls_with_ample_memory(rt: HostRuntime) {
+    assert!(rt; made(rt.alloc()) == Some([true; 3]));
+}
+
+/// The numbers of the faults of joining two paths of so many names of such sizes.
+fn joined(alloc: Global, first: (usize, usize), second: (usize, usize)) -> Option<u8> {
+    let first = path(alloc, &repeated_names(alloc, first.0, first.1, b"")?)?;
+    let second = path(alloc, &repeated_names(alloc, second.0, second.1, b"")?)?;
+    Some(number_of(first.join(alloc, &second)))
+}
+
+/// The number of the fault of going below a path of 64 names.
+fn below_deep(alloc: Global) -> Option<u8> {
+    let deep = path(alloc, &repeated_names(alloc, 64, 1, b"")?)?;
+    let name = Name::parse(alloc, b"a").ok()?;
+    Some(number_of(deep.child(alloc, &name)))
+}
+
+/// The number of the fault of a name, or 0.
+fn number_of_name(alloc: Global, bytes: &[u8]) -> u8 {
+    match Name::parse(alloc, bytes) {
+        Ok(_) => 0,
+        Err(fault) => fault.number(),
+    }
+}
+
+#[test]
+fn what_is_refused(rt: HostRuntime) {
+    let alloc = rt.alloc();
+    assert!(rt; below_deep(alloc) == Some(4));
+    for (first, second) in [((64, 1), (1, 1)), ((1, 1), (64, 1)), ((64, 64), (1, 1))] {
+        assert!(rt; joined(alloc, first, second) == Some(4));
+    }
+    let names: [&[u8]; 7] = [b"", b"/", b".", b"..", b".twosync", b"\x80", b"a\x00"];
+    for bytes in names {
+        assert!(rt; number_of_name(alloc, bytes) == 2);
+    }
+    assert!(rt; NameFault::OutOfMemory.number() == 1);
+    assert!(rt; PathFault::OutOfMemory.number() == 1);
 }

@@ -1,171 +1,122 @@
 //! Whether entries are just the paths that need attention, each with its reason.
-ghost use Rattle.std.specs.Prelude.{IfOk};
+ghost use Rattle.std.specs.Prelude.{IfSome};
 ghost use Rattle.ts_model.specs.Plans.{IsOutOfOrder};
 ghost use Rattle.ts_need.specs.Needs.{Never};
 
+use crate::shared::{Scene, World, path, scene_of};
 use std::alloc::Global;
-use std::test::Fail;
-use ts_hold::Holds;
 use ts_model::plan::{Entry, PlanRule, Reason};
-use ts_name::Path;
 use ts_need::first_wrong;
-use ts_print::{Print, PrintReader};
 
-/// The archive, both replicas and the rules, as texts of one line each; an empty text is no line.
-#[derive(Clone, Copy)]
-struct World {
-    archive: &'static str,
-    first: &'static str,
-    second: &'static str,
-    rule: &'static str,
-}
+const OLD: &[u8] = b"f /a 1 aaaaaaaaaaaaaaaaaaaaaaaaaaaaaaaaaaaaaaaaaaaaaaaaaaaaaaaaaaaaaaaa";
 
-const OLD: &str = "f /a 1 aaaaaaaaaaaaaaaaaaaaaaaaaaaaaaaaaaaaaaaaaaaaaaaaaaaaaaaaaaaaaaaa";
+const NEW: &[u8] = b"f /a 1 bbbbbbbbbbbbbbbbbbbbbbbbbbbbbbbbbbbbbbbbbbbbbbbbbbbbbbbbbbbbbbbb";
 
-const NEW: &str = "f /a 1 bbbbbbbbbbbbbbbbbbbbbbbbbbbbbbbbbbbbbbbbbbbbbbbbbbbbbbbbbbbbbbbb";
+const OTHER: &[u8] = b"f /a 2 cccccccccccccccccccccccccccccccccccccccccccccccccccccccccccccccc";
 
-const OTHER: &str = "f /a 2 cccccccccccccccccccccccccccccccccccccccccccccccccccccccccccccccc";
-
-fn print_of(alloc: Global, line: &str) -> Result<Print, Fail> {
-    let mut reader = PrintReader::new(alloc);
-    if !line.is_empty() {
-        reader.line(alloc, line.as_bytes())?;
-    }
-    Ok(reader.finish()?)
-}
-
-fn one_entry(alloc: Global, path: &str, reason: Reason) -> Result<Vec<Entry>, Fail>
-    ensures { IfOk result (λ entries. Never (IsOutOfOrder entries.items)) }
+/// An entry of a path for a reason, or none where there is no reason.
+fn entries_of(alloc: Global, text: &[u8], reason: Option<Reason>) -> Option<Vec<Entry>>
+    ensures { IfSome result (λ entries. Never (IsOutOfOrder entries.items)) }
 {
     let mut entries = Vec::new(alloc);
-    let path = Path::parse_text(alloc, path.as_bytes())?;
-    entries.push(Entry { path, reason })?;
-    Ok(entries)
-}
-
-fn no_entries(alloc: Global) -> Vec<Entry>
-    ensures { Never (IsOutOfOrder result.items) }
-{
-    Vec::new(alloc)
+    if let Some(reason) = reason {
+        let path = path(alloc, text)?;
+        entries.push(Entry { path, reason }).ok()?;
+    }
+    Some(entries)
 }
 
 /// What is found wrong with these entries.
-fn verdict(
-    alloc: Global,
-    world: &World,
-    entries: Vec<Entry>,
-) -> Result<Option<(PlanRule, u64)>, Fail>
+fn verdict(alloc: Global, scene: &Scene, entries: Vec<Entry>) -> Option<Option<(PlanRule, u64)>>
     requires { Never (IsOutOfOrder entries.items) }
 {
-    let archive = print_of(alloc, world.archive)?;
-    let first = print_of(alloc, world.first)?;
-    let second = print_of(alloc, world.second)?;
-    let holds = Holds::parse(alloc, world.rule.as_bytes())?;
-    let found = first_wrong(alloc, &entries, &archive, &first, &second, &holds)?;
-    Ok(match found {
-        Some(broken) => Some((broken.rule, broken.place)),
-        None => None,
-    })
+    match first_wrong(
+        alloc,
+        &entries,
+        &scene.archive,
+        &scene.first,
+        &scene.second,
+        &scene.holds,
+    ) {
+        Ok(Some(broken)) => Some(Some((broken.rule, broken.place))),
+        Ok(None) => Some(None),
+        Err(_) => None,
+    }
 }
 
-/// Whether `/a` is accepted as the only entry, with this reason.
-fn is_accepted(alloc: Global, world: &World, reason: Reason) -> Result<bool, Fail> {
-    let entries = one_entry(alloc, "/a", reason)?;
-    Ok(verdict(alloc, world, entries)?.is_none())
+/// What is found wrong with an entry of a path for a reason, or with none where there is no reason.
+fn wrong_with(
+    alloc: Global,
+    scene: &Scene,
+    text: &[u8],
+    reason: Option<Reason>,
+) -> Option<Option<(PlanRule, u64)>> {
+    let entries = entries_of(alloc, text, reason)?;
+    verdict(alloc, scene, entries)
 }
 
 /// The one reason with which `/a` is accepted as the only entry.
-fn reason_of(alloc: Global, world: &World) -> Result<Option<Reason>, Fail> {
-    let reasons = [
+fn reason_of(alloc: Global, world: &World<'_>) -> Option<Reason> {
+    let scene = scene_of(alloc, world)?;
+    let mut accepted = None;
+    for reason in [
         Reason::Same,
         Reason::First,
         Reason::Second,
         Reason::Conflict,
         Reason::Held,
         Reason::Dir,
-    ];
-    let mut accepted = None;
-    for reason in reasons {
-        if is_accepted(alloc, world, reason)? {
+    ] {
+        if wrong_with(alloc, &scene, b"/a", Some(reason))?.is_none() {
             accepted = Some(reason);
         }
     }
-    Ok(accepted)
+    accepted
 }
 
 #[test]
-fn a_held_file_that_changed_on_one_side_is_held(rt: HostRuntime) -> Result<(), Fail> {
+fn each_path_has_one_reason(rt: HostRuntime) {
+    // the archive, both replicas, the hold rules and the reason
+    let cases: [(&[&[u8]], &[&[u8]], &[&[u8]], &[u8], Reason); 5] = [
+        (&[OLD], &[NEW], &[OLD], b"path /a\n", Reason::Held),
+        (&[OLD], &[NEW], &[OTHER], b"path /a\n", Reason::Conflict),
+        (&[OLD], &[NEW], &[NEW], b"path /a\n", Reason::Same),
+        (&[OLD], &[OLD], &[NEW], b"path /b\n", Reason::Second),
+        (&[], &[b"d /a"], &[b"d /a"], b"name a\n", Reason::Dir),
+    ];
+    for (archive, first, second, rules, reason) in cases {
+        let world = World {
+            archive,
+            first,
+            second,
+            rules,
+        };
+        assert!(rt; reason_of(rt.alloc(), &world) == Some(reason));
+    }
+}
+
+/// What is found wrong where the first replica has this line, and both other sides have the old one.
+fn wrong_at(
+    alloc: Global,
+    first: &[u8],
+    text: &[u8],
+    reason: Option<Reason>,
+) -> Option<Option<(PlanRule, u64)>> {
     let world = World {
-        archive: OLD,
-        first: NEW,
-        second: OLD,
-        rule: "path /a\n",
+        archive: &[OLD],
+        first: &[first],
+        second: &[OLD],
+        rules: b"",
     };
-    assert!(rt; reason_of(rt.alloc(), &world)? == Some(Reason::Held));
-    Ok(())
+    wrong_with(alloc, &scene_of(alloc, &world)?, text, reason)
 }
 
 #[test]
-fn a_held_file_that_changed_on_both_sides_is_a_conflict(rt: HostRuntime) -> Result<(), Fail> {
-    let world = World {
-        archive: OLD,
-        first: NEW,
-        second: OTHER,
-        rule: "path /a\n",
-    };
-    assert!(rt; reason_of(rt.alloc(), &world)? == Some(Reason::Conflict));
-    Ok(())
-}
-
-#[test]
-fn a_held_file_that_is_equal_on_both_sides_is_the_same(rt: HostRuntime) -> Result<(), Fail> {
-    let world = World {
-        archive: OLD,
-        first: NEW,
-        second: NEW,
-        rule: "path /a\n",
-    };
-    assert!(rt; reason_of(rt.alloc(), &world)? == Some(Reason::Same));
-    Ok(())
-}
-
-#[test]
-fn a_rule_that_names_nothing_there_holds_nothing(rt: HostRuntime) -> Result<(), Fail> {
-    let world = World {
-        archive: OLD,
-        first: OLD,
-        second: NEW,
-        rule: "path /b\n",
-    };
-    assert!(rt; reason_of(rt.alloc(), &world)? == Some(Reason::Second));
-    Ok(())
-}
-
-#[test]
-fn a_new_directory_on_both_sides_is_marked_though_it_is_held(rt: HostRuntime) -> Result<(), Fail> {
-    let world = World {
-        archive: "",
-        first: "d /a",
-        second: "d /a",
-        rule: "name a\n",
-    };
-    assert!(rt; reason_of(rt.alloc(), &world)? == Some(Reason::Dir));
-    Ok(())
-}
-
-#[test]
-fn a_path_with_a_reason_has_to_be_an_entry(rt: HostRuntime) -> Result<(), Fail> {
+fn a_path_with_a_reason_has_to_be_an_entry(rt: HostRuntime) {
     let alloc = rt.alloc();
-    let mut world = World {
-        archive: OLD,
-        first: NEW,
-        second: OLD,
-        rule: "",
-    };
-    let entries = one_entry(alloc, "/b", Reason::First)?;
-    assert!(rt; verdict(alloc, &world, entries)? == Some((PlanRule::ReasonsHold, 0)));
-    assert!(rt; verdict(alloc, &world, no_entries(alloc))? == Some((PlanRule::EntriesComplete, 0)));
-    world.first = OLD;
-    assert!(rt; verdict(alloc, &world, no_entries(alloc))? == None);
-    Ok(())
+    let wrong = wrong_at(alloc, NEW, b"/b", Some(Reason::First));
+    assert!(rt; wrong == Some(Some((PlanRule::ReasonsHold, 0))));
+    let wrong = wrong_at(alloc, NEW, b"", None);
+    assert!(rt; wrong == Some(Some((PlanRule::EntriesComplete, 0))));
+    assert!(rt; wrong_at(alloc, OLD, b"", None) == Some(None));
 }

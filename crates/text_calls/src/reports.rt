@@ -1,11 +1,10 @@
 //! Reports as texts.
+use crate::shared::{Tight, has_taken, plan_of, sink_of};
 use std::alloc::Global;
-use std::io;
-use std::io::{ErrorKind, Write};
-use std::test::Fail;
-use ts_plan::decode;
+use std::io::ErrorKind;
+use ts_model::plan::Plan;
 use ts_report::{Ending, ReportFault, Results, write};
-use ts_text::{Counted, Lines};
+use ts_text::Counted;
 
 /// Ends of actions that were told beforehand; those beyond them were not begun.
 #[derive(Drop)]
@@ -29,51 +28,44 @@ impl Results for Told<'_> {
     }
 }
 
-/// Takes two bytes a call, and fails once it has `room` bytes.
-#[derive(Drop)]
-struct Tight {
-    taken: Vec<u8>,
-    room: usize,
-}
-
-impl Write for Tight {
-    fn write(&mut self, bytes: &[u8]) -> io::Result<usize> {
-        let count = bytes
-            .len()
-            .min(2)
-            .min(self.room.saturating_sub(self.taken.len()));
-        if count == 0 {
-            return Err(io::Error::from(ErrorKind::StorageFull));
-        }
-        self.taken.extend_from_slice(&bytes[..count])?;
-        Ok(count)
-    }
-
-    fn flush(&mut self) -> io::Result<()> {
-        Ok(())
-    }
-}
-
-/// The fault's number, or 0, the exit status, or 0, and what was written of the report of a plan whose lines are given, where
-/// the writer takes so many bytes.
-fn report(
-    alloc: Global,
-    plan: &[u8],
-    ends: &[Ending],
-    room: usize,
-) -> Result<(u8, u8, Vec<u8>), Fail> {
-    let mut lines = Lines::new(alloc, Counted::new(plan))?;
-    let plan = decode(alloc, &mut lines)?;
+/// Writes the report of a plan: the fault's number, or 0, and the exit status, or 0.
+fn written(alloc: Global, plan: &Plan, ends: &[Ending], sink: &mut Counted<Tight>) -> (u8, u8) {
     if plan.actions.as_slice().len() > 1_048_576 {
-        return Err("too many actions")?;
+        return (0, 99);
     }
-    let taken = Vec::new(alloc);
-    let mut sink = Counted::new(Tight { taken, room });
-    let (number, status) = match write(alloc, &plan, &Told { ends }, &mut sink) {
+    match write(alloc, plan, &Told { ends }, sink) {
         Ok(totals) => (0, totals.status()),
         Err(fault) => (fault.number(), 0),
-    };
-    Ok((number, status, sink.into_inner().taken))
+    }
+}
+
+/// The numbers of writing the report of a plan whose text is given, and what is then written, where the writer takes so many
+/// bytes.
+fn report(
+    alloc: Global,
+    text: &[u8],
+    ends: &[Ending],
+    room: usize,
+) -> Option<((u8, u8), Counted<Tight>)> {
+    let plan = plan_of(alloc, text)?;
+    let mut sink = sink_of(alloc, 2, room, Some(ErrorKind::StorageFull));
+    let numbers = written(alloc, &plan, ends, &mut sink);
+    Some((numbers, sink))
+}
+
+/// Whether these are the numbers, and this the text, as far as there is room.
+fn reports(
+    alloc: Global,
+    text: &[u8],
+    ends: &[Ending],
+    room: usize,
+    numbers: (u8, u8),
+    want: &[u8],
+) -> bool {
+    match report(alloc, text, ends, room) {
+        Some((found, sink)) => found == numbers && has_taken(sink, want, room),
+        None => false,
+    }
 }
 
 /// Two new files, each with its piece, its commit and its mark.
@@ -88,7 +80,7 @@ entry held /h%20\nentry same /s\nmark 1\npiece 2 0 1 /d/x\ncommit 2\np 1\nmark 2
 commit 3\np 4\nmark 3\np 0\np 5\nmark 5\nend 6 8\n";
 
 #[test]
-fn tells_a_failed_commit(rt: HostRuntime) -> Result<(), Fail> {
+fn tells_a_failed_commit(rt: HostRuntime) {
     let ends = [
         Ending::Done,
         Ending::Failed,
@@ -97,15 +89,12 @@ fn tells_a_failed_commit(rt: HostRuntime) -> Result<(), Fail> {
         Ending::Done,
         Ending::Done,
     ];
-    let (number, status, text) = report(rt.alloc(), TWO_FILES, &ends, 1_000)?;
-    assert_eq!(rt; (number, status), (0, 2));
     let want = b"failed first /a\ndone first /b\ntotal 2 done 1 skipped 0 failed 1 blocked 0\n";
-    assert_eq!(rt; text.as_slice(), want.as_slice());
-    Ok(())
+    assert!(rt; reports(rt.alloc(), TWO_FILES, &ends, 1_000, (0, 2), want));
 }
 
 #[test]
-fn tells_blocked_and_skipped_entries(rt: HostRuntime) -> Result<(), Fail> {
+fn tells_blocked_and_skipped_entries(rt: HostRuntime) {
     // the mark of the directory wasn't begun, so neither was that of the file which was put there
     let ends = [
         Ending::Left,
@@ -117,44 +106,49 @@ fn tells_blocked_and_skipped_entries(rt: HostRuntime) -> Result<(), Fail> {
         Ending::Left,
         Ending::Done,
     ];
-    let (number, status, text) = report(rt.alloc(), ALL_KINDS, &ends, 1_000)?;
-    assert_eq!(rt; (number, status), (0, 2));
     let want =
         b"skip conflict /c\nblocked dir /d\nblocked first /d/x\nfailed second /d/y\nskip held /h%20\n\
 done same /s\ntotal 6 done 1 skipped 2 failed 1 blocked 2\n";
-    assert_eq!(rt; text.as_slice(), want.as_slice());
-    Ok(())
+    assert!(rt; reports(rt.alloc(), ALL_KINDS, &ends, 1_000, (0, 2), want));
 }
 
+/// All of a report of which each action is done.
+const ALL_DONE: &[u8] =
+    b"skip conflict /c\ndone dir /d\ndone first /d/x\ndone second /d/y\nskip held /h%20\n\
+done same /s\ntotal 6 done 4 skipped 2 failed 0 blocked 0\n";
+
+const BOTH_DONE: &[u8] =
+    b"done first /a\ndone first /b\ntotal 2 done 2 skipped 0 failed 0 blocked 0\n";
+
 #[test]
-fn answers_the_exit_status(rt: HostRuntime) -> Result<(), Fail> {
+fn answers_the_exit_status(rt: HostRuntime) {
+    let alloc = rt.alloc();
     let done = [Ending::Done; 8];
-    let (_, status, text) = report(rt.alloc(), ALL_KINDS, &done, 1_000)?;
-    assert_eq!(rt; status, 1);
-    let total = b"\ntotal 6 done 4 skipped 2 failed 0 blocked 0\n";
-    assert!(rt; text.as_slice().ends_with(total.as_slice()));
-    let (_, status, _) = report(rt.alloc(), TWO_FILES, &done, 1_000)?;
-    assert_eq!(rt; status, 0);
-    let (_, status, text) = report(rt.alloc(), b"twosync-plan 1\nend 0 0\n", &[], 1_000)?;
-    assert_eq!(rt; status, 0);
+    assert!(rt; reports(alloc, ALL_KINDS, &done, 1_000, (0, 1), ALL_DONE));
+    assert!(rt; reports(alloc, TWO_FILES, &done, 1_000, (0, 0), BOTH_DONE));
+    let none: &[u8] = b"twosync-plan 1\nend 0 0\n";
     let total = b"total 0 done 0 skipped 0 failed 0 blocked 0\n";
-    assert_eq!(rt; text.as_slice(), total.as_slice());
-    Ok(())
+    assert!(rt; reports(alloc, none, &[], 1_000, (0, 0), total));
 }
 
 #[test]
-fn writes_a_beginning_where_the_writer_fails(rt: HostRuntime) -> Result<(), Fail> {
-    let whole = b"done first /a\ndone first /b\ntotal 2 done 2 skipped 0 failed 0 blocked 0\n";
-    for room in 0..whole.len() {
-        let (number, _, text) = report(rt.alloc(), TWO_FILES, &[Ending::Done; 6], room)?;
-        assert_eq!(rt; number, 5);
-        assert_eq!(rt; text.as_slice(), &whole[..room]);
+fn writes_a_beginning_where_the_writer_fails(rt: HostRuntime) {
+    for room in 0..BOTH_DONE.len() {
+        assert!(rt;
+            reports(
+                rt.alloc(),
+                TWO_FILES,
+                &[Ending::Done; 6],
+                room,
+                (5, 0),
+                BOTH_DONE
+            )
+        );
     }
-    Ok(())
 }
 
 #[test]
 fn numbers_faults(rt: HostRuntime) {
-    assert_eq!(rt; ReportFault::OutOfMemory.number(), 1);
-    assert_eq!(rt; ReportFault::Failed.number(), 5);
+    assert!(rt; ReportFault::OutOfMemory.number() == 1);
+    assert!(rt; ReportFault::Failed.number() == 5);
 }

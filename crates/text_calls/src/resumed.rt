@@ -1,247 +1,281 @@
 //! Plans for what is there now.
+use crate::shared::{World, print_of, scene_of};
 use std::alloc::Global;
-use std::test::Fail;
 use ts_hold::Holds;
 use ts_model::plan::{Action, Kind, Plan, Reason};
-use ts_print::{Print, PrintReader};
+use ts_print::Print;
 use ts_resume::{ResumeFault, resume};
+use ts_text::push_decimal;
 
-/// The digests of the bytes `a`, `b` and `c`.
-const A: &str = "ca978112ca1bbdcafac231b39a23dc4da786eff8147c4e72b9807785afee48bb";
+// The digests are those of the bytes `a`, `b` and `c`.
 
-const B: &str = "3e23e8160039594a33894f6564e1b1348bbd7a0088d42c4acb73eeaed59c009d";
+const A: &[u8] = b"f /a 1 ca978112ca1bbdcafac231b39a23dc4da786eff8147c4e72b9807785afee48bb";
 
-const C: &str = "2e7d2c03a9507ae265ecf5b5356885a53393a2029d241394997265a1a25aefc6";
+const A_CHANGED: &[u8] = b"f /a 1 3e23e8160039594a33894f6564e1b1348bbd7a0088d42c4acb73eeaed59c009d";
 
-/// The print that these lines spell.
-fn print_of(alloc: Global, lines: &str) -> Result<Print, Fail> {
-    let mut reader = PrintReader::new(alloc);
-    for line in lines.lines() {
-        reader.line(alloc, line.as_bytes())?;
-    }
-    Ok(reader.finish()?)
-}
+const A_CHANGED_TOO: &[u8] =
+    b"f /a 1 2e7d2c03a9507ae265ecf5b5356885a53393a2029d241394997265a1a25aefc6";
 
-fn push(out: &mut Vec<u8>, text: String) -> Result<(), Fail> {
-    out.extend_from_slice(text.as_bytes())?;
-    Ok(())
-}
+const A_B: &[u8] = b"f /a/b 1 3e23e8160039594a33894f6564e1b1348bbd7a0088d42c4acb73eeaed59c009d";
 
-fn word_of(reason: Reason) -> &'static str {
+const D_X: &[u8] = b"f /d/x 1 ca978112ca1bbdcafac231b39a23dc4da786eff8147c4e72b9807785afee48bb";
+
+const D_X_CHANGED: &[u8] =
+    b"f /d/x 1 3e23e8160039594a33894f6564e1b1348bbd7a0088d42c4acb73eeaed59c009d";
+
+const D_Y: &[u8] = b"f /d/y 1 3e23e8160039594a33894f6564e1b1348bbd7a0088d42c4acb73eeaed59c009d";
+
+const N_X: &[u8] = b"f /n/x.o 1 ca978112ca1bbdcafac231b39a23dc4da786eff8147c4e72b9807785afee48bb";
+
+const EMPTY: &[u8] = b"f /e 0 ca978112ca1bbdcafac231b39a23dc4da786eff8147c4e72b9807785afee48bb";
+
+const WHOLE: &[u8] =
+    b"f /f 1048576 3e23e8160039594a33894f6564e1b1348bbd7a0088d42c4acb73eeaed59c009d";
+
+const LONGER: &[u8] =
+    b"f /g 1048577 2e7d2c03a9507ae265ecf5b5356885a53393a2029d241394997265a1a25aefc6";
+
+fn word_of(reason: Reason) -> &'static [u8] {
     match reason {
-        Reason::Same => "same",
-        Reason::First => "first",
-        Reason::Second => "second",
-        Reason::Conflict => "conflict",
-        Reason::Held => "held",
-        Reason::Dir => "dir",
+        Reason::Same => b"entry same ",
+        Reason::First => b"entry first ",
+        Reason::Second => b"entry second ",
+        Reason::Conflict => b"entry conflict ",
+        Reason::Held => b"entry held ",
+        Reason::Dir => b"entry dir ",
     }
 }
 
-fn push_action(alloc: Global, out: &mut Vec<u8>, action: &Action) -> Result<(), Fail> {
-    match &action.kind {
+/// Puts a word and a number behind it.
+fn push_number(out: &mut Vec<u8>, word: &[u8], number: u64) -> Option<()> {
+    out.extend_from_slice(word).ok()?;
+    push_decimal(out, number).ok()
+}
+
+fn push_kind(out: &mut Vec<u8>, kind: &Kind) -> Option<()> {
+    match kind {
         Kind::Piece {
             entry,
             offset,
             length,
             path,
         } => {
-            push(out, format!(in alloc; "piece {entry} {offset} {length} ")?)?;
-            path.write_text(out)?;
-            out.push(b'\n')?;
+            push_number(out, b"piece ", u64::from(*entry))?;
+            push_number(out, b" ", *offset)?;
+            push_number(out, b" ", u64::from(*length))?;
+            out.push(b' ').ok()?;
+            path.write_text(out).ok()
         }
-        Kind::Commit { entry } => push(out, format!(in alloc; "commit {entry}\n")?)?,
-        Kind::Mark { entry } => push(out, format!(in alloc; "mark {entry}\n")?)?,
+        Kind::Commit { entry } => push_number(out, b"commit ", u64::from(*entry)),
+        Kind::Mark { entry } => push_number(out, b"mark ", u64::from(*entry)),
     }
+}
+
+fn push_action(out: &mut Vec<u8>, action: &Action) -> Option<()> {
+    push_kind(out, &action.kind)?;
     for number in action.preds.as_slice() {
-        push(out, format!(in alloc; "p {number}\n")?)?;
+        push_number(out, b"\np ", u64::from(*number))?;
     }
-    Ok(())
+    out.push(b'\n').ok()
 }
 
 /// The lines of a plan, without its title and its end.
-fn lines_of(alloc: Global, plan: &Plan) -> Result<Vec<u8>, Fail> {
+fn lines_of(alloc: Global, plan: &Plan) -> Option<Vec<u8>> {
     let mut out = Vec::new(alloc);
     for entry in plan.entries.as_slice() {
-        let reason = word_of(entry.reason);
-        push(&mut out, format!(in alloc; "entry {reason} ")?)?;
-        entry.path.write_text(&mut out)?;
-        out.push(b'\n')?;
+        out.extend_from_slice(word_of(entry.reason)).ok()?;
+        entry.path.write_text(&mut out).ok()?;
+        out.push(b'\n').ok()?;
     }
     for action in plan.actions.as_slice() {
-        push_action(alloc, &mut out, action)?;
+        push_action(&mut out, action)?;
     }
-    Ok(out)
+    Some(out)
 }
 
-/// The lines of the plan for what is there.
-fn planned(
-    alloc: Global,
-    archive: &str,
-    first: &str,
-    second: &str,
-    holds: &str,
-) -> Result<Vec<u8>, Fail> {
-    let archive = print_of(alloc, archive)?;
-    let first = print_of(alloc, first)?;
-    let second = print_of(alloc, second)?;
-    let holds = Holds::parse(alloc, holds.as_bytes())?;
-    let plan = resume(alloc, &archive, &first, &second, &holds)?;
-    lines_of(alloc, &plan)
-}
-
-#[test]
-fn nothing_is_to_be_done_where_nothing_is(rt: HostRuntime) -> Result<(), Fail> {
-    let found = planned(rt.alloc(), "", "", "", "")?;
-    assert_eq!(rt; found.len(), 0);
-    Ok(())
-}
-
-#[test]
-fn a_new_file_is_copied(rt: HostRuntime) -> Result<(), Fail> {
-    let alloc = rt.alloc();
-    let file = format!(in alloc; "f /a 1 {A}\n")?;
-    let found = planned(alloc, "", file.as_str(), "", "")?;
-    let wanted = "entry first /a\npiece 0 0 1 /a\ncommit 0\np 0\nmark 0\np 1\n";
-    assert!(rt; found.as_slice() == wanted.as_bytes());
-    Ok(())
-}
-
-#[test]
-fn a_deletion_is_copied(rt: HostRuntime) -> Result<(), Fail> {
-    let alloc = rt.alloc();
-    let file = format!(in alloc; "f /a 1 {A}\n")?;
-    let found = planned(alloc, file.as_str(), "", file.as_str(), "")?;
-    assert!(rt; found.as_slice() == b"entry first /a\ncommit 0\nmark 0\np 0\n".as_slice());
-    Ok(())
-}
-
-#[test]
-fn different_changes_are_a_conflict(rt: HostRuntime) -> Result<(), Fail> {
-    let alloc = rt.alloc();
-    let archive = format!(in alloc; "f /a 1 {A}\n")?;
-    let first = format!(in alloc; "f /a 1 {B}\n")?;
-    let second = format!(in alloc; "f /a 1 {C}\n")?;
-    for holds in ["", "path /a\n"] {
-        let found = planned(
-            alloc,
-            archive.as_str(),
-            first.as_str(),
-            second.as_str(),
-            holds,
-        )?;
-        assert!(rt; found.as_slice() == b"entry conflict /a\n".as_slice());
-    }
-    Ok(())
-}
-
-#[test]
-fn the_same_change_is_marked(rt: HostRuntime) -> Result<(), Fail> {
-    let alloc = rt.alloc();
-    let archive = format!(in alloc; "f /a 1 {A}\n")?;
-    let both = format!(in alloc; "f /a 1 {B}\n")?;
-    for holds in ["", "path /a\n"] {
-        let found = planned(alloc, archive.as_str(), both.as_str(), both.as_str(), holds)?;
-        assert!(rt; found.as_slice() == b"entry same /a\nmark 0\n".as_slice());
-    }
-    Ok(())
-}
-
-#[test]
-fn a_deletion_against_a_change_inside_is_a_conflict(rt: HostRuntime) -> Result<(), Fail> {
-    let alloc = rt.alloc();
-    let archive = format!(in alloc; "d /d\nf /d/x 1 {A}\n")?;
-    let second = format!(in alloc; "d /d\nf /d/x 1 {B}\n")?;
-    let found = planned(alloc, archive.as_str(), "", second.as_str(), "")?;
-    assert!(rt; found.as_slice() == b"entry conflict /d\n".as_slice());
-    Ok(())
-}
-
-#[test]
-fn a_new_directory_on_both_sides_is_joined(rt: HostRuntime) -> Result<(), Fail> {
-    let alloc = rt.alloc();
-    let first = format!(in alloc; "d /d\nf /d/x 1 {A}\n")?;
-    let second = format!(in alloc; "d /d\nf /d/y 1 {B}\n")?;
-    let found = planned(alloc, "", first.as_str(), second.as_str(), "")?;
-    let entries = "entry dir /d\nentry first /d/x\nentry second /d/y\n";
-    let dir = "mark 0\n";
-    let one = "piece 1 0 1 /d/x\ncommit 1\np 1\nmark 1\np 0\np 2\n";
-    let two = "piece 2 0 1 /d/y\ncommit 2\np 4\nmark 2\np 0\np 5\n";
-    let wanted = format!(in alloc; "{entries}{dir}{one}{two}")?;
-    assert!(rt; found.as_slice() == wanted.as_bytes());
-    Ok(())
-}
-
-#[test]
-fn a_file_becomes_a_directory(rt: HostRuntime) -> Result<(), Fail> {
-    let alloc = rt.alloc();
-    let old = format!(in alloc; "f /a 1 {A}\n")?;
-    let new = format!(in alloc; "d /a\nf /a/b 1 {B}\n")?;
-    let found = planned(alloc, old.as_str(), new.as_str(), old.as_str(), "")?;
-    let wanted = "entry first /a\npiece 0 0 1 /a/b\ncommit 0\np 0\nmark 0\np 1\n";
-    assert!(rt; found.as_slice() == wanted.as_bytes());
-    // the run was stopped after its commit and before its mark
-    let rest = planned(alloc, old.as_str(), new.as_str(), new.as_str(), "")?;
-    let wanted = "entry dir /a\nentry same /a/b\nmark 0\nmark 1\np 0\n";
-    assert!(rt; rest.as_slice() == wanted.as_bytes());
-    Ok(())
-}
-
-#[test]
-fn files_are_cut_into_pieces(rt: HostRuntime) -> Result<(), Fail> {
-    let alloc = rt.alloc();
-    let (none, one, two) = (0, 1_048_576, 1_048_577);
-    let files = format!(in alloc; "f /e {none} {A}\nf /f {one} {B}\nf /g {two} {C}\n")?;
-    let found = planned(alloc, "", files.as_str(), "", "")?;
-    let entries = "entry first /e\nentry first /f\nentry first /g\n";
-    let empty = "commit 0\nmark 0\np 0\n";
-    let whole = "piece 1 0 1048576 /f\ncommit 1\np 2\nmark 1\np 3\n";
-    let parts = "piece 2 0 1048576 /g\npiece 2 1048576 1 /g\ncommit 2\np 5\np 6\nmark 2\np 7\n";
-    let wanted = format!(in alloc; "{entries}{empty}{whole}{parts}")?;
-    assert!(rt; found.as_slice() == wanted.as_bytes());
-    Ok(())
-}
-
-#[test]
-fn held_paths_wait(rt: HostRuntime) -> Result<(), Fail> {
-    let alloc = rt.alloc();
-    let new = format!(in alloc; "d /n\nf /n/x.o 1 {A}\n")?;
-    let found = planned(alloc, "", new.as_str(), "", "name *.o\n")?;
-    assert!(rt; found.as_slice() == b"entry held /n\n".as_slice());
-    let old = format!(in alloc; "f /a 1 {A}\n")?;
-    let changed = format!(in alloc; "f /a 1 {B}\n")?;
-    let found = planned(
+/// The plan for what is there.
+fn plan_for(alloc: Global, world: &World<'_>) -> Option<Plan> {
+    let scene = scene_of(alloc, world)?;
+    resume(
         alloc,
-        old.as_str(),
-        changed.as_str(),
-        old.as_str(),
-        "path /a\n",
-    )?;
-    assert!(rt; found.as_slice() == b"entry held /a\n".as_slice());
-    Ok(())
+        &scene.archive,
+        &scene.first,
+        &scene.second,
+        &scene.holds,
+    )
+    .ok()
 }
 
-/// How many actions the plan has where the first replica has one new file of that size, None where it is past a limit.
-fn actions_for(alloc: Global, size: u64) -> Result<Option<usize>, Fail> {
-    let nothing = Print::empty(alloc);
-    let line = format!(in alloc; "f /a {size} {A}\n")?;
-    let first = print_of(alloc, line.as_str())?;
-    match resume(alloc, &nothing, &first, &nothing, &Holds::none(alloc)) {
-        Ok(plan) => Ok(Some(plan.actions.as_slice().len())),
-        Err(ResumeFault::PastLimit) => Ok(None),
-        Err(fault) => Err(fault)?,
+/// Whether the plan for what is there has these lines.
+fn is_planned(alloc: Global, world: &World<'_>, want: &[u8]) -> bool {
+    let Some(plan) = plan_for(alloc, world) else {
+        return false;
+    };
+    match lines_of(alloc, &plan) {
+        Some(lines) => lines.as_slice() == want,
+        None => false,
     }
 }
 
+/// The archive, both replicas, the hold rules, and the lines of the plan.
+type Case = (
+    &'static [&'static [u8]],
+    &'static [&'static [u8]],
+    &'static [&'static [u8]],
+    &'static [u8],
+    &'static [u8],
+);
+
+/// One file on either side.
+const FILES: [Case; 9] = [
+    (&[], &[], &[], b"", b""),
+    (
+        &[],
+        &[A],
+        &[],
+        b"",
+        b"entry first /a\npiece 0 0 1 /a\ncommit 0\np 0\nmark 0\np 1\n",
+    ),
+    (
+        &[A],
+        &[],
+        &[A],
+        b"",
+        b"entry first /a\ncommit 0\nmark 0\np 0\n",
+    ),
+    // different changes
+    (
+        &[A],
+        &[A_CHANGED],
+        &[A_CHANGED_TOO],
+        b"",
+        b"entry conflict /a\n",
+    ),
+    (
+        &[A],
+        &[A_CHANGED],
+        &[A_CHANGED_TOO],
+        b"path /a\n",
+        b"entry conflict /a\n",
+    ),
+    // the same change
+    (
+        &[A],
+        &[A_CHANGED],
+        &[A_CHANGED],
+        b"",
+        b"entry same /a\nmark 0\n",
+    ),
+    (
+        &[A],
+        &[A_CHANGED],
+        &[A_CHANGED],
+        b"path /a\n",
+        b"entry same /a\nmark 0\n",
+    ),
+    // a held change
+    (&[A], &[A_CHANGED], &[A], b"path /a\n", b"entry held /a\n"),
+    // files are cut into pieces
+    (
+        &[],
+        &[EMPTY, WHOLE, LONGER],
+        &[],
+        b"",
+        b"entry first /e\nentry first /f\nentry first /g\n\
+commit 0\nmark 0\np 0\n\
+piece 1 0 1048576 /f\ncommit 1\np 2\nmark 1\np 3\n\
+piece 2 0 1048576 /g\npiece 2 1048576 1 /g\ncommit 2\np 5\np 6\nmark 2\np 7\n",
+    ),
+];
+
+/// Directories on either side.
+const DIRS: [Case; 5] = [
+    // a deletion against a change inside
+    (
+        &[b"d /d", D_X],
+        &[],
+        &[b"d /d", D_X_CHANGED],
+        b"",
+        b"entry conflict /d\n",
+    ),
+    // a new directory on both sides
+    (
+        &[],
+        &[b"d /d", D_X],
+        &[b"d /d", D_Y],
+        b"",
+        b"entry dir /d\nentry first /d/x\nentry second /d/y\n\
+mark 0\n\
+piece 1 0 1 /d/x\ncommit 1\np 1\nmark 1\np 0\np 2\n\
+piece 2 0 1 /d/y\ncommit 2\np 4\nmark 2\np 0\np 5\n",
+    ),
+    // a file becomes a directory
+    (
+        &[A],
+        &[b"d /a", A_B],
+        &[A],
+        b"",
+        b"entry first /a\npiece 0 0 1 /a/b\ncommit 0\np 0\nmark 0\np 1\n",
+    ),
+    // the same run was stopped after its commit and before its mark
+    (
+        &[A],
+        &[b"d /a", A_B],
+        &[b"d /a", A_B],
+        b"",
+        b"entry dir /a\nentry same /a/b\nmark 0\nmark 1\np 0\n",
+    ),
+    // a new directory with a held file
+    (&[], &[b"d /n", N_X], &[], b"name *.o\n", b"entry held /n\n"),
+];
+
+fn is_case(alloc: Global, case: Case) -> bool {
+    let (archive, first, second, rules, want) = case;
+    let world = World {
+        archive,
+        first,
+        second,
+        rules,
+    };
+    is_planned(alloc, &world, want)
+}
+
 #[test]
-fn a_plan_is_refused_past_the_limit_alone(rt: HostRuntime) -> Result<(), Fail> {
-    let alloc = rt.alloc();
-    // as many pieces as leave room for a commit and a mark
-    let most = 1_048_574 * 1_048_576;
-    assert!(rt; actions_for(alloc, most)? == Some(1_048_576));
-    assert!(rt; actions_for(alloc, most + 1)? == None);
-    assert!(rt; actions_for(alloc, u64::MAX)? == None);
-    assert_eq!(rt; ResumeFault::OutOfMemory.number(), 1);
-    assert_eq!(rt; ResumeFault::PastLimit.number(), 12);
-    Ok(())
+fn what_is_there_has_its_plan(rt: HostRuntime) {
+    for case in FILES {
+        assert!(rt; is_case(rt.alloc(), case));
+    }
+    for case in DIRS {
+        assert!(rt; is_case(rt.alloc(), case));
+    }
+}
+
+/// How many actions the plan has where the first replica has this one new file, None where it is past a limit.
+fn actions_for(alloc: Global, line: &[u8]) -> Option<Option<usize>> {
+    let nothing = Print::empty(alloc);
+    let first = print_of(alloc, &[line])?;
+    match resume(alloc, &nothing, &first, &nothing, &Holds::none(alloc)) {
+        Ok(plan) => Some(Some(plan.actions.as_slice().len())),
+        Err(ResumeFault::PastLimit) => Some(None),
+        Err(_) => None,
+    }
+}
+
+/// As many pieces as leave room for a commit and a mark.
+const MOST: &[u8] =
+    b"f /a 1099509530624 ca978112ca1bbdcafac231b39a23dc4da786eff8147c4e72b9807785afee48bb";
+
+const ONE_MORE: &[u8] =
+    b"f /a 1099509530625 ca978112ca1bbdcafac231b39a23dc4da786eff8147c4e72b9807785afee48bb";
+
+const GREATEST: &[u8] =
+    b"f /a 18446744073709551615 ca978112ca1bbdcafac231b39a23dc4da786eff8147c4e72b9807785afee48bb";
+
+#[test]
+fn a_plan_is_refused_past_the_limit_alone(rt: HostRuntime) {
+    assert!(rt; actions_for(rt.alloc(), MOST) == Some(Some(1_048_576)));
+    assert!(rt; actions_for(rt.alloc(), ONE_MORE) == Some(None));
+    assert!(rt; actions_for(rt.alloc(), GREATEST) == Some(None));
+    assert!(rt; ResumeFault::OutOfMemory.number() == 1);
+    assert!(rt; ResumeFault::PastLimit.number() == 12);
 }

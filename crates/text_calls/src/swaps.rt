@@ -1,35 +1,42 @@
 //! Replacing what lies at a place, and recovery.
-ghost use Rattle.std.specs.Prelude.{◌≡◌, [], IfOk};
+ghost use Rattle.std.specs.Prelude.{◌≡◌, [], IfSome};
 ghost use Rattle.ts_swap.specs.Memory.{spots_in};
 
 use std::alloc::Global;
-use std::test::Fail;
 use ts_model::items::Items;
-use ts_swap::{Failed, MemPlaces, Places, Spot, recover, replace};
+use ts_model::row::Content;
+use ts_swap::{MemPlaces, Places, Spot, recover, replace};
 use ts_table::SubTable;
 
-/// A file of one byte.
-fn file(alloc: Global, byte: u8) -> Result<SubTable<Items<u8>>, Fail> {
-    let bytes = Vec::from_slice(alloc, &[byte])?;
-    Ok(SubTable::file(alloc, Items::new(bytes))?)
+/// A file of one byte, or nothing for a dot.
+fn tree(alloc: Global, byte: u8) -> Option<SubTable<Items<u8>>> {
+    if byte == b'.' {
+        return Some(SubTable::absent(alloc));
+    }
+    let bytes = Vec::from_slice(alloc, &[byte]).ok()?;
+    SubTable::file(alloc, Items::new(bytes)).ok()
 }
 
-/// Places with a file of the byte `o` at the target, or nothing; the call of number `failing` from 0 and, where `often` is
-/// set, each one after it fails.
-fn places(alloc: Global, original: bool, failing: usize, often: bool) -> Result<MemPlaces, Fail>
-    ensures new { IfOk result (λ m. (spots_in m).new ≡ []) }
-    ensures old { IfOk result (λ m. (spots_in m).old ≡ []) }
-{
-    let target = if original {
-        file(alloc, b'o')?
-    } else {
-        SubTable::absent(alloc)
-    };
+/// Which calls fail, the last first: that of number `failing` from 0 and, where `often` is set, each one after it.
+fn failures(alloc: Global, failing: usize, often: bool) -> Option<Vec<bool>> {
     let mut fails = Vec::new(alloc);
-    for call in (0..12_usize).rev() {
-        fails.push(call == failing || (often && call > failing))?;
+    for place in 0..12_usize {
+        let call = 11 - place;
+        fails
+            .push(call == failing || (often && call > failing))
+            .ok()?;
     }
-    Ok(MemPlaces::new(alloc, target, fails, false))
+    Some(fails)
+}
+
+/// Places with this at the target, where these calls fail.
+fn places(alloc: Global, original: u8, failing: usize, often: bool) -> Option<MemPlaces>
+    ensures new { IfSome result (λ m. (spots_in m).new ≡ []) }
+    ensures old { IfSome result (λ m. (spots_in m).old ≡ []) }
+{
+    let target = tree(alloc, original)?;
+    let fails = failures(alloc, failing, often)?;
+    Some(MemPlaces::new(alloc, target, fails, false))
 }
 
 /// The byte of the file at a spot, a dot for nothing, or a question mark.
@@ -37,11 +44,7 @@ fn shown(places: &MemPlaces, spot: Spot) -> u8 {
     match places.rows(spot) {
         [] => b'.',
         [row] => match &row.content {
-            ts_model::row::Content::File(bytes) => bytes
-                .as_slice()
-                .first()
-                .copied()
-                .unwrap_or(b'?'),
+            Content::File(bytes) => bytes.as_slice().first().copied().unwrap_or(b'?'),
             _ => b'?',
         },
         _ => b'?',
@@ -57,81 +60,89 @@ fn all(places: &MemPlaces) -> [u8; 3] {
     ]
 }
 
-#[test]
-fn replaces_each_kind_by_each(rt: HostRuntime) -> Result<(), Fail> {
-    let alloc = rt.alloc();
-    for original in [false, true] {
-        for wanted in [false, true] {
-            let tree = if wanted {
-                file(alloc, b'n')?
-            } else {
-                SubTable::absent(alloc)
-            };
-            let mut places = places(alloc, original, 99, false)?;
-            assert!(rt; replace(&mut places, tree.rows()).is_ok());
-            let target = if wanted { b'n' } else { b'.' };
-            assert_eq!(rt; all(&places), [target, b'.', b'.']);
-            assert_eq!(rt; places.failures(), 0);
-        }
-    }
-    Ok(())
+/// Whether a replacement ends, what lies there then, and how many calls failed.
+fn replaced(
+    alloc: Global,
+    original: u8,
+    wanted: u8,
+    failing: usize,
+) -> Option<(bool, [u8; 3], u64)> {
+    let tree = tree(alloc, wanted)?;
+    let mut places = places(alloc, original, failing, false)?;
+    let ends = replace(&mut places, tree.rows()).is_ok();
+    Some((ends, all(&places), places.failures()))
 }
 
 #[test]
-fn one_failing_call_leaves_the_original(rt: HostRuntime) -> Result<(), Fail> {
-    let alloc = rt.alloc();
+fn replaces_each_kind_by_each(rt: HostRuntime) {
+    for original in [b'.', b'o'] {
+        for wanted in [b'.', b'n'] {
+            let found = replaced(rt.alloc(), original, wanted, 99);
+            assert!(rt; found == Some((true, [wanted, b'.', b'.'], 0)));
+        }
+    }
+}
+
+#[test]
+fn one_failing_call_leaves_the_original(rt: HostRuntime) {
     // the calls of a whole replacement: write, rename, rename, remove
-    let wants: [(bool, &[u8; 3]); 4] = [
-        (false, b"o.."),
-        (false, b"o.."),
-        (false, b"o.."),
-        (true, b"n.o"),
-    ];
-    for (failing, (ends, want)) in wants.iter().enumerate() {
-        let tree = file(alloc, b'n')?;
-        let mut places = places(alloc, true, failing, false)?;
-        let answer = replace(&mut places, tree.rows());
-        assert_eq!(rt; answer.is_ok(), *ends, "call {failing}");
-        assert_eq!(rt; &all(&places), *want, "call {failing}");
-        assert_eq!(rt; places.failures(), 1, "call {failing}");
+    for (failing, ends, want) in [
+        (0, false, b"o.."),
+        (1, false, b"o.."),
+        (2, false, b"o.."),
+        (3, true, b"n.o"),
+    ] {
+        let found = replaced(rt.alloc(), b'o', b'n', failing);
+        assert!(rt; found == Some((ends, *want, 1)), "call {failing}");
     }
-    Ok(())
 }
 
-#[test]
-fn recovery_ends_what_failed_for_good(rt: HostRuntime) -> Result<(), Fail> {
-    let alloc = rt.alloc();
-    let wants: [(&[u8; 3], &[u8; 3]); 4] = [
-        (b"on.", b"o.."),
-        (b"on.", b"o.."),
-        (b".no", b"o.."),
-        (b"n.o", b"n.."),
-    ];
-    for (failing, (left, ended)) in wants.iter().enumerate() {
-        let tree = file(alloc, b'n')?;
-        let mut places = places(alloc, true, failing, true)?;
-        let _ = replace(&mut places, tree.rows());
-        assert_eq!(rt; &all(&places), *left, "from call {failing} on");
-        assert!(rt; recover(&mut places).is_err(), "from call {failing} on");
-        for _ in 0..12 {
-            if recover(&mut places).is_ok() {
-                break;
-            }
+/// What a replacement leaves that fails from a call on, whether recovery fails at once, and what is there when it ends.
+fn recovered(alloc: Global, failing: usize) -> Option<([u8; 3], bool, [u8; 3])> {
+    let tree = tree(alloc, b'n')?;
+    let mut places = places(alloc, b'o', failing, true)?;
+    let _ = replace(&mut places, tree.rows());
+    let left = all(&places);
+    let fails = recover(&mut places).is_err();
+    for _ in 0..12 {
+        if recover(&mut places).is_ok() {
+            break;
         }
-        assert_eq!(rt; &all(&places), *ended, "from call {failing} on");
     }
-    Ok(())
+    Some((left, fails, all(&places)))
 }
 
 #[test]
-fn blind_places_fail_before_a_rename(rt: HostRuntime) -> Result<(), Fail> {
-    let alloc = rt.alloc();
-    let tree = file(alloc, b'n')?;
-    let mut places = MemPlaces::new(alloc, file(alloc, b'o')?, Vec::new(alloc), true);
-    let answer: Result<(), Failed> = replace(&mut places, tree.rows());
-    assert_eq!(rt; answer.map_err(|fault| fault.number()), Err(8));
-    assert_eq!(rt; all(&places), [b'o', b'.', b'.']);
-    assert!(rt; recover(&mut places).is_err());
-    assert!(rt; places.present(Spot::Old).is_err());
-    Ok(())
+fn recovery_ends_what_failed_for_good(rt: HostRuntime) {
+    for (failing, left, ended) in [
+        (0, b"on.", b"o.."),
+        (1, b"on.", b"o.."),
+        (2, b".no", b"o.."),
+        (3, b"n.o", b"n.."),
+    ] {
+        let found = recovered(rt.alloc(), failing);
+        assert!(rt;
+            found == Some((*left, true, *ended)),
+            "from call {failing} on"
+        );
+    }
+}
+
+/// The number of the fault of a replacement where nothing can be seen, what lies there then, and whether recovery and a look
+/// fail.
+fn replaced_blindly(alloc: Global) -> Option<(u8, [u8; 3], bool, bool)> {
+    let tree_there = tree(alloc, b'n')?;
+    let mut places = MemPlaces::new(alloc, tree(alloc, b'o')?, Vec::new(alloc), true);
+    let number = match replace(&mut places, tree_there.rows()) {
+        Ok(()) => 0,
+        Err(fault) => fault.number(),
+    };
+    let there = all(&places);
+    let fails = recover(&mut places).is_err();
+    Some((number, there, fails, places.present(Spot::Old).is_err()))
+}
+
+#[test]
+fn blind_places_fail_before_a_rename(rt: HostRuntime) {
+    assert!(rt; replaced_blindly(rt.alloc()) == Some((8, *b"o..", true, true)));
 }

@@ -1,82 +1,52 @@
 //! Lines, and the fields of a line.
+use crate::shared::{Drip, dripping, has_taken, repeated, sink_of};
 use std::alloc::Global;
-use std::io;
-use std::io::{ErrorKind, Read, Write};
-use std::test::Fail;
 use ts_text::{
     Counted, Lines, Source, TextFault, field_dec, field_digest, push_decimal, push_digest,
     push_word, split_word, write_line,
 };
 
-/// Gives at most `step` bytes a call, and fails once no more than `fails_at` bytes are left.
-#[derive(Drop)]
-struct Drip<'a> {
-    left: &'a [u8],
-    step: usize,
-    fails_at: Option<usize>,
-}
-
-impl Read for Drip<'_> {
-    fn read(&mut self, buf: &mut [u8]) -> io::Result<usize> {
-        if let Some(most) = self.fails_at {
-            if self.left.len() <= most {
-                return Err(io::Error::from(ErrorKind::Other));
-            }
+/// The next line with a bar behind it, or a dot at the end, or a fault's number; and whether it was a line.
+fn put_next<S: Source + Drop>(lines: &mut Lines<S>, out: &mut Vec<u8>) -> Option<bool> {
+    match lines.next() {
+        Ok(Some(line)) => {
+            out.extend_from_slice(line).ok()?;
+            out.push(b'|').ok()?;
+            Some(true)
         }
-        let room = self.step.min(buf.len());
-        self.left.read(&mut buf[..room])
+        Ok(None) => {
+            out.push(b'.').ok()?;
+            Some(false)
+        }
+        Err(fault) => {
+            push_decimal(out, u64::from(fault.number())).ok()?;
+            Some(false)
+        }
     }
 }
 
-/// Takes at most two bytes a call, until it has `room` bytes.
-#[derive(Drop)]
-struct Tight {
-    taken: Vec<u8>,
-    room: usize,
-}
-
-impl Write for Tight {
-    fn write(&mut self, buf: &[u8]) -> io::Result<usize> {
-        let count = self.room.min(2).min(buf.len());
-        self.taken.extend_from_slice(&buf[..count])?;
-        self.room -= count;
-        Ok(count)
-    }
-
-    fn flush(&mut self) -> io::Result<()> {
-        Ok(())
-    }
-}
-
-/// The lines, each with a bar behind it, and then two answers at the end: a dot or a fault's number.
-fn transcript<S: Source + Drop>(alloc: Global, source: S) -> Result<Vec<u8>, Fail> {
-    let mut lines = Lines::new(alloc, source)?;
+/// All lines so, and then two answers at the end.
+fn transcript<S: Source + Drop>(alloc: Global, source: S) -> Option<Vec<u8>> {
+    let mut lines = Lines::new(alloc, source).ok()?;
     let mut out = Vec::new(alloc);
-    let mut ends = 0;
     for _ in 0..u32::MAX {
-        if ends == 2 {
+        if !put_next(&mut lines, &mut out)? {
             break;
         }
-        match lines.next() {
-            Ok(Some(line)) => {
-                out.extend_from_slice(line)?;
-                out.push(b'|')?;
-            }
-            Ok(None) => {
-                out.push(b'.')?;
-                ends = if ends == 0 { 1 } else { 2 };
-            }
-            Err(fault) => {
-                push_decimal(&mut out, u64::from(fault.number()))?;
-                ends = if ends == 0 { 1 } else { 2 };
-            }
-        }
     }
-    Ok(out)
+    put_next(&mut lines, &mut out)?;
+    Some(out)
+}
+
+fn reads_as<S: Source + Drop>(alloc: Global, source: S, want: &[u8]) -> bool {
+    match transcript(alloc, source) {
+        Some(got) => got.as_slice() == want,
+        None => false,
+    }
 }
 
 #[test]
-fn gives_lines_in_any_pieces(rt: HostRuntime) -> Result<(), Fail> {
+fn gives_lines_in_any_pieces(rt: HostRuntime) {
     let cases: [(&[u8], &[u8]); 7] = [
         (b"", b".."),
         (b"\n", b"|.."),
@@ -88,87 +58,94 @@ fn gives_lines_in_any_pieces(rt: HostRuntime) -> Result<(), Fail> {
     ];
     for (bytes, want) in cases {
         for step in [1, 2, 3, 100] {
-            let drip = Drip {
-                left: bytes,
-                step,
-                fails_at: None,
-            };
-            let got = transcript(rt.alloc(), Counted::new(drip))?;
-            assert!(rt; got.as_slice() == want, "{bytes:?} by {step}: {got:?}");
+            let source = Counted::new(dripping(bytes, step));
+            assert!(rt; reads_as(rt.alloc(), source, want), "by {step}");
         }
-        let got = transcript(rt.alloc(), Counted::new(bytes))?;
-        assert!(rt; got.as_slice() == want, "{bytes:?} whole: {got:?}");
+        assert!(rt; reads_as(rt.alloc(), Counted::new(bytes), want));
     }
-    Ok(())
 }
 
 #[test]
-fn stays_failed(rt: HostRuntime) -> Result<(), Fail> {
-    let bytes: &[u8] = b"ab\nc\n";
-    let wants: [&[u8]; 6] = [b"ab|c|55", b"ab|55", b"ab|55", b"55", b"55", b"55"];
-    for (left, want) in wants.iter().enumerate() {
+fn stays_failed(rt: HostRuntime) {
+    let cases: [(usize, &[u8]); 6] = [
+        (0, b"ab|c|55"),
+        (1, b"ab|55"),
+        (2, b"ab|55"),
+        (3, b"55"),
+        (4, b"55"),
+        (5, b"55"),
+    ];
+    for (left, want) in cases {
         let drip = Drip {
-            left: bytes,
+            left: b"ab\nc\n",
             step: 1,
             fails_at: Some(left),
         };
-        let got = transcript(rt.alloc(), Counted::new(drip))?;
-        assert!(rt; got.as_slice() == *want, "{left} bytes are lost: {got:?}");
+        assert!(rt; reads_as(rt.alloc(), Counted::new(drip), want), "{left}");
     }
-    Ok(())
+}
+
+/// A line of so many bytes, and a line of one.
+fn long(alloc: Global, size: usize) -> Option<Vec<u8>> {
+    let mut bytes = repeated(alloc, b"x", size)?;
+    bytes.extend_from_slice(b"\ny\n").ok()?;
+    Some(bytes)
+}
+
+/// Whether both lines are taken.
+fn takes_both(alloc: Global, bytes: &[u8], step: usize, size: usize) -> bool {
+    let Ok(mut lines) = Lines::new(alloc, Counted::new(dripping(bytes, step))) else {
+        return false;
+    };
+    lines.advance() == Ok(true)
+        && lines.line().len() == size
+        && lines.advance() == Ok(true)
+        && lines.line() == b"y".as_slice()
+        && lines.advance() == Ok(false)
+}
+
+/// Whether the first is refused, at each call.
+fn takes_none(alloc: Global, bytes: &[u8], step: usize) -> bool {
+    let Ok(mut lines) = Lines::new(alloc, Counted::new(dripping(bytes, step))) else {
+        return false;
+    };
+    lines.advance() == Err(TextFault::NotCanonical)
+        && lines.advance() == Err(TextFault::NotCanonical)
+}
+
+/// Whether a line of the greatest size is taken, and one of a byte more is not.
+fn keeps_to_the_limit(alloc: Global, step: usize) -> Option<bool> {
+    let fits = takes_both(alloc, &long(alloc, 16_384)?, step, 16_384);
+    Some(fits && takes_none(alloc, &long(alloc, 16_385)?, step))
 }
 
 #[test]
-fn takes_no_line_past_the_limit(rt: HostRuntime) -> Result<(), Fail> {
-    for (size, fits) in [(16_384, true), (16_385, false)] {
-        let mut bytes = vec![in rt.alloc(); b'x'; size]?;
-        bytes.push(b'\n')?;
-        bytes.extend_from_slice(b"y\n")?;
-        for step in [1, 1_000, 20_000] {
-            let drip = Drip {
-                left: bytes.as_slice(),
-                step,
-                fails_at: None,
-            };
-            let mut lines = Lines::new(rt.alloc(), Counted::new(drip))?;
-            if fits {
-                assert_eq!(rt; lines.advance(), Ok(true));
-                assert_eq!(rt; lines.line().len(), size);
-                assert_eq!(rt; lines.advance(), Ok(true));
-                assert!(rt; lines.line() == b"y".as_slice());
-                assert_eq!(rt; lines.advance(), Ok(false));
-            } else {
-                assert_eq!(rt; lines.advance(), Err(TextFault::NotCanonical));
-                assert_eq!(rt; lines.advance(), Err(TextFault::NotCanonical));
-            }
-        }
-    }
-    Ok(())
-}
-
-#[test]
-fn writes_a_line_or_its_beginning(rt: HostRuntime) -> Result<(), Fail> {
-    let whole = b"abcde\n";
-    for room in 0..=6 {
-        let mut sink = Counted::new(Tight {
-            taken: Vec::new(rt.alloc()),
-            room,
-        });
-        let result = write_line(&mut sink, b"abcde");
-        let (want, failures) = if room < 6 {
-            (Err(TextFault::Failed), 1)
-        } else {
-            (Ok(()), 0)
-        };
-        assert_eq!(rt; result, want, "room for {room}");
-        assert_eq!(rt; sink.failures, failures, "room for {room}");
-        let taken = sink.into_inner().taken;
+fn takes_no_line_past_the_limit(rt: HostRuntime) {
+    for step in [1, 1_000, 20_000] {
         assert!(rt;
-            taken.as_slice() == &whole[..room],
-            "room for {room}: {taken:?}"
+            keeps_to_the_limit(rt.alloc(), step) == Some(true),
+            "by {step}"
         );
     }
-    Ok(())
+}
+
+/// Whether the line is written as far as there is room, and a fault told where that isn't all.
+fn writes_into(alloc: Global, room: usize) -> bool {
+    let mut sink = sink_of(alloc, 2, room, None);
+    let result = write_line(&mut sink, b"abcde");
+    let is_told = if room < 6 {
+        result == Err(TextFault::Failed) && sink.failures == 1
+    } else {
+        result == Ok(()) && sink.failures == 0
+    };
+    is_told && has_taken(sink, b"abcde\n", room)
+}
+
+#[test]
+fn writes_a_line_or_its_beginning(rt: HostRuntime) {
+    for room in 0..7 {
+        assert!(rt; writes_into(rt.alloc(), room), "room for {room}");
+    }
 }
 
 #[test]
@@ -190,51 +167,69 @@ fn reads_numbers(rt: HostRuntime) {
         (b"\xd9\xa3", None),
     ];
     for (field, want) in cases {
-        assert_eq!(rt; field_dec(field), want, "{field:?}");
+        assert!(rt; field_dec(field) == want);
     }
 }
 
+/// The first bytes of the digest of this text, where it is written so too.
+fn digest_begins(alloc: Global, text: &[u8]) -> Option<[u8; 5]> {
+    let digest = field_digest(text)?;
+    let mut again = Vec::new(alloc);
+    push_digest(&mut again, &digest).ok()?;
+    if again.as_slice() != text {
+        return None;
+    }
+    let [a, b, c, d, e, ..] = digest;
+    Some([a, b, c, d, e])
+}
+
 #[test]
-fn reads_and_writes_digests(rt: HostRuntime) -> Result<(), Fail> {
+fn reads_and_writes_digests(rt: HostRuntime) {
     let text = b"00ff10a2ca978112ca1bbdcafac231b39a23dc4da786eff8147c4e72b9807785";
-    let digest = field_digest(text).ok_or("a digest")?;
-    assert!(rt; digest[..5] == [0, 255, 16, 162, 202]);
-    let mut again = Vec::new(rt.alloc());
-    push_digest(&mut again, &digest)?;
-    assert!(rt; again.as_slice() == text.as_slice());
+    assert!(rt; digest_begins(rt.alloc(), text) == Some([0, 255, 16, 162, 202]));
     let upper = b"00FF10a2ca978112ca1bbdcafac231b39a23dc4da786eff8147c4e72b9807785";
     for bad in [upper.as_slice(), &text[..62], &text[..63], b""] {
-        assert!(rt; field_digest(bad).is_none(), "{bad:?}");
+        assert!(rt; field_digest(bad).is_none());
     }
-    Ok(())
+}
+
+/// Whether the line has this word and then this rest.
+fn splits(line: &[u8], want: &[u8], want_rest: &[u8]) -> bool {
+    match split_word(line) {
+        (word, Some(rest)) => word == want && rest == want_rest,
+        (_, None) => false,
+    }
+}
+
+/// Words and a number, joined.
+fn joined(alloc: Global) -> Option<Vec<u8>> {
+    let mut line = Vec::from_slice(alloc, b"end").ok()?;
+    push_word(&mut line, b"12").ok()?;
+    push_word(&mut line, b"").ok()?;
+    push_decimal(&mut line, 30).ok()?;
+    Some(line)
+}
+
+fn is_joined(alloc: Global, want: &[u8]) -> bool {
+    match joined(alloc) {
+        Some(line) => line.as_slice() == want,
+        None => false,
+    }
 }
 
 #[test]
-fn parts_and_joins_words(rt: HostRuntime) -> Result<(), Fail> {
-    let (word, rest) = split_word(b"end 12 3");
-    assert!(rt; word == b"end".as_slice());
-    let (second, last) = split_word(rest.ok_or("more words")?);
-    assert!(rt; second == b"12".as_slice());
-    assert!(rt; last.ok_or("a third word")? == b"3".as_slice());
+fn parts_and_joins_words(rt: HostRuntime) {
+    assert!(rt; splits(b"end 12 3", b"end", b"12 3"));
+    assert!(rt; splits(b"12 3", b"12", b"3"));
     let (only, none) = split_word(b"holds");
     assert!(rt; only == b"holds".as_slice());
     assert!(rt; none.is_none());
-    let mut line = Vec::from_slice(rt.alloc(), b"end")?;
-    push_word(&mut line, b"12")?;
-    push_word(&mut line, b"")?;
-    push_decimal(&mut line, 30)?;
-    assert!(rt; line.as_slice() == b"end 12 30".as_slice());
-    Ok(())
+    assert!(rt; is_joined(rt.alloc(), b"end 12 30"));
 }
 
 #[test]
 fn numbers_faults(rt: HostRuntime) {
-    let numbers = [
-        (TextFault::OutOfMemory, 1),
-        (TextFault::Failed, 5),
-        (TextFault::NotCanonical, 6),
-    ];
-    for (fault, number) in numbers {
-        assert_eq!(rt; fault.number(), number);
-    }
+    assert!(rt; TextFault::OutOfMemory.number() == 1);
+    assert!(rt; TextFault::Failed.number() == 5);
+    assert!(rt; TextFault::NotCanonical.number() == 6);
 }
