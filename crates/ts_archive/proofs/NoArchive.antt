@@ -1,5 +1,5 @@
 -- Why a decoder answers no print.
-use Rattle.std.proofs.Common.{◌≡◌, ◌≢◌, ◌⊎◌, ℕ, ◌+◌, ◌^◌, ◌<◌, List, [], ◌∷◌, ◌++◌, length, codes, decimal, Option, Some, None, Err, refl, sym, ap, ◌∙◌, subst, inl, inr, append_assoc, arith, length-append}
+use Rattle.std.proofs.Common.{◌≡◌, ◌≢◌, ◌⊎◌, ℕ, ◌+◌, ◌^◌, ◌<◌, List, [], ◌∷◌, ◌++◌, length, decimal, Option, Some, None, Err, sym, ap, ◌∙◌, subst, inl, inr, append_assoc, arith}
 use Rattle.std.specs.Prelude.{IfSome}
 use Rattle.std.specs.List.{AllByRecursion}
 use Rattle.std.specs.Io.KnownBytes.{Keeps, Consumes, IsAtEnd}
@@ -7,13 +7,13 @@ use Rattle.std.proofs.lemmas.Fmt.{decimal_injective}
 use Rattle.std.proofs.lemmas.List.{append-nil}
 use Rattle.hex.specs.Hex.{encode_lower}
 use Rattle.sha2.specs.Sha256.{sha256}
-use Rattle.ts_text.specs.Lines.{Reading, Answers, IsLine, HasNoLine, GivesLine, HasEnded, HasRefused}
+use Rattle.ts_text.specs.Lines.{Reading, Answers, IsLine, HasNoLine, GivesLine, HasEnded}
 use Rattle.ts_text.specs.declared.fault.TextFault.{TextFault}
 use Rattle.ts_text.specs.declared.fault.TextFault.TheVariants as text_fault
 use Rattle.ts_model.specs.Trees.{Listing}
 use Rattle.ts_model.specs.Texts.{Line, text, print_lines, archive_front, IsPrintBody, IsArchiveText, HasWrongEnd}
 use Rattle.ts_model.specs.declared.row.Stamp.{Stamp}
-use Rattle.ts_tree.proofs.Lines.{text_cons, text_push}
+use Rattle.ts_tree.proofs.Lines.{text_cons}
 use Rattle.ts_tree.proofs.Taken.{Taken, taken_failed}
 use Rattle.ts_tree.proofs.Words.{clean_decimal, clean_without, cut_at, one_hex}
 use Rattle.ts_print.specs.Faults.{Refuses}

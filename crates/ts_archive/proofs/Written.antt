@@ -1,13 +1,13 @@
 -- What was written of an archive file.
-use Rattle.std.proofs.Common.{◌≡◌, ◌≢◌, ℕ, suc, ◌+◌, List, [], ◌∷◌, ◌++◌, length, Option, Result, Ok, Err, refl, sym, ap, ◌∙◌, subst, append_assoc, arith, length-append}
+use Rattle.std.proofs.Common.{◌≡◌, ◌≢◌, ℕ, ◌+◌, List, [], ◌∷◌, ◌++◌, length, Option, refl, sym, ap, ◌∙◌, append_assoc, arith, length-append}
 use Rattle.std.specs.List.{AllByRecursion}
 use Rattle.std.specs.Io.KnownBytes.{Appends}
 use Rattle.std.proofs.KnownBytes.{Appends-trans}
 use Rattle.sha2.specs.Sha256.{sha256}
-use Rattle.ts_text.specs.Sources.{AppendsFront, Writes}
+use Rattle.ts_text.specs.Sources.{AppendsFront}
 use Rattle.ts_name.specs.Paths.{Path, IsPath}
 use Rattle.ts_model.specs.Trees.{Listing, IsListing}
-use Rattle.ts_model.specs.Texts.{archive_front, archive_text, print_lines, print_row_lines, text}
+use Rattle.ts_model.specs.Texts.{archive_front, archive_text, print_lines, print_row_lines}
 use Rattle.ts_model.specs.declared.row.Content.{Content}
 use Rattle.ts_model.specs.declared.row.Content.TheVariants.{Absent, Dir, File}
 use Rattle.ts_model.specs.declared.row.Stamp.{Stamp}

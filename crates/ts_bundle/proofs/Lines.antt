@@ -1,9 +1,9 @@
 -- Each line of a bundle is one that a text can have.
-use Rattle.std.proofs.Common.{◌≡◌, ◌≢◌, ℕ, ◌+◌, ◌*◌, ◌<◌, ◌≤◌, List, [], ◌∷◌, ◌++◌, length, map, flat_map, codes, refl, sym, ap, ◌∙◌, subst, arith, length-append}
+use Rattle.std.proofs.Common.{◌≡◌, ◌≢◌, ℕ, ◌+◌, ◌*◌, ◌<◌, ◌≤◌, List, [], ◌∷◌, ◌++◌, length, map, flat_map, codes, refl, sym, ◌∙◌, subst, arith, length-append}
 use Rattle.std.specs.List.{AllByRecursion}
 use Rattle.ts_text.specs.Lines.{IsLine}
 use Rattle.ts_laws.proofs.Words.{clean_from_test}
-use Rattle.ts_model.specs.Texts.{Line, Bundle, bundle_lines, IsBundle, tree_lines, print_lines, rule_line, plan_lines, symbol_text, RuleFits}
+use Rattle.ts_model.specs.Texts.{Bundle, bundle_lines, IsBundle, tree_lines, print_lines, rule_line, plan_lines, symbol_text, RuleFits}
 use Rattle.ts_model.specs.declared.hold.Symbol.{Symbol}
 use Rattle.ts_model.specs.declared.hold.Rule.{Rule}
 use Rattle.ts_model.specs.declared.hold.Rule.TheVariants.{OnePath, LastName}

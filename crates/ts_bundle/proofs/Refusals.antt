@@ -1,8 +1,8 @@
 -- Where no bundle's lines begin so.
-use Rattle.std.proofs.Common.{◌≡◌, ◌≢◌, ◌⊎◌, ℕ, ◌+◌, ◌<◌, ◌≤◌, List, [], ◌∷◌, ◌++◌, length, map, codes, Result, Ok, Err, refl, sym, ap, ap₂, ◌∙◌, subst, inl, inr, append_assoc, append-nil, arith}
+use Rattle.std.proofs.Common.{◌≡◌, ◌≢◌, ◌⊎◌, ℕ, ◌+◌, ◌<◌, ◌≤◌, List, [], ◌∷◌, ◌++◌, length, map, codes, Err, refl, sym, ap, ◌∙◌, subst, inl, inr, append_assoc, arith}
 use Rattle.std.specs.List.{AllByRecursion}
 use Rattle.ts_model.specs.Trees.{Listing}
-use Rattle.ts_model.specs.Texts.{Line, Bundle, bundle_lines, IsBundle, tree_lines, print_lines, rule_line, plan_lines, RuleFits}
+use Rattle.ts_model.specs.Texts.{Line, Bundle, bundle_lines, tree_lines, print_lines, rule_line, plan_lines, RuleFits}
 use Rattle.ts_model.specs.declared.row.Stamp.{Stamp}
 use Rattle.ts_model.specs.declared.hold.Rule.{Rule}
 use Rattle.ts_tree.specs.Faults as tree_faults
@@ -13,7 +13,7 @@ use Rattle.ts_print.specs.Faults as print_faults
 use Rattle.ts_print.specs.Readers.{BeginsNoPrint}
 use Rattle.ts_print.specs.declared.fault.PrintFault.{PrintFault}
 use Rattle.ts_print.specs.declared.fault.PrintFault.TheVariants as print
-use Rattle.ts_hold.specs.Lines.{IsRuleLine, IsNoRuleLine}
+use Rattle.ts_hold.specs.Lines.{IsRuleLine}
 use Rattle.ts_hold.specs.Rules.{RefusesLine}
 use Rattle.ts_hold.specs.declared.faults.HoldFault.{HoldFault}
 use Rattle.ts_hold.specs.declared.faults.HoldFault.TheVariants as hold

@@ -1,12 +1,11 @@
 -- What was written of a result.
-use Rattle.std.proofs.Common.{◌≡◌, ℕ, ◌+◌, ◌<◌, suc, List, [], ◌∷◌, ◌++◌, length, drop, get_or, map, Option, Result, Ok, Err, refl, sym, ap, ◌∙◌, subst, add-one, drop-cons}
+use Rattle.std.proofs.Common.{◌≡◌, ℕ, ◌+◌, ◌<◌, suc, List, [], ◌∷◌, ◌++◌, length, drop, get_or, Option, Ok, Err, refl, sym, ap, ◌∙◌, add-one, drop-cons}
 use Rattle.std.specs.Io.KnownBytes.{Appends}
 use Rattle.std.proofs.KnownBytes.{Appends-nil}
 use Rattle.ts_text.specs.Sources.{AppendsFront}
 use Rattle.ts_model.specs.Texts.{Line, text}
 use Rattle.ts_model.specs.Trial.{report_line}
 use Rattle.ts_model.specs.declared.plan.Entry.{Entry}
-use Rattle.ts_tree.proofs.Lines.{text_append}
 use Rattle.ts_tree.proofs.Writing.{writes_after}
 use Rattle.ts_bundle.specs.Results.{report_lines}
 

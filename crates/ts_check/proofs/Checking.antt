@@ -1,14 +1,13 @@
 -- What a plan that was checked answers.
-use Rattle.std.proofs.Common.{◌≡◌, ◌≢◌, ◌⊎◌, ◌↔◌, ℕ, zero, suc, ◌<◌, ◌≤◌, List, [], ◌∷◌, length, Contains, Option, Some, None, IfNone, MatchOption, slice_get, sym, refl, ap, ◌∙◌, subst, inl, inr, arith}
-use Rattle.std.proofs.lemmas.Option.{none-some, same_Some, slice_get_within}
+use Rattle.std.proofs.Common.{◌≡◌, ◌≢◌, ◌⊎◌, ◌↔◌, ℕ, ◌<◌, ◌≤◌, List, [], ◌∷◌, length, Contains, Option, Some, None, IfNone, MatchOption, slice_get, sym, refl, ◌∙◌, subst, inl, arith}
+use Rattle.std.proofs.lemmas.Option.{none-some, slice_get_within}
 use Rattle.ts_name.specs.Paths.{Path}
-use Rattle.ts_model.specs.Plans.{ActionIs, KindIs, EntryIs, Copies, IsCopied, Valid, Waits, AscendBelow, source}
+use Rattle.ts_model.specs.Plans.{ActionIs, KindIs, Copies, IsCopied, Valid, Waits, AscendBelow}
 use Rattle.ts_model.specs.Runs.{IsPieceOf}
 use Rattle.ts_model.specs.Sync.{Snapshot}
 use Rattle.ts_model.specs.declared.plan.Action.{Action}
 use Rattle.ts_model.specs.declared.plan.Entry.{Entry}
 use Rattle.ts_model.specs.declared.plan.Side.{Side}
-use Rattle.ts_model.specs.declared.plan.Kind.{Kind}
 use Rattle.ts_model.specs.declared.plan.Kind.TheVariants.{Piece, Commit}
 use Rattle.ts_model.specs.declared.plan.Plan.{Plan}
 use Rattle.ts_model.specs.declared.plan.PlanRule.TheVariants.{PredsAscend, OneCommit}
@@ -18,7 +17,7 @@ use Rattle.ts_check.proofs.Verdicts.{limits_hold}
 use Rattle.ts_check.proofs.Waits.{ascending_preds}
 use Rattle.ts_check.specs.Pieces.{IsPieceFor}
 use Rattle.ts_check.specs.Places.{IsIndex, no_action}
-use Rattle.ts_check.specs.Waiting.{AreSuccessors, AreAllSuccessors}
+use Rattle.ts_check.specs.Waiting.{AreAllSuccessors}
 
 pub few_actions : (s : Snapshot) (plan : Plan) → Valid s plan → length plan.actions ≤ 1048576
 few_actions s plan valid = (limits_hold s plan (λ rule place less. valid rule place)).1

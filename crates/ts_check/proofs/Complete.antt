@@ -1,25 +1,24 @@
 -- Each lawful piece of an entry is looked for among those that stand.
-use Rattle.std.proofs.Common.{◌≡◌, ◌≢◌, ◌⊎◌, ℕ, ◌+◌, ◌-◌, ◌%◌, ◌<◌, ◌≤◌, min, Bool, true, false, List, [], ◌∷◌, ◌++◌, length, Option, Some, None, is_some, slice_get, sym, refl, ap, ◌∙◌, subst, inl, inr, append-nil, arith}
+use Rattle.std.proofs.Common.{◌≡◌, ◌≢◌, ◌⊎◌, ℕ, ◌+◌, ◌-◌, ◌%◌, ◌<◌, ◌≤◌, min, [], ◌∷◌, ◌++◌, length, Some, None, slice_get, sym, refl, ap, ◌∙◌, subst, inl, inr, append-nil, arith}
 use Rattle.std.specs.BTreeMap.{BTreeMap, get}
 use Rattle.std.proofs.lemmas.Bool.{cases_eq, cases_lt, cases_order}
 use Rattle.std.proofs.lemmas.Option.{none-some, same_Some, slice_get_within}
-use Rattle.ts_name.specs.Paths.{Name, Path, IsAbove, IsBefore}
+use Rattle.ts_name.specs.Paths.{Path, IsAbove, IsBefore}
 use Rattle.ts_laws.proofs.Basics.{same_stamp_at, same_names}
 use Rattle.ts_laws.proofs.Paths.{IsRooted-from_tree, nothing_below, before_itself, before_trans}
 use Rattle.ts_laws.proofs.Listings.{IsTree-from_listing}
 use Rattle.ts_need.proofs.Between.{before_from_above, above_between}
 use Rattle.ts_model.specs.Trees.{Listing, IsListing, at}
-use Rattle.ts_model.specs.Plans.{EntryIs, KindIs, IsCopied, IsRange}
-use Rattle.ts_model.specs.declared.row.Content.TheVariants.{Absent, Dir, File}
+use Rattle.ts_model.specs.Plans.{EntryIs, KindIs, IsCopied}
+use Rattle.ts_model.specs.declared.row.Content.TheVariants.{File}
 use Rattle.ts_model.specs.declared.row.Row.{Row}
 use Rattle.ts_model.specs.declared.row.Stamp.{Stamp}
 use Rattle.ts_model.specs.declared.plan.Entry.{Entry}
-use Rattle.ts_model.specs.declared.plan.Kind.{Kind}
 use Rattle.ts_model.specs.declared.plan.Kind.TheVariants.{Piece}
 use Rattle.ts_model.specs.declared.plan.Plan.{Plan}
 use Rattle.ts_check.proofs.Rowed.{row_is, at_row, dir_row, file_row, rows_order}
-use Rattle.ts_check.proofs.Staging.{IsPieceOf-from, IsPieceIn-from, one_source, same_piece}
-use Rattle.ts_check.specs.Pieces.{IsSourceOf, IsPieceIn, IsRowOf, IsPlaceOf, IsStagedMap, HasAll, HasAllBelow, LacksRange, LacksBelow, LacksSome, NotEachOnce, IsAgain, Place, place_cmp}
+use Rattle.ts_check.proofs.Staging.{IsPieceOf-from, IsPieceIn-from, one_source}
+use Rattle.ts_check.specs.Pieces.{IsSourceOf, IsRowOf, IsStagedMap, HasAll, HasAllBelow, LacksRange, LacksBelow, LacksSome, NotEachOnce, IsAgain, Place, place_cmp}
 
 -- ---- the ranges of one file
 

@@ -1,10 +1,9 @@
 -- What a mark waits for: the commit of its entry, and the mark of the nearest new directory.
-use Rattle.std.proofs.Common.{◌≡◌, ◌≢◌, ◌⊎◌, ℕ, ◌<◌, ◌≤◌, List, [], ◌∷◌, ◌++◌, length, Option, Some, None, slice_get, sym, refl, ap, ◌∙◌, subst, inl, inr, append_assoc, append-nil, arith}
-use Rattle.std.proofs.lemmas.Bool.{cases_eq}
+use Rattle.std.proofs.Common.{◌≡◌, ◌≢◌, ◌⊎◌, ℕ, ◌<◌, ◌≤◌, List, [], ◌∷◌, ◌++◌, length, Option, Some, slice_get, sym, ap, ◌∙◌, subst, inl, inr, append-nil, arith}
 use Rattle.std.proofs.lemmas.Option.{same_Some, slice_get_within}
-use Rattle.ts_name.specs.Paths.{Path, IsAbove, IsBefore}
+use Rattle.ts_name.specs.Paths.{IsAbove, IsBefore}
 use Rattle.ts_laws.proofs.Paths.{before_itself, before_trans}
-use Rattle.ts_model.specs.Plans.{EntryIs, ActionIs, KindIs, Waits, NearestDir, IsOutOfOrder}
+use Rattle.ts_model.specs.Plans.{ActionIs, KindIs, Waits, NearestDir, IsOutOfOrder}
 use Rattle.ts_model.specs.declared.plan.Entry.{Entry}
 use Rattle.ts_model.specs.declared.plan.Action.{Action}
 use Rattle.ts_model.specs.declared.plan.Plan.{Plan}
@@ -13,10 +12,9 @@ use Rattle.ts_model.specs.declared.plan.Kind.TheVariants.{Commit, Mark}
 use Rattle.ts_need.proofs.Between.{before_from_above}
 use Rattle.ts_check.specs.Places.{IsFirst, IsIndex, no_action}
 use Rattle.ts_check.specs.Waiting.{IsLinked, LacksCommit, LacksDir, LacksLink}
-use Rattle.ts_check.specs.Nearest.{IsDirAbove, IsNearestIndex, IsNearestOf}
+use Rattle.ts_check.specs.Nearest.{IsNearestIndex, IsNearestOf}
 use Rattle.ts_check.proofs.Scans.{held_at, same_kind}
 use Rattle.ts_check.proofs.Waits.{IsFirst-same}
-use Rattle.ts_check.proofs.Nearests.{dir_earlier}
 
 -- a mark that lacks what stands at its entry among the commits lacks its commit
 pub IsFirst-LacksCommit : (plan : Plan) (commits : List ℕ) → length plan.actions ≤ 1048576 → IsIndex plan Commit (length plan.actions) commits → (o : Option ℕ) → IsFirst (LacksLink plan commits) o → IsFirst (LacksCommit plan) o

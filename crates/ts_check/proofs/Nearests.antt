@@ -3,7 +3,7 @@ use Rattle.std.proofs.Common.{◌≡◌, ◌≢◌, ◌⊎◌, ℕ, zero, suc, �
 use Rattle.std.proofs.lemmas.Bool.{cases_eq, cases_lt, cases_order}
 use Rattle.std.proofs.lemmas.Option.{same_Some, slice_get_within}
 use Rattle.std.proofs.lemmas.List.{length-append}
-use Rattle.ts_name.specs.Paths.{Path, IsAbove, IsBefore}
+use Rattle.ts_name.specs.Paths.{IsAbove, IsBefore}
 use Rattle.ts_laws.proofs.Basics.{stable}
 use Rattle.ts_laws.proofs.Paths.{decide_before, before_itself, before_trans}
 use Rattle.ts_model.specs.Plans.{IsOutOfOrder}

@@ -1,24 +1,22 @@
 -- The pieces of each entry, by path and offset.
-use Rattle.std.proofs.Common.{◌≡◌, ◌≢◌, ◌⊎◌, ◌↔◌, ℕ, zero, suc, ◌+◌, ◌<◌, ◌≤◌, ◌==◌, Bool, true, false, cond, List, [], ◌∷◌, ◌++◌, length, get_or, map, Contains, Option, Some, None, MatchOption, Result, Ok, Err, IfOk, slice_get, Ordering, Less, Equal, Greater, sym, refl, ap, ◌∙◌, subst, inl, inr, arith}
-use Rattle.std.specs.Ordering.{is_eq, nat_cmp, ordering_then}
+use Rattle.std.proofs.Common.{◌≡◌, ◌≢◌, ◌⊎◌, ◌↔◌, ℕ, ◌+◌, ◌<◌, ◌≤◌, ◌==◌, List, [], ◌∷◌, ◌++◌, length, get_or, map, Contains, Option, Some, None, MatchOption, Result, Ok, Err, IfOk, slice_get, Ordering, Less, Equal, Greater, sym, refl, ap, ◌∙◌, subst, inl, inr, arith}
+use Rattle.std.specs.Ordering.{nat_cmp, ordering_then}
 use Rattle.std.specs.BTreeMap.{BTreeMap, IsOrdered, get}
 use Rattle.std.specs.Map.{keys_of}
 use Rattle.std.specs.List.{All, AllPairs, AllByRecursion}
 use Rattle.std.specs.List.Sorted.{IsStrictlySortedBy}
-use Rattle.std.proofs.lemmas.Bool.{cases_eq, cases_order, eq-eqb, ne_eqb, lt-ltb, le-ltb}
+use Rattle.std.proofs.lemmas.Bool.{cases_eq, cases_order, eq-eqb, ne_eqb, le-ltb}
 use Rattle.std.proofs.lemmas.List.Elements.{All-cons, All-head, All-tail, All-contains}
 use Rattle.std.proofs.lemmas.List.Kept.{AllPairs-cons}
 use Rattle.std.proofs.lemmas.Map.Views.{Contains-from_lookup}
 use Rattle.std.proofs.lemmas.Option.{none-some, same_Some, slice_get_within}
 use Rattle.ts_name.specs.Paths.{Path, IsBefore}
 use Rattle.ts_model.specs.Trees.{Listing, IsListing}
-use Rattle.ts_model.specs.Plans.{ActionIs, KindIs, EntryIs}
+use Rattle.ts_model.specs.Plans.{KindIs}
 use Rattle.ts_model.specs.Runs.{IsPieceOf}
 use Rattle.ts_model.specs.declared.row.Row.{Row}
 use Rattle.ts_model.specs.declared.row.Stamp.{Stamp}
-use Rattle.ts_model.specs.declared.plan.Action.{Action}
 use Rattle.ts_model.specs.declared.plan.Entry.{Entry}
-use Rattle.ts_model.specs.declared.plan.Kind.{Kind}
 use Rattle.ts_model.specs.declared.plan.Kind.TheVariants.{Piece, Commit}
 use Rattle.ts_model.specs.declared.plan.Plan.{Plan}
 use Rattle.ts_check.proofs.Scans.{same_kind, held_at}
@@ -27,7 +25,7 @@ use Rattle.ts_check.proofs.Staging.{one_source, source_lists, same_piece}
 use Rattle.ts_check.proofs.Placing.{place_eq, is_eq_Equal}
 use Rattle.ts_check.proofs.Succeeding.{contains_cons, contains_tail, contains_none, at_key-yes, at_key-no}
 use Rattle.ts_check.specs.Lists.{at_key, AreKeysBelow}
-use Rattle.ts_check.specs.Pieces.{IsSourceOf, IsRowOf, IsPlaceOf, IsStagedMap, Place, place_cmp, by_entry, IsPieceFor, IsEarlierPiece, ArePieces, AreAllPieces}
+use Rattle.ts_check.specs.Pieces.{IsSourceOf, IsRowOf, IsStagedMap, Place, place_cmp, by_entry, IsPieceFor, IsEarlierPiece, ArePieces, AreAllPieces}
 
 -- ---- places in order
 

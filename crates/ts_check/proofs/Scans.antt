@@ -3,8 +3,7 @@ use Rattle.std.proofs.Common.{◌≡◌, ◌≢◌, ◌⊎◌, ℕ, zero, suc, �
 use Rattle.std.proofs.lemmas.Bool.{cases_eq, cases_lt}
 use Rattle.std.proofs.lemmas.Option.{none-some, same_Some, slice_get_within, slice_get_read}
 use Rattle.std.proofs.lemmas.List.{length-set, length-replicate}
-use Rattle.ts_model.specs.Sync.{IsSkipped}
-use Rattle.ts_model.specs.Plans.{EntryIs, ActionIs, KindIs, NotOneEach, source}
+use Rattle.ts_model.specs.Plans.{ActionIs, KindIs}
 use Rattle.ts_model.specs.declared.plan.Reason.{Reason}
 use Rattle.ts_model.specs.declared.plan.Reason.TheVariants as reason
 use Rattle.ts_model.specs.declared.plan.Side.TheVariants as side

@@ -1,9 +1,9 @@
 -- Pieces by the rows of their source.
-use Rattle.std.proofs.Common.{◌≡◌, ◌≢◌, ◌⊎◌, ℕ, ◌+◌, ◌<◌, ◌≤◌, List, length, Option, Some, None, slice_get, sym, refl, ap, ◌∙◌, subst, inl, inr, arith}
-use Rattle.std.proofs.lemmas.Option.{same_Some, slice_get_within}
+use Rattle.std.proofs.Common.{◌≡◌, ◌≢◌, ◌⊎◌, ℕ, ◌+◌, ◌<◌, ◌≤◌, Some, slice_get, sym, refl, ap, ◌∙◌, subst}
+use Rattle.std.proofs.lemmas.Option.{same_Some}
 use Rattle.ts_name.specs.Paths.{Path, IsAbove}
 use Rattle.ts_model.specs.Trees.{Listing, IsListing, at}
-use Rattle.ts_model.specs.Plans.{EntryIs, ActionIs, KindIs, Copies, IsCopied, IsRange, source}
+use Rattle.ts_model.specs.Plans.{EntryIs, ActionIs, IsRange, source}
 use Rattle.ts_model.specs.declared.row.Content.TheVariants.{File}
 use Rattle.ts_model.specs.declared.row.Row.{Row}
 use Rattle.ts_model.specs.declared.row.Stamp.{Stamp}
@@ -14,7 +14,7 @@ use Rattle.ts_model.specs.declared.plan.Action.{Action}
 use Rattle.ts_model.specs.declared.plan.Kind.TheVariants.{Piece}
 use Rattle.ts_model.specs.declared.plan.Plan.{Plan}
 use Rattle.ts_check.proofs.Scans.{same_kind}
-use Rattle.ts_check.proofs.Rowed.{file_row, at_row, one_row}
+use Rattle.ts_check.proofs.Rowed.{file_row, at_row}
 use Rattle.ts_check.specs.Pieces.{on_side, IsSourceOf, IsPieceIn, IsRowOf, IsUnlawful}
 
 -- either side is a listing

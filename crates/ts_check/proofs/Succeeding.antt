@@ -1,14 +1,13 @@
 -- The actions that wait for each action.
-use Rattle.std.proofs.Common.{◌≡◌, ◌≢◌, ◌⊎◌, ◌↔◌, ℕ, zero, suc, ◌+◌, ◌<◌, ◌≤◌, ◌==◌, Bool, true, false, cond, List, [], ◌∷◌, ◌++◌, length, get_or, drop, map, Contains, Option, Some, None, Result, Ok, Err, IfOk, slice_get, sym, refl, ap, ◌∙◌, subst, inl, inr, arith, eqb}
+use Rattle.std.proofs.Common.{◌≡◌, ◌≢◌, ◌⊎◌, ◌↔◌, ℕ, zero, suc, ◌+◌, ◌<◌, ◌≤◌, ◌==◌, List, [], ◌∷◌, ◌++◌, length, get_or, drop, map, Contains, Some, Result, Ok, Err, IfOk, slice_get, sym, refl, ap, ◌∙◌, subst, inl, inr, arith}
 use Rattle.std.specs.List.{filter, All}
-use Rattle.std.proofs.lemmas.Bool.{cases_eq, eq-eqb, ne_eqb, eqb-true, eqb-false}
-use Rattle.std.proofs.lemmas.List.{map-append, append_assoc, drop_more, drop_all}
+use Rattle.std.proofs.lemmas.Bool.{cases_eq, eq-eqb, ne_eqb}
+use Rattle.std.proofs.lemmas.List.{map-append, append_assoc, drop_more}
 use Rattle.std.proofs.lemmas.List.Elements.{filter-append, Contains-append_cases, Contains-append_left, Contains-append_right, All-append, All-cons, All-contains, All-map, All-weaker}
 use Rattle.std.proofs.lemmas.Option.{none-some, same_Some, slice_get_within}
-use Rattle.ts_model.specs.Plans.{ActionIs, Waits, AscendBelow}
+use Rattle.ts_model.specs.Plans.{AscendBelow}
 use Rattle.ts_model.specs.declared.plan.Action.{Action}
 use Rattle.ts_model.specs.declared.plan.Plan.{Plan}
-use Rattle.ts_check.proofs.Scans.{held_at}
 use Rattle.ts_check.proofs.Waits.{ascending_preds, below_from, from_below}
 use Rattle.ts_check.specs.Lists.{at_key, AreKeysBelow}
 use Rattle.ts_check.specs.Waiting.{AscendFrom, HasBadPreds, waits_from, AreSuccessors, AreAllSuccessors}

@@ -1,16 +1,15 @@
 -- From rule to rule.
-use Rattle.std.proofs.Common.{◌≡◌, ◌≢◌, ◌⊎◌, ℕ, zero, suc, ◌+◌, ◌<◌, ◌≤◌, List, [], ◌∷◌, ◌++◌, length, Option, Some, None, slice_get, sym, refl, ap, ◌∙◌, subst, inl, inr, arith}
+use Rattle.std.proofs.Common.{◌≡◌, ◌≢◌, ◌⊎◌, ℕ, zero, suc, ◌+◌, ◌<◌, ◌≤◌, List, [], ◌∷◌, ◌++◌, length, Option, Some, None, sym, refl, ap, ◌∙◌, subst, inl, inr, arith}
 use Rattle.std.proofs.lemmas.Bool.{cases_eq, cases_lt}
-use Rattle.ts_name.specs.Paths.{Path, IsAbove}
+use Rattle.ts_name.specs.Paths.{Path}
 use Rattle.ts_laws.proofs.Paths.{snoc_not_empty}
-use Rattle.ts_model.specs.Sync.{Snapshot, HasReason, listed_snapshot, replica}
+use Rattle.ts_model.specs.Sync.{Snapshot, listed_snapshot, replica}
 use Rattle.ts_model.specs.Trees.{Listing, at}
-use Rattle.ts_model.specs.Plans.{EntryIs, KindIs, Wrong, Broken, Valid, WithinLimits, NotOneEach, IsCopied, IsPiece, IsOutOfOrder, IsRange, rule_number}
+use Rattle.ts_model.specs.Plans.{Wrong, Broken, Valid, WithinLimits, NotOneEach, IsCopied, IsPiece, rule_number}
 use Rattle.ts_model.specs.declared.hold.Rule.{Rule}
-use Rattle.ts_model.specs.declared.plan.Entry.{Entry}
 use Rattle.ts_model.specs.declared.plan.Side.{Side}
 use Rattle.ts_model.specs.declared.plan.Side.TheVariants as side
-use Rattle.ts_model.specs.declared.plan.Kind.TheVariants.{Commit, Mark}
+use Rattle.ts_model.specs.declared.plan.Kind.TheVariants.{Commit}
 use Rattle.ts_model.specs.declared.plan.Plan.{Plan}
 use Rattle.ts_model.specs.declared.plan.PlanRule.{PlanRule}
 use Rattle.ts_model.specs.declared.plan.PlanRule.TheVariants.{Limits, EntriesAscend, ReasonsHold, EntriesComplete, PredsAscend, OneCommit, PiecesLawful, PiecesComplete, OneMark, PiecesFirst, CommitFirst, DirFirst}
@@ -18,10 +17,10 @@ use Rattle.ts_model.specs.declared.row.Stamp.{Stamp}
 use Rattle.ts_need.specs.declared.broken.Broken.{Broken as NeedBroken}
 use Rattle.ts_need.specs.Needs.{IsNeedAnswer}
 use Rattle.ts_check.proofs.Waits.{IsFirst-same}
-use Rattle.ts_check.specs.Places.{IsFirst, Never, NotOneOf, Wants}
+use Rattle.ts_check.specs.Places.{IsFirst, Never, NotOneOf}
 use Rattle.ts_check.specs.Pieces.{on_side, IsPieceIn, IsUnlawful, NotEachOnce, HasNoRoot}
 use Rattle.ts_check.specs.Verdict.{HoldBelow}
-use Rattle.ts_check.specs.declared.census.Role.TheVariants.{Commits, Marks}
+use Rattle.ts_check.specs.declared.census.Role.TheVariants.{Commits}
 
 -- the rule of a number
 rule_of : ℕ → PlanRule

@@ -1,7 +1,7 @@
 -- The nearest new directory strictly above an entry.
 --     IsDirAbove entries d e        entry d is a new directory strictly above entry e
 --     IsNearestOf entries e found   found is the nearest of these, or no_action where there is none
-use Rattle.std.specs.Prelude.{◌≡◌, ◌≢◌, ◌⊎◌, ℕ, ◌<◌, List, length, Some, slice_get}
+use Rattle.std.specs.Prelude.{◌≡◌, ◌≢◌, ◌⊎◌, ℕ, ◌<◌, List, Some, slice_get}
 use Rattle.ts_name.specs.Paths.{IsAbove}
 use Rattle.ts_model.specs.declared.plan.Reason.TheVariants as reason
 use Rattle.ts_model.specs.declared.plan.Entry.{Entry}

@@ -3,13 +3,13 @@
 --     IsPieceIn a b plan ..          a lawful piece, by the prints of the two replicas
 --     IsStaged xs ys plan i place    action i is a piece of this entry, of the file in this row of the source, at this offset
 --     IsAgain plan i                 an earlier action is a piece of the same entry, path and offset
-use Rattle.std.specs.Prelude.{◌≡◌, ◌≢◌, ◌⊎◌, ◌↔◌, ℕ, ◌+◌, ◌<◌, List, [], length, map, AllPairs, Contains, Option, Some, None, slice_get}
+use Rattle.std.specs.Prelude.{◌≡◌, ◌≢◌, ◌⊎◌, ◌↔◌, ℕ, ◌+◌, ◌<◌, List, [], length, map, AllPairs, Contains, Some, None, slice_get}
 use Rattle.std.specs.Ordering.{nat_cmp, ordering_then}
 use Rattle.std.specs.declared.cmp.Ordering.{Ordering}
 use Rattle.std.specs.BTreeMap.{BTreeMap, get}
 use Rattle.ts_name.specs.Paths.{Path, IsAbove, IsBefore}
-use Rattle.ts_model.specs.Trees.{Listing, Print, at}
-use Rattle.ts_model.specs.Plans.{EntryIs, KindIs, Copies, Earlier, IsRange, source}
+use Rattle.ts_model.specs.Trees.{Listing, at}
+use Rattle.ts_model.specs.Plans.{EntryIs, KindIs, Copies, Earlier, IsRange}
 use Rattle.ts_model.specs.declared.row.Content.TheVariants.{File}
 use Rattle.ts_model.specs.declared.row.Row.{Row}
 use Rattle.ts_model.specs.declared.row.Stamp.{Stamp}

@@ -2,10 +2,10 @@
 --     Never wrong            no place is wrong
 --     IsFirst wrong found    the least wrong place, or none where no place is wrong
 --     IsIndex plan kind n xs   the number of each entry's action of this kind, by entry, among the first n actions
-use Rattle.std.specs.Prelude.{◌≡◌, ◌≢◌, ℕ, ◌<◌, List, length, Option, Some, None, slice_get}
+use Rattle.std.specs.Prelude.{◌≡◌, ◌≢◌, ℕ, ◌<◌, List, length, Some, slice_get}
 pub use Rattle.ts_need.specs.Needs.{Never, IsFirst}
 use Rattle.ts_model.specs.Sync.{IsSkipped}
-use Rattle.ts_model.specs.Plans.{KindIs, IsCopied, IsMarked, EntryIs, source, NotOneEach}
+use Rattle.ts_model.specs.Plans.{KindIs, EntryIs, source, NotOneEach}
 use Rattle.ts_model.specs.declared.plan.Side.{Side}
 use Rattle.ts_model.specs.declared.plan.Reason.{Reason}
 use Rattle.ts_model.specs.declared.plan.Entry.{Entry}

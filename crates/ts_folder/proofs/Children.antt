@@ -1,24 +1,24 @@
 -- The children of a directory among the rows of a tree.
-use Rattle.std.proofs.Common.{◌≡◌, ◌≢◌, ◌⊎◌, ◌↔◌, ℕ, zero, suc, ◌+◌, ◌-◌, ◌<◌, ◌≤◌, Bool, true, false, cond, List, [], ◌∷◌, ◌++◌, length, take, get_or, Option, Some, None, Ordering, Less, Equal, Greater, refl, sym, ap, ap₂, ◌∙◌, subst, inl, inr, arith, append-nil, Contains}
+use Rattle.std.proofs.Common.{◌≡◌, ◌≢◌, ◌⊎◌, ◌↔◌, ℕ, zero, suc, ◌+◌, ◌-◌, ◌<◌, ◌≤◌, Bool, true, false, cond, List, [], ◌∷◌, ◌++◌, length, take, get_or, Option, Some, None, Ordering, Less, Equal, Greater, refl, sym, ap, ◌∙◌, subst, inl, inr, arith, append-nil, Contains}
 use Rattle.std.proofs.lemmas.Bool.{cond-true, cond-false}
 use Rattle.std.proofs.lemmas.List.{take_more}
-use Rattle.std.proofs.lemmas.List.Elements.{filter_map-append, Contains-append_left, Contains-append_right, Contains-append_cases}
-use Rattle.std.specs.List.{AllByRecursion, filter_map, filter, cons_option}
+use Rattle.std.proofs.lemmas.List.Elements.{filter_map-append}
+use Rattle.std.specs.List.{AllByRecursion, cons_option}
 use Rattle.std.specs.Cmp.Lexicographic.{slice_cmp}
 use Rattle.std.specs.Ordering.{nat_cmp, ordering_then}
-use Rattle.ts_name.specs.Paths.{Name, Path, IsName, IsPath, IsBefore, IsAbove, path_cmp, same_path, below}
-use Rattle.ts_name.proofs.Prefixes.{below_append, below_gives, same_last}
+use Rattle.ts_name.specs.Paths.{Name, Path, IsName, IsPath, IsBefore, same_path, below}
+use Rattle.ts_name.proofs.Prefixes.{below_append, below_gives}
 use Rattle.ts_name.proofs.Order.{cmp_below, before_itself}
 use Rattle.ts_model.specs.Trees.{Listing, IsListing, Ascend, listed, at}
 use Rattle.ts_model.specs.declared.row.Content.{Content}
 use Rattle.ts_model.specs.declared.row.Content.TheVariants.{Absent, Dir, File}
 use Rattle.ts_model.specs.declared.row.Row.{Row}
 use Rattle.ts_table.specs.Tables.{is_above, rows_below}
-use Rattle.ts_table.proofs.Paths.{same_path_equal, same_path_differ, same_path_itself}
+use Rattle.ts_table.proofs.Paths.{same_path_equal, same_path_differ}
 use Rattle.ts_table.proofs.Rows.{weaker, ascend_rest, ascend_first, listed_none, listed_here, all_right}
-use Rattle.ts_table.proofs.Listings.{is_above_yes, not_above_gives}
+use Rattle.ts_table.proofs.Listings.{not_above_gives}
 use Rattle.ts_folder.specs.Children.{children, child_of, kind_of, named}
-use Rattle.ts_folder.specs.Folders.{AreChildren, HasKind, InOrder, IsFile}
+use Rattle.ts_folder.specs.Folders.{AreChildren, HasKind, InOrder}
 use Rattle.ts_folder.specs.declared.folder.Kind.{Kind}
 use Rattle.ts_folder.specs.declared.folder.Kind.TheVariants as kind
 

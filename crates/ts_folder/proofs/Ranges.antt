@@ -1,6 +1,6 @@
 -- A file's bytes, read piece by piece.
 use Rattle.std.proofs.Common.{◌≡◌, ◌≢◌, ℕ, ◌+◌, ◌-◌, ◌<◌, ◌≤◌, ◌^◌, min, List, [], ◌∷◌, ◌++◌, length, take, drop, replicate, Option, Some, None, IfSome, refl, sym, ap, ap₂, ◌∙◌, subst, arith}
-use Rattle.std.proofs.lemmas.List.{length-drop, length-take, drop-drop, take_min, take_all, take_at, take-append-le}
+use Rattle.std.proofs.lemmas.List.{length-drop, length-take, drop-drop, take_min, take_all, take_at}
 use Rattle.std.proofs.Math.Seq.{take-add}
 use Rattle.ts_model.specs.declared.row.Content.{Content}
 use Rattle.ts_model.specs.declared.row.Content.TheVariants.{Absent, Dir, File}
@@ -8,7 +8,7 @@ use Rattle.ts_model.specs.Texts.{FileFits, IsTreeBody}
 use Rattle.ts_model.specs.Trees.{Listing, at}
 use Rattle.ts_name.specs.Paths.{Path}
 use Rattle.ts_tree.proofs.Parts.{fits_at}
-use Rattle.ts_folder.specs.Folders.{IsFile, Reads, Fills, range}
+use Rattle.ts_folder.specs.Folders.{IsFile, Reads}
 
 -- what follows for a value, if there is one, from two facts about it
 pub some_both : {X : Type 0} (o : Option X) {P Q R : X → Type 0} → ((x : X) → P x → Q x → R x) → IfSome o P → IfSome o Q → IfSome o R

@@ -1,17 +1,14 @@
 -- Worked examples of the definitions. Each fact is computed, so a check of this file is a check of the definitions.
 use Rattle.std.proofs.Common.{◌≡◌, ℕ, List, [], ◌∷◌, ◌++◌, refl}
 use Rattle.std.specs.Prelude.{codes, replicate}
-use Rattle.std.specs.declared.cmp.Ordering.TheVariants.{Less, Equal}
+use Rattle.std.specs.declared.cmp.Ordering.TheVariants.{Less}
 use Rattle.std.specs.Fmt.{digits}
 use Rattle.hex.specs.Hex.{encode_with}
 use Rattle.ts_name.specs.Paths.{Path, path_cmp, path_text}
 use Rattle.ts_model.specs.declared.row.Content.TheVariants.{Dir, File}
-use Rattle.ts_model.specs.declared.row.Row.{Row}
-use Rattle.ts_model.specs.declared.row.Stamp.{Stamp}
 use Rattle.ts_model.specs.declared.hold.Rule.TheVariants.{OnePath, LastName}
 use Rattle.ts_model.specs.declared.hold.Symbol.TheVariants.{Star, Byte}
 use Rattle.ts_model.specs.declared.plan.Reason.TheVariants as reason
-use Rattle.ts_model.specs.declared.plan.Entry.{Entry}
 use Rattle.ts_model.specs.declared.plan.Kind.TheVariants.{Piece, Commit, Mark}
 use Rattle.ts_model.specs.declared.plan.Plan.{Plan}
 use Rattle.ts_model.specs.Trees.{Listing}

@@ -1,12 +1,10 @@
 -- The order of paths: what is above comes first, and what is at or below a path stands together.
-use Rattle.std.proofs.Common.{◌≡◌, ◌≢◌, ◌⊎◌, Ordering, Less, Equal, Greater, nat_cmp, List, [], ◌∷◌, ◌++◌, sym, refl, ap, ◌∙◌, subst, inl, inr, append-nil}
-use Rattle.std.specs.Cmp.{IsTotalOrder}
+use Rattle.std.proofs.Common.{◌≡◌, ◌≢◌, ◌⊎◌, Ordering, Less, Equal, Greater, nat_cmp, [], ◌∷◌, ◌++◌, sym, refl, ap, ◌∙◌, subst, append-nil}
 use Rattle.std.specs.Cmp.Lexicographic.{slice_cmp}
 use Rattle.std.specs.Ordering.{ordering_then, ordering_reverse}
 use Rattle.std.proofs.lemmas.Cmp.{nat_list_cmp_total, tied_itself}
 use Rattle.std.proofs.lemmas.Map.Lookups.{exact_bytes}
 use Rattle.ts_name.specs.Paths.{Name, Path, IsAbove, IsBefore, path_cmp}
-use Rattle.ts_laws.proofs.Paths.{before_itself, before_trans, before_cases}
 
 -- a path comes before what is strictly below it
 pub before_below : (p : Path) (name : Name) (rest : Path) → IsBefore p (p ++ name ∷ rest)

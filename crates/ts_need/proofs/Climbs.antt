@@ -1,11 +1,11 @@
 -- From a path up to the root.
-use Rattle.std.proofs.Common.{◌≡◌, ◌≢◌, ℕ, zero, suc, ◌<◌, List, [], ◌∷◌, ◌++◌, length, MatchOption, Option, Some, None, sym, refl, ap, ◌∙◌, subst, append_assoc, append-nil, arith}
+use Rattle.std.proofs.Common.{◌≡◌, ◌≢◌, ℕ, suc, ◌<◌, List, [], ◌∷◌, ◌++◌, length, MatchOption, Option, Some, None, sym, refl, ap, ◌∙◌, subst, append_assoc, append-nil, arith}
 use Rattle.std.proofs.lemmas.List.{length-append}
 use Rattle.std.proofs.lemmas.Option.{none-some, same_Some}
 use Rattle.ts_name.specs.Paths.{Name, Path, IsAbove}
 use Rattle.ts_model.specs.Holds.{Names}
 use Rattle.ts_model.specs.declared.hold.Rule.{Rule}
-use Rattle.ts_laws.proofs.Paths.{above_parent, snoc_not_empty}
+use Rattle.ts_laws.proofs.Paths.{above_parent}
 use Rattle.ts_need.specs.Needs.{IsNamedAbove}
 
 -- the named paths strictly above p are at or above this one

@@ -1,8 +1,8 @@
 -- The reason of a path by what is the same and what is held.
-use Rattle.std.proofs.Common.{◌≡◌, ◌≢◌, ◌⊎◌, ℕ, Bool, true, false, not, cond, ◌&&◌, List, [], ◌∷◌, ◌++◌, IsTrue, Option, Some, None, sym, refl, ap, ◌∙◌, subst, inl, inr}
+use Rattle.std.proofs.Common.{◌≡◌, ◌≢◌, ◌⊎◌, ℕ, Bool, true, false, not, ◌&&◌, [], ◌∷◌, ◌++◌, IsTrue, Option, Some, None, sym, refl, ap, ◌∙◌, subst, inl, inr}
 use Rattle.ts_name.specs.Paths.{Path}
-use Rattle.ts_model.specs.Sync.{Snapshot, IsSnapshot, IsChanged, IsDirty, TouchesHeld, IsBelowDirs, AreBothDirs, Because, HasReason, replica}
-use Rattle.ts_model.specs.Trees.{Print, IsTree, sub}
+use Rattle.ts_model.specs.Sync.{Snapshot, IsSnapshot, IsChanged, TouchesHeld, IsBelowDirs, AreBothDirs, HasReason, replica}
+use Rattle.ts_model.specs.Trees.{sub}
 use Rattle.ts_model.specs.declared.plan.Reason.{Reason}
 use Rattle.ts_model.specs.declared.plan.Reason.TheVariants as reason
 use Rattle.ts_model.specs.declared.plan.Side.{Side}

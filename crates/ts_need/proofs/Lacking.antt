@@ -1,9 +1,9 @@
 -- Paths with a reason that are no entries.
-use Rattle.std.proofs.Common.{◌≡◌, ◌≢◌, ◌⊎◌, ℕ, zero, suc, ◌+◌, ◌<◌, ◌≤◌, min, Bool, true, false, cond, List, [], ◌∷◌, ◌++◌, length, get_or, count_by, Contains, MatchOption, IfSome, IfNone, Option, Some, None, Result, Ok, Err, slice_get, Ordering, Less, Equal, Greater, sym, refl, ap, ◌∙◌, subst, inl, inr, append-nil, arith}
+use Rattle.std.proofs.Common.{◌≡◌, ◌≢◌, ◌⊎◌, ℕ, zero, suc, ◌+◌, ◌<◌, ◌≤◌, Bool, true, false, cond, List, [], ◌∷◌, ◌++◌, length, get_or, count_by, MatchOption, IfSome, IfNone, Option, Some, None, Result, Ok, Err, slice_get, Less, Equal, Greater, sym, refl, ap, ◌∙◌, subst, inl, inr, append-nil, arith}
 use Rattle.std.specs.Ordering.{is_lt, ordering_index}
 use Rattle.std.specs.List.Sorted.{IsBinarySearchResult, IsSearchInRange, IsNonDecreasingBy}
 use Rattle.std.specs.Result.{result_err}
-use Rattle.std.proofs.lemmas.Bool.{cases_eq, cases_lt, cases_order}
+use Rattle.std.proofs.lemmas.Bool.{cases_eq, cases_lt}
 use Rattle.std.proofs.lemmas.Cmp.{tied_itself}
 use Rattle.std.proofs.lemmas.List.Sums.{sum_by-cons}
 use Rattle.std.proofs.lemmas.Option.{same_Some, slice_get_within, get_or_from_slice_get}
@@ -12,7 +12,6 @@ use Rattle.ts_table.proofs.Found.{rises}
 use Rattle.ts_table.proofs.Paths.{path_total, tied_paths}
 use Rattle.ts_laws.proofs.Basics.{stable, same_stamp_at, by_each}
 use Rattle.ts_laws.proofs.Paths.{decide_before, before_trans, IsRooted-from_tree, nothing_below}
-use Rattle.ts_laws.proofs.Listings.{IsTree-from_listing}
 use Rattle.ts_laws.proofs.Paths.{snoc_not_empty}
 use Rattle.ts_model.specs.Sync.{Snapshot, IsSnapshot, Because, HasReason, listed_snapshot}
 use Rattle.ts_model.specs.Plans.{IsOutOfOrder, Lacks}
@@ -27,7 +26,7 @@ use Rattle.ts_model.specs.declared.row.Row.{Row}
 use Rattle.ts_model.specs.declared.row.Stamp.{Stamp}
 use Rattle.ts_need.proofs.Listed.{held_at, listed_row, at_listed}
 use Rattle.ts_need.proofs.Touches.{listed_lawful}
-use Rattle.ts_need.specs.Needs.{IsFirst, Never, LacksAt, LacksAmong, lesser_of}
+use Rattle.ts_need.specs.Needs.{IsFirst, LacksAt, LacksAmong, lesser_of}
 
 -- ---- entries in order
 

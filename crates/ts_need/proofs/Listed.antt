@@ -1,12 +1,11 @@
 -- Elements of lists and rows of listings by their places.
-use Rattle.std.proofs.Common.{◌≡◌, ◌≢◌, ◌⊎◌, ℕ, zero, suc, ◌<◌, ◌≤◌, Bool, true, false, cond, List, [], ◌∷◌, ◌++◌, length, get_or, Any, All, Option, Some, None, slice_get, filter, sym, refl, ap, ap₂, ◌∙◌, subst, inl, inr, arith}
+use Rattle.std.proofs.Common.{◌≡◌, ◌≢◌, ◌⊎◌, ℕ, zero, suc, ◌<◌, ◌≤◌, Bool, true, false, cond, List, [], ◌∷◌, ◌++◌, length, get_or, Any, All, Some, slice_get, sym, refl, ap₂, ◌∙◌, subst, arith}
 use Rattle.std.specs.List.{AllByRecursion}
 use Rattle.std.proofs.lemmas.List.Elements.{All-filter, filter_passes}
 use Rattle.std.proofs.lemmas.Option.{none-some, same_Some, slice_get_within, slice_get_read, slice_get-get_or, get_or_from_slice_get}
-use Rattle.ts_name.specs.Paths.{Name, Path, IsAbove, same_path}
+use Rattle.ts_name.specs.Paths.{Path, IsAbove, same_path}
 use Rattle.ts_model.specs.Trees.{Listing, IsListing, listed, at}
-use Rattle.ts_model.specs.declared.row.Content.{Content}
-use Rattle.ts_model.specs.declared.row.Content.TheVariants.{Absent, Dir, File}
+use Rattle.ts_model.specs.declared.row.Content.TheVariants.{Absent}
 use Rattle.ts_model.specs.declared.row.Row.{Row}
 use Rattle.ts_model.specs.declared.row.Stamp.{Stamp}
 use Rattle.ts_table.proofs.Paths.{same_path_equal}

@@ -1,8 +1,8 @@
 -- Held paths above, at and below a path whose parent is a directory in both replicas.
-use Rattle.std.proofs.Common.{◌≡◌, ◌≢◌, ◌⊎◌, List, [], ◌∷◌, ◌++◌, Any, sym, refl, ap, ◌∙◌, subst, inl, inr, append-nil}
-use Rattle.ts_name.specs.Paths.{Name, Path, IsAbove}
-use Rattle.ts_model.specs.Holds.{Names, IsHeld, IsPresent}
-use Rattle.ts_model.specs.Sync.{Snapshot, IsSnapshot, IsBelowDirs, TouchesHeld, listed_snapshot}
+use Rattle.std.proofs.Common.{◌≡◌, ◌≢◌, ◌⊎◌, List, [], ◌∷◌, ◌++◌, Any, sym, refl, ◌∙◌, inl, inr, append-nil}
+use Rattle.ts_name.specs.Paths.{Path, IsAbove}
+use Rattle.ts_model.specs.Holds.{Names, IsHeld}
+use Rattle.ts_model.specs.Sync.{IsSnapshot, IsBelowDirs, TouchesHeld, listed_snapshot}
 use Rattle.ts_model.specs.Trees.{Listing, IsListing, at}
 use Rattle.ts_model.specs.declared.hold.Rule.{Rule}
 use Rattle.ts_model.specs.declared.row.Content.{Content}

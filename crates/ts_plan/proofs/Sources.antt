@@ -2,7 +2,7 @@
 use Rattle.std.proofs.Common.{◌≡◌, ◌≢◌, ◌⊎◌, ℕ, List, [], ◌∷◌, ◌++◌, append_assoc, Option, Some, None, IfSome, Result, Ok, Err, refl, sym, ap, ap₂, ◌∙◌, subst, inl, inr, append-nil}
 use Rattle.std.specs.Io.KnownBytes.{Keeps, Consumes, IsAtEnd}
 use Rattle.std.proofs.KnownBytes.{Consumes-trans, Consumes-kept, Consumes-nil}
-use Rattle.ts_model.specs.Texts.{Line, text, plan_lines, IsPlan}
+use Rattle.ts_model.specs.Texts.{Line, text, plan_lines}
 use Rattle.ts_model.specs.declared.plan.Plan.{Plan}
 use Rattle.ts_text.specs.Lines.{Reading, IsLine, HasNoLine, Answers, GivesLine}
 use Rattle.ts_text.specs.declared.fault.TextFault.{TextFault}
@@ -10,7 +10,7 @@ use Rattle.ts_text.specs.declared.fault.TextFault.TheVariants as text_fault
 use Rattle.ts_text.specs.declared.state.State.TheVariants.{Going, Refused}
 use Rattle.ts_plan.specs.Progress.{Progress, fed}
 use Rattle.ts_plan.specs.Reading.{IsBegun, IsLarge, Begins, ReadsNext, Finishes}
-use Rattle.ts_plan.specs.Decoding.{fault_of_text, Decodes, IsNoPlan, IsPastLimit}
+use Rattle.ts_plan.specs.Decoding.{fault_of_text, Decodes, IsPastLimit}
 use Rattle.ts_plan.specs.declared.fault.PlanFault.{PlanFault}
 use Rattle.ts_plan.specs.declared.fault.PlanFault.TheVariants.{OutOfMemory, Failed, NotCanonical, PastLimit}
 use Rattle.ts_plan.proofs.Grammar.{large}

@@ -1,17 +1,15 @@
 -- Lists that are made number by number, and the pieces of a file.
-use Rattle.std.proofs.Common.{◌≡◌, ◌≢◌, ℕ, zero, suc, ◌+◌, ◌-◌, ◌*◌, ◌/◌, ◌<◌, ◌≤◌, ◌==◌, min, Bool, true, false, cond, List, [], ◌∷◌, ◌++◌, length, take, get_or, refl, sym, ap, ◌∙◌, subst, arith, eq-eqb, append_assoc, length-append}
+use Rattle.std.proofs.Common.{◌≡◌, ◌≢◌, ℕ, zero, suc, ◌+◌, ◌-◌, ◌*◌, ◌/◌, ◌<◌, ◌≤◌, ◌==◌, true, false, List, [], ◌∷◌, ◌++◌, length, take, get_or, refl, sym, ap, ◌∙◌, arith, eq-eqb, append_assoc, length-append}
 use Rattle.std.proofs.lemmas.Bool.{ne_eqb}
 use Rattle.std.proofs.lemmas.List.{take_all, take_more}
 use Rattle.std.proofs.lemmas.Grind.{flat_map-append}
 use Rattle.std.proofs.Common.{append-nil, Option, Some, Result, Ok, Err, IfOk, IfErr}
 use Rattle.ts_model.specs.declared.plan.Kind.TheVariants.{Commit}
 use Rattle.std.specs.Prelude.{flat_map}
-use Rattle.ts_name.specs.Paths.{Path}
-use Rattle.ts_model.specs.Trees.{Listing}
 use Rattle.ts_model.specs.declared.row.Row.{Row}
 use Rattle.ts_model.specs.declared.row.Stamp.{Stamp}
 use Rattle.ts_model.specs.declared.plan.Action.{Action}
-use Rattle.ts_plan_build.specs.Blocks.{each_below, piece_count, piece_of, row_pieces, pieces_of, copy_block, mark_of}
+use Rattle.ts_plan_build.specs.Blocks.{each_below, piece_count, row_pieces, pieces_of, copy_block, mark_of}
 
 -- one more
 pub each_more : {A : Type 0} (f : ℕ → A) (n m : ℕ) → m ≡ n + 1 → each_below f m ≡ each_below f n ++ f n ∷ []

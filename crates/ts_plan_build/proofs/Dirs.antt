@@ -9,13 +9,13 @@ use Rattle.ts_model.specs.declared.plan.Entry.{Entry}
 use Rattle.ts_model.specs.declared.plan.Action.{Action}
 use Rattle.ts_model.specs.declared.plan.Reason.{Reason}
 use Rattle.ts_model.specs.declared.plan.Reason.TheVariants as reason
-use Rattle.ts_model.specs.declared.plan.Kind.TheVariants.{Piece, Commit, Mark}
-use Rattle.ts_name.proofs.Order.{before_itself, before_trans, before_turned}
+use Rattle.ts_model.specs.declared.plan.Kind.TheVariants.{Mark}
+use Rattle.ts_name.proofs.Order.{before_itself, before_turned}
 use Rattle.ts_name.proofs.Prefixes.{above_itself, above_trans}
 use Rattle.ts_dirty.proofs.Order.{above_upto, above_between}
 use Rattle.ts_plan_build.specs.declared.builder.NewDir.{NewDir}
 use Rattle.ts_plan_build.specs.Blocks.{block, mark_of}
-use Rattle.ts_plan_build.specs.Built.{IsNewDirAbove, IsNearestMark, IsAboveMark, IsBuilt, AreOff, AreLeft, IsKept, AreOrdered}
+use Rattle.ts_plan_build.specs.Built.{IsAboveMark, IsBuilt, AreOff, AreLeft, IsKept, AreOrdered}
 use Rattle.ts_plan_build.proofs.Places.{same_at, get_left, get_right, get_cases, get_one, element_at}
 use Rattle.ts_plan_build.proofs.Building.{built_more}
 

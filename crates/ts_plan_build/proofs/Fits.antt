@@ -1,5 +1,5 @@
 -- A built plan has a text: its paths are lawful, and its numbers fit.
-use Rattle.std.proofs.Common.{◌≡◌, ◌≢◌, ◌⊎◌, ℕ, zero, suc, ◌+◌, ◌-◌, ◌*◌, ◌^◌, ◌<◌, ◌≤◌, min, sum_by, Bool, true, false, cond, List, [], ◌∷◌, ◌++◌, length, Option, Some, None, slice_get, refl, sym, ap, ◌∙◌, subst, inl, inr, arith}
+use Rattle.std.proofs.Common.{◌≡◌, ◌≢◌, ◌⊎◌, ℕ, zero, suc, ◌+◌, ◌-◌, ◌*◌, ◌^◌, ◌<◌, ◌≤◌, min, sum_by, Bool, true, false, cond, List, [], ◌∷◌, ◌++◌, length, Some, slice_get, refl, sym, ◌∙◌, subst, inl, inr, arith}
 use Rattle.std.proofs.lemmas.Option.{none-some, slice_get_within}
 use Rattle.std.specs.List.{AllByRecursion}
 use Rattle.ts_name.specs.Paths.{Path, IsPath, same_path}
@@ -7,7 +7,7 @@ use Rattle.ts_name.specs.Laws.{same_path_equal}
 use Rattle.ts_name.proofs.Prefixes.{push_not_empty}
 use Rattle.ts_model.specs.Trees.{Listing, listed, at, IsListing}
 use Rattle.ts_model.specs.Sync.{listed_snapshot, HasReason}
-use Rattle.ts_model.specs.Plans.{EntryIs, ActionIs, AscendBelow, WithinLimits}
+use Rattle.ts_model.specs.Plans.{EntryIs, ActionIs, AscendBelow}
 use Rattle.ts_model.specs.Texts.{PathFits, KindFits, IsPlan}
 use Rattle.ts_model.specs.declared.hold.Rule.{Rule}
 use Rattle.ts_model.specs.declared.row.Content.{Content}
@@ -18,16 +18,14 @@ use Rattle.ts_model.specs.declared.plan.Side.{Side}
 use Rattle.ts_model.specs.declared.plan.Side.TheVariants as side
 use Rattle.ts_model.specs.declared.plan.Entry.{Entry}
 use Rattle.ts_model.specs.declared.plan.Action.{Action}
-use Rattle.ts_model.specs.declared.plan.Kind.{Kind}
-use Rattle.ts_model.specs.declared.plan.Kind.TheVariants.{Piece, Commit, Mark}
 use Rattle.ts_model.specs.declared.plan.Plan.{Plan}
 use Rattle.ts_model.specs.declared.plan.Reason.{Reason}
 use Rattle.ts_dirty.proofs.Dirt.{same_content}
 use Rattle.ts_recon.specs.Reasons.{AreReasons}
 use Rattle.ts_recon.proofs.Gathered.{no_reason}
 use Rattle.ts_table.specs.Tables.{is_above, rows_below}
-use Rattle.ts_plan_build.specs.Blocks.{each_below, piece_count, piece_of, row_pieces, pieces_of, commit_of, mark_of}
-use Rattle.ts_plan_build.specs.Built.{entry_of, IsLocated, IsBuilt}
+use Rattle.ts_plan_build.specs.Blocks.{each_below, piece_count, piece_of, row_pieces, pieces_of}
+use Rattle.ts_plan_build.specs.Built.{entry_of, IsBuilt}
 use Rattle.ts_plan_build.proofs.Places.{get_cases, at_each_below}
 use Rattle.ts_plan_build.proofs.Ranges.{IsKept, in_filter}
 use Rattle.ts_plan_build.proofs.Rules.{side_rows, contains_entry, View, is_piece, is_commit, is_copy_mark, is_mark, located, view, entry_here, ascends_at}

@@ -1,12 +1,10 @@
 -- What stands in the block of an entry.
 use Rattle.std.proofs.Common.{◌≡◌, ◌≢◌, ◌⊎◌, ℕ, zero, suc, ◌+◌, ◌-◌, ◌<◌, ◌≤◌, List, [], ◌∷◌, ◌++◌, length, length-append, Option, Some, None, slice_get, refl, sym, ap, ◌∙◌, subst, inl, inr, arith}
-use Rattle.std.proofs.lemmas.Option.{none-some, slice_get_within}
+use Rattle.std.proofs.lemmas.Option.{none-some}
 use Rattle.std.proofs.Common.{◌*◌, sum_by}
 use Rattle.std.proofs.lemmas.List.Sums.{sum_by-append}
 use Rattle.ts_name.specs.Paths.{Path}
 use Rattle.ts_model.specs.Trees.{Listing}
-use Rattle.ts_model.specs.Sync.{IsSkipped}
-use Rattle.ts_model.specs.Plans.{source}
 use Rattle.ts_model.specs.declared.plan.Side.{Side}
 use Rattle.ts_model.specs.declared.plan.Side.TheVariants as side
 use Rattle.ts_model.specs.declared.row.Content.{Content}
@@ -14,14 +12,12 @@ use Rattle.ts_model.specs.declared.row.Content.TheVariants.{Absent, Dir, File}
 use Rattle.ts_model.specs.declared.row.Row.{Row}
 use Rattle.ts_model.specs.declared.row.Stamp.{Stamp}
 use Rattle.ts_model.specs.declared.plan.Action.{Action}
-use Rattle.ts_model.specs.declared.plan.Kind.{Kind}
-use Rattle.ts_model.specs.declared.plan.Kind.TheVariants.{Piece, Commit, Mark}
 use Rattle.ts_model.specs.declared.plan.Reason.{Reason}
 use Rattle.ts_model.specs.declared.plan.Reason.TheVariants as reason
 use Rattle.ts_table.specs.Tables.{rows_below}
 use Rattle.ts_plan_build.specs.Blocks.{each_below, piece_count, piece_of, row_pieces, pieces_of, commit_of, mark_of, some_of, copy_block, block}
 use Rattle.ts_plan_build.specs.Built.{entry_of}
-use Rattle.ts_plan_build.proofs.Places.{same_at, get_left, get_right, get_cases, get_one, length-each_below, each_below_at, at_each_below}
+use Rattle.ts_plan_build.proofs.Places.{get_right, get_cases, get_one, length-each_below, at_each_below}
 
 -- an action of a file's pieces
 pub record IsPieceAt (e : ℕ) (rows : List (Row Stamp)) (a : Action) : Type 0 where

@@ -1,7 +1,7 @@
 -- The pieces of the files at and below a path: each is lawful, each lawful one is there, and once.
 use Rattle.std.proofs.Common.{◌≡◌, ◌≢◌, ◌⊎◌, ℕ, zero, suc, ◌+◌, ◌-◌, ◌*◌, ◌/◌, ◌%◌, ◌<◌, ◌≤◌, min, Bool, true, false, cond, List, [], ◌∷◌, ◌++◌, length, Option, Some, None, slice_get, refl, sym, ap, ◌∙◌, subst, inl, inr, arith}
 use Rattle.std.proofs.Math.Nat.{mul-mod_left}
-use Rattle.std.proofs.lemmas.Option.{none-some, slice_get_within}
+use Rattle.std.proofs.lemmas.Option.{none-some}
 use Rattle.std.specs.List.{AllByRecursion}
 use Rattle.std.specs.Prelude.{filter}
 use Rattle.ts_name.specs.Paths.{Path, IsPath, IsAbove, IsBefore, below, same_path}
@@ -13,15 +13,14 @@ use Rattle.ts_model.specs.declared.row.Content.TheVariants.{Absent, Dir, File}
 use Rattle.ts_model.specs.declared.row.Row.{Row}
 use Rattle.ts_model.specs.declared.row.Stamp.{Stamp}
 use Rattle.ts_model.specs.declared.plan.Action.{Action}
-use Rattle.ts_model.specs.declared.plan.Kind.{Kind}
-use Rattle.ts_model.specs.declared.plan.Kind.TheVariants.{Piece, Commit, Mark}
+use Rattle.ts_model.specs.declared.plan.Kind.TheVariants.{Piece}
 use Rattle.ts_name.proofs.Order.{before_itself, before_trans}
-use Rattle.ts_name.specs.Laws.{same_path_equal, same_path_itself}
+use Rattle.ts_name.specs.Laws.{same_path_equal}
 use Rattle.ts_dirty.proofs.Rows.{listed_here, listed_there}
 use Rattle.ts_table.specs.Tables.{is_above, rows_below}
 use Rattle.ts_plan_build.specs.Blocks.{each_below, piece_count, piece_of, row_pieces, pieces_of}
-use Rattle.ts_plan_build.proofs.Places.{same_at, get_left, get_right, get_cases, each_below_at, at_each_below}
-use Rattle.ts_plan_build.proofs.Counting.{count_none, count_some, piece_within}
+use Rattle.ts_plan_build.proofs.Places.{get_left, get_right, get_cases, each_below_at, at_each_below}
+use Rattle.ts_plan_build.proofs.Counting.{count_some, piece_within}
 use Rattle.ts_plan_build.proofs.Inside.{IsPieceAt, pieces_at}
 
 -- ---- rows

@@ -1,11 +1,11 @@
 -- A built plan breaks no rule.
-use Rattle.std.proofs.Common.{◌≡◌, ◌≢◌, ◌⊎◌, ℕ, zero, suc, ◌+◌, ◌-◌, ◌*◌, ◌%◌, ◌<◌, ◌≤◌, min, sum_by, List, [], ◌∷◌, ◌++◌, length, Option, Some, None, Contains, slice_get, get_or, refl, sym, ap, ◌∙◌, subst, inl, inr, arith}
-use Rattle.std.proofs.lemmas.Bool.{cases_lt, cases_order}
+use Rattle.std.proofs.Common.{◌≡◌, ◌≢◌, ◌⊎◌, ℕ, zero, suc, ◌+◌, ◌-◌, ◌*◌, ◌%◌, ◌<◌, ◌≤◌, sum_by, List, [], ◌∷◌, ◌++◌, length, Option, Some, None, Contains, slice_get, refl, sym, ap, ◌∙◌, subst, inl, inr, arith}
+use Rattle.std.proofs.lemmas.Bool.{cases_order}
 use Rattle.std.proofs.lemmas.Option.{none-some, slice_get_within, slice_get-get_or, get_or_from_slice_get}
 use Rattle.ts_name.specs.Paths.{Path, IsAbove, IsBefore}
 use Rattle.ts_model.specs.Trees.{Listing, at, IsListing}
-use Rattle.ts_model.specs.Sync.{Snapshot, listed_snapshot, replica, HasReason, IsSkipped}
-use Rattle.ts_model.specs.Plans.{EntryIs, ActionIs, KindIs, Waits, source, Copies, IsCopied, IsMarked, AscendBelow, Earlier, NotOneEach, NearestDir, Wrong, Valid, IsOutOfOrder, HasWrongReason, Lacks}
+use Rattle.ts_model.specs.Sync.{Snapshot, listed_snapshot, replica, IsSkipped}
+use Rattle.ts_model.specs.Plans.{EntryIs, ActionIs, KindIs, source, AscendBelow, Wrong, Valid}
 use Rattle.ts_model.specs.declared.plan.PlanRule.TheVariants as rule
 use Rattle.ts_model.specs.declared.hold.Rule.{Rule}
 use Rattle.ts_model.specs.declared.row.Content.TheVariants.{File}
@@ -23,10 +23,10 @@ use Rattle.ts_name.proofs.Order.{before_itself}
 use Rattle.ts_name.proofs.Prefixes.{above_turned}
 use Rattle.ts_recon.specs.Reasons.{AreReasons}
 use Rattle.ts_table.specs.Tables.{rows_below}
-use Rattle.ts_plan_build.specs.Blocks.{each_below, piece_of, pieces_of, commit_of, mark_of, some_of, copy_block, block}
-use Rattle.ts_plan_build.specs.Built.{entry_of, IsNewDirAbove, IsNearestMark, IsAboveMark, IsLocated, IsBuilt, AreOrdered}
-use Rattle.ts_plan_build.proofs.Places.{same_at, get_left, get_right, get_cases, get_one, element_at, each_below_at, length-each_below}
-use Rattle.ts_plan_build.proofs.Inside.{IsPieceAt, pieces_at, CopyAt, piece, commit, mark, copy_at, commit_there, mark_there}
+use Rattle.ts_plan_build.specs.Blocks.{each_below, pieces_of, commit_of, mark_of, some_of, copy_block, block}
+use Rattle.ts_plan_build.specs.Built.{entry_of, IsNearestMark, IsAboveMark, IsLocated, IsBuilt, AreOrdered}
+use Rattle.ts_plan_build.proofs.Places.{same_at, get_left, get_right, get_cases, get_one, element_at, each_below_at}
+use Rattle.ts_plan_build.proofs.Inside.{pieces_at, CopyAt, piece, commit, mark, copy_at, commit_there, mark_there}
 use Rattle.ts_plan_build.proofs.Dirs.{in_order}
 use Rattle.ts_plan_build.proofs.Ranges.{IsLawful, lawful_from, piece_there, pieces_once, below_order}
 

@@ -1,14 +1,14 @@
 -- Assemblies: rows whose contents change while their kinds stay.
-use Rattle.std.proofs.Common.{◌≡◌, ◌≢◌, ℕ, zero, suc, ◌<◌, ◌≤◌, Bool, true, false, cond, List, [], ◌∷◌, ◌++◌, length, map, get_or, take, drop, Option, Some, None, Less, Equal, Greater, refl, sym, ap, ap₂, ◌∙◌, subst, arith, append-nil, lit<, ◌⊎◌, inl, inr, Result, Ok, Err, OnOk, OnErr}
+use Rattle.std.proofs.Common.{◌≡◌, ◌≢◌, ℕ, zero, suc, ◌<◌, ◌≤◌, Bool, true, false, cond, List, [], ◌∷◌, ◌++◌, length, map, get_or, take, drop, Some, None, Less, Equal, Greater, refl, sym, ap, ap₂, ◌∙◌, subst, arith, lit<, ◌⊎◌, inl, inr, Result, Ok, Err, OnOk, OnErr}
 use Rattle.std.proofs.Math.ListN.{set}
 use Rattle.std.proofs.lemmas.Bool.{cond-true, cond-false}
 use Rattle.std.proofs.lemmas.Cmp.{tied_itself}
 use Rattle.std.proofs.lemmas.List.{set-get_or, take-append-drop}
 use Rattle.std.specs.List.{AllByRecursion}
 use Rattle.std.specs.List.Sorted.{IsPartitionPoint}
-use Rattle.ts_name.specs.Paths.{Name, Path, IsPath, IsBefore, below, path_cmp, same_path}
+use Rattle.ts_name.specs.Paths.{Path, IsPath, IsBefore, below, path_cmp, same_path}
 use Rattle.ts_model.specs.Texts.{FileFits}
-use Rattle.ts_model.specs.Trees.{Listing, Ascend, IsSubListing, listed, print_of, stamped}
+use Rattle.ts_model.specs.Trees.{Listing, Ascend, IsSubListing, listed, print_of}
 use Rattle.ts_model.specs.declared.row.Content.{Content}
 use Rattle.ts_model.specs.declared.row.Content.TheVariants.{Absent, Dir, File}
 use Rattle.ts_model.specs.declared.row.Row.{Row}

@@ -9,8 +9,8 @@ use Rattle.ts_model.specs.declared.row.Content.TheVariants.{Absent, Dir, File}
 use Rattle.ts_model.specs.declared.row.Row.{Row}
 use Rattle.ts_model.specs.declared.row.Stamp.{Stamp}
 use Rattle.ts_table.proofs.Cuts.{IsListing-front}
-use Rattle.ts_tree.specs.Fields.{IsNamed, SpellsNoPath, Without}
-use Rattle.ts_tree.proofs.Words.{cut_at, no_cut, clean_path, clean_without}
+use Rattle.ts_tree.specs.Fields.{SpellsNoPath, Without}
+use Rattle.ts_tree.proofs.Words.{cut_at, no_cut}
 use Rattle.ts_tree.proofs.Fields.{path_text_word}
 use Rattle.ts_print.specs.Fields.{RowFits, IsNoRow}
 use Rattle.ts_print.specs.Readers.{BeginsNoPrint}

@@ -1,6 +1,5 @@
 -- Why a decoder answers no print.
-use Rattle.std.proofs.Common.{◌≡◌, ◌≢◌, ℕ, List, [], ◌∷◌, ◌++◌, Option, Some, None, Err, refl, sym, ap, ◌∙◌, subst}
-use Rattle.std.specs.Prelude.{IfSome}
+use Rattle.std.proofs.Common.{◌≡◌, ◌≢◌, ℕ, List, [], ◌∷◌, ◌++◌, Err, ◌∙◌}
 use Rattle.ts_text.specs.Lines.{Reading, Answers}
 use Rattle.ts_text.specs.declared.fault.TextFault.{TextFault}
 use Rattle.ts_text.specs.declared.fault.TextFault.TheVariants as text_fault

@@ -1,19 +1,18 @@
 -- The text of a print: each line says one row, so lines have one print.
-use Rattle.std.proofs.Common.{◌≡◌, ◌≢◌, ℕ, ◌+◌, ◌*◌, ◌^◌, ◌<◌, ◌≤◌, List, [], ◌∷◌, ◌++◌, length, codes, decimal, refl, sym, ap, ap₂, ◌∙◌, subst, append_assoc, arith, length-append}
+use Rattle.std.proofs.Common.{◌≡◌, ◌≢◌, ℕ, ◌+◌, ◌*◌, ◌^◌, ◌<◌, ◌≤◌, List, [], ◌∷◌, ◌++◌, decimal, refl, sym, ap, ap₂, ◌∙◌, subst, append_assoc, arith, length-append}
 use Rattle.std.specs.List.{AllByRecursion}
 use Rattle.std.proofs.lemmas.Fmt.{decimal_injective}
-use Rattle.std.proofs.lemmas.Grind.{flat_map-append}
 use Rattle.hex.specs.Hex.{encode_lower}
 use Rattle.ts_name.specs.Paths.{Path, IsPath, path_text}
-use Rattle.ts_model.specs.Trees.{Listing, IsListing}
-use Rattle.ts_model.specs.Texts.{Line, words, IsBytes, print_row_lines, print_lines, StampFits, IsPrintBody}
+use Rattle.ts_model.specs.Trees.{Listing}
+use Rattle.ts_model.specs.Texts.{Line, print_row_lines, print_lines, StampFits, IsPrintBody}
 use Rattle.ts_model.specs.declared.row.Content.{Content}
 use Rattle.ts_model.specs.declared.row.Content.TheVariants.{Absent, Dir, File}
 use Rattle.ts_model.specs.declared.row.Row.{Row}
 use Rattle.ts_model.specs.declared.row.Stamp.{Stamp}
 use Rattle.ts_text.specs.Lines.{IsLine}
 use Rattle.ts_tree.specs.Fields.{Without}
-use Rattle.ts_tree.proofs.Words.{IsClean, clean_append, clean_decimal, clean_hex, clean_path, clean_without, cut_at, one_hex, one_path, without_append}
+use Rattle.ts_tree.proofs.Words.{IsClean, clean_decimal, clean_hex, clean_path, clean_without, cut_at, one_hex, one_path, without_append}
 use Rattle.ts_tree.proofs.Lines.{AreTextLines, length_hex, length_number, length_path, lines_append}
 
 -- a lawful row

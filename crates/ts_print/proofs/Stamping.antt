@@ -1,13 +1,11 @@
 -- A tree's rows with stamps are a listing of its print.
 use Rattle.std.proofs.Common.{◌≡◌, ◌≢◌, ℕ, Bool, true, false, cond, List, [], ◌∷◌, ◌++◌, refl, ap, sym, ◌∙◌, subst}
 use Rattle.std.specs.List.{AllByRecursion}
-use Rattle.ts_name.specs.Paths.{Name, Path, IsPath, same_path}
+use Rattle.ts_name.specs.Paths.{Path, IsPath, same_path}
 use Rattle.ts_model.specs.declared.row.Content.{Content}
 use Rattle.ts_model.specs.declared.row.Content.TheVariants.{Absent, Dir, File}
-use Rattle.ts_model.specs.declared.row.Row.{Row}
-use Rattle.ts_model.specs.declared.row.Stamp.{Stamp}
 use Rattle.ts_model.specs.Trees.{Listing, Ascend, IsListing, at, listed, print_of, stamped}
-use Rattle.ts_print.specs.Prints.{stamped_row, stamped_rows}
+use Rattle.ts_print.specs.Prints.{stamped_rows}
 
 -- a stamp stands exactly where a file does
 stamped_there : (x : Content (List ℕ)) → x ≢ Absent → stamped x ≢ Absent

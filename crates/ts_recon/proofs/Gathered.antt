@@ -1,7 +1,5 @@
 -- The entries that a walk over an archive and two replicas has gathered so far.
-use Rattle.std.proofs.Common.{◌≡◌, ◌≢◌, ◌⊎◌, ◌↔◌, ℕ, ◌+◌, ◌-◌, ◌<◌, ◌≤◌, min, Bool, true, false, cond, List, [], ◌∷◌, ◌++◌, length, length-append, get_or, Contains, Option, Some, None, MatchOption, refl, sym, ap, ◌∙◌, subst, inl, inr, arith, IsTrue, append-nil, append_assoc}
-use Rattle.std.proofs.lemmas.Bool.{cases_lt}
-use Rattle.std.proofs.lemmas.List.{get_or_append_left, get_or_push}
+use Rattle.std.proofs.Common.{◌≡◌, ◌≢◌, ◌⊎◌, ◌↔◌, ℕ, ◌+◌, ◌-◌, ◌<◌, ◌≤◌, min, Bool, true, false, cond, List, [], ◌∷◌, ◌++◌, length, length-append, get_or, Contains, Option, Some, None, refl, sym, ap, ◌∙◌, subst, inl, inr, arith, IsTrue, append-nil, append_assoc}
 use Rattle.std.proofs.lemmas.List.Elements.{Contains-get_or, Contains-push_cases, Contains-push, Contains-append_left}
 use Rattle.ts_name.specs.Paths.{Name, Path, IsAbove, IsBefore}
 use Rattle.ts_model.specs.Trees.{Listing, listed, at, sub, IsListing}
@@ -13,9 +11,9 @@ use Rattle.ts_model.specs.declared.row.Stamp.{Stamp}
 use Rattle.ts_model.specs.declared.plan.Entry.{Entry}
 use Rattle.ts_model.specs.declared.plan.Reason.{Reason}
 use Rattle.ts_model.specs.declared.plan.Reason.TheVariants as reason
-use Rattle.ts_dirty.specs.Walks.{Left, IsStep, IsWalkStep}
+use Rattle.ts_dirty.specs.Walks.{Left, IsWalkStep}
 use Rattle.ts_dirty.proofs.Rows.{IsRest, rest_all, rest_step, rest_between, rest_here, rest_forward}
-use Rattle.ts_name.proofs.Order.{before_itself, before_trans, before_cases, decide_before, before_turned, before_below}
+use Rattle.ts_name.proofs.Order.{before_itself, decide_before, before_turned, before_below}
 use Rattle.ts_name.proofs.Prefixes.{above_trans, last_name, push_not_empty, same_parent}
 use Rattle.ts_dirty.proofs.Order.{upto_before, above_between}
 use Rattle.ts_dirty.proofs.Dirt.{same_content}

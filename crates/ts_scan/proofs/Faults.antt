@@ -1,5 +1,5 @@
 -- Which faults a scan may tell.
-use Rattle.std.proofs.Common.{◌≡◌, ◌⊎◌, ℕ, List, Option, Some, None, IfSome, refl, sym, subst, inl, inr}
+use Rattle.std.proofs.Common.{◌≡◌, ◌⊎◌, ℕ, List, Some, None, IfSome, refl, sym, subst, inl, inr}
 use Rattle.ts_name.specs.Paths.{Path}
 use Rattle.ts_model.specs.Trees.{Listing}
 use Rattle.ts_folder.specs.Folders.{MayAnswer}
@@ -8,7 +8,7 @@ use Rattle.ts_folder.specs.declared.fault.FolderFault.TheVariants as folder
 use Rattle.ts_folder.specs.declared.fault.Trouble.{Trouble}
 use Rattle.ts_folder.specs.declared.fault.Trouble.TheVariants as trouble
 use Rattle.ts_folder.specs.declared.folder.Call.{Call}
-use Rattle.ts_scan.specs.Faults.{IsTold, Tells, MayFail}
+use Rattle.ts_scan.specs.Faults.{Tells, MayFail}
 use Rattle.ts_scan.specs.Scans.{Told}
 use Rattle.ts_scan.specs.declared.fault.Refusal.{Refusal}
 use Rattle.ts_scan.specs.declared.fault.Refusal.TheVariants as refusal

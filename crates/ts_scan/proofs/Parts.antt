@@ -5,14 +5,14 @@ use Rattle.std.specs.Cmp.Lexicographic.{slice_cmp}
 use Rattle.std.specs.Ordering.{ordering_then}
 use Rattle.std.proofs.lemmas.Cmp.{nat_list_cmp_total}
 use Rattle.ts_name.specs.Paths.{Name, Path, IsPath, IsAbove, IsBefore, path_cmp, same_path}
-use Rattle.ts_model.specs.Trees.{Listing, Ascend, listed, at, IsListing}
+use Rattle.ts_model.specs.Trees.{Listing, listed, at, IsListing}
 use Rattle.ts_model.specs.declared.row.Content.{Content}
 use Rattle.ts_model.specs.declared.row.Content.TheVariants.{Absent, Dir, File}
 use Rattle.ts_model.specs.declared.row.Row.{Row}
 use Rattle.ts_model.specs.declared.row.Stamp.{Stamp}
-use Rattle.ts_table.proofs.Paths.{above_trans, same_parent, snoc_not_empty, same_path_equal, same_path_itself, same_path_differ, below_order, before_below, before_itself}
+use Rattle.ts_table.proofs.Paths.{above_trans, same_parent, same_path_equal, below_order, before_below, before_itself}
 use Rattle.ts_table.proofs.Listings.{decide_above}
-use Rattle.ts_table.proofs.Rows.{weaker, all_append, ascend_cons, ascend_join, listed_after, listed_before, listed_here, listed_holds, AllBefore}
+use Rattle.ts_table.proofs.Rows.{weaker, all_append, ascend_cons, ascend_join, listed_after, listed_here, listed_holds, AllBefore}
 use Rattle.ts_folder.specs.Folders.{InOrder}
 use Rattle.ts_folder.specs.declared.folder.Kind.{Kind}
 use Rattle.ts_scan.specs.Scans.{Children, IsUnder, AreBelow}

@@ -1,19 +1,19 @@
 -- Rows that are what the print of a tree has.
-use Rattle.std.proofs.Common.{◌≡◌, ◌≢◌, ◌⊎◌, ℕ, Bool, true, false, cond, List, [], ◌∷◌, ◌++◌, refl, sym, ap, ◌∙◌, subst, inl, inr, append_assoc, append-nil}
+use Rattle.std.proofs.Common.{◌≡◌, ◌≢◌, ◌⊎◌, ℕ, List, [], ◌∷◌, ◌++◌, refl, sym, ap, ◌∙◌, subst, inl, inr, append_assoc, append-nil}
 use Rattle.std.proofs.lemmas.Bool.{cond-false}
 use Rattle.std.specs.List.{AllByRecursion}
-use Rattle.ts_name.specs.Paths.{Name, Path, IsPath, IsAbove, IsBefore, same_path}
+use Rattle.ts_name.specs.Paths.{Name, Path, IsPath, IsBefore}
 use Rattle.ts_model.specs.Trees.{Tree, Listing, listed, at, stamped, stamp_of, print_of}
 use Rattle.ts_model.specs.declared.row.Content.{Content}
 use Rattle.ts_model.specs.declared.row.Content.TheVariants.{Absent, Dir, File}
 use Rattle.ts_model.specs.declared.row.Row.{Row}
 use Rattle.ts_model.specs.declared.row.Stamp.{Stamp}
-use Rattle.ts_table.proofs.Paths.{same_path_equal, same_path_differ, before_below, before_itself}
+use Rattle.ts_table.proofs.Paths.{same_path_differ, before_below, before_itself}
 use Rattle.ts_table.proofs.Rows.{weaker, listed_after, listed_before, listed_here, listed_none}
 use Rattle.ts_folder.specs.Folders.{InOrder}
 use Rattle.ts_folder.specs.declared.folder.Kind.{Kind}
 use Rattle.ts_scan.specs.Scans.{Children, IsUnder, AreBelow, ArePrinted}
-use Rattle.ts_scan.proofs.Parts.{above_is, under_parts, under_more, under_below, decide_under, rows_before, rows_after, differ_before, differ_after}
+use Rattle.ts_scan.proofs.Parts.{under_parts, under_more, decide_under, rows_before, rows_after, differ_before, differ_after}
 
 -- the parent of whatever is there is a directory
 abbrev pub IsClosed : Tree → Type 0

@@ -1,14 +1,14 @@
 -- The bytes of a file, read in pieces.
-use Rattle.std.proofs.Common.{◌≡◌, ℕ, zero, suc, ◌+◌, ◌-◌, ◌<◌, ◌≤◌, ◌^◌, List, [], ◌∷◌, ◌++◌, length, take, drop, Option, Some, None, IfSome, refl, sym, ap, ap₂, ◌∙◌, subst, arith, length-append, length-drop}
-use Rattle.std.proofs.lemmas.List.{length-take-le, take-append-drop}
+use Rattle.std.proofs.Common.{◌≡◌, ℕ, zero, suc, ◌+◌, ◌-◌, ◌<◌, ◌≤◌, ◌^◌, List, [], ◌∷◌, ◌++◌, length, take, drop, Some, None, IfSome, refl, sym, ap, ap₂, ◌∙◌, arith, length-append, length-drop}
+use Rattle.std.proofs.lemmas.List.{length-take-le}
 use Rattle.sha2.specs.Sha256.{sha256}
 use Rattle.ts_name.specs.Paths.{Path}
-use Rattle.ts_model.specs.Trees.{Listing, at, stamp_of}
+use Rattle.ts_model.specs.Trees.{at, stamp_of}
 use Rattle.ts_model.specs.declared.row.Content.{Content}
 use Rattle.ts_model.specs.declared.row.Content.TheVariants.{File}
 use Rattle.ts_model.specs.declared.row.Stamp.{Stamp}
-use Rattle.ts_folder.specs.Folders.{Reads, Fills}
-use Rattle.ts_scan.specs.Files.{HasStamp, BeginsWith, HasRead}
+use Rattle.ts_folder.specs.Folders.{Fills}
+use Rattle.ts_scan.specs.Files.{HasStamp, HasRead}
 use Rattle.ts_scan.specs.Scans.{Told}
 
 -- a front is told by its length

@@ -1,5 +1,5 @@
 -- What a scan finds, put together.
-use Rattle.std.proofs.Common.{◌≡◌, ◌≢◌, ◌⊎◌, ◌↔◌, ℕ, zero, suc, ◌<◌, ◌^◌, Bool, true, false, cond, List, [], ◌∷◌, ◌++◌, length, get_or, Option, Some, None, IfSome, Result, Ok, Err, IfErr, Contains, refl, sym, ap, ◌∙◌, subst, inl, inr, append_assoc, append-nil, arith}
+use Rattle.std.proofs.Common.{◌≡◌, ◌≢◌, ◌⊎◌, ◌↔◌, ℕ, zero, suc, ◌<◌, ◌^◌, Bool, true, false, cond, List, [], ◌∷◌, ◌++◌, length, get_or, Option, Some, None, IfSome, Result, Ok, Err, IfErr, refl, sym, ap, ◌∙◌, subst, inl, inr, append_assoc, append-nil, arith}
 use Rattle.std.proofs.lemmas.List.Elements.{recursion_from_All}
 use Rattle.std.specs.List.{AllByRecursion}
 use Rattle.std.specs.Result.{IsErrAnd}
@@ -16,7 +16,7 @@ use Rattle.ts_folder.specs.Folders.{AreChildren, HasKind, IsFile, InOrder}
 use Rattle.ts_folder.specs.declared.folder.Kind.{Kind}
 use Rattle.ts_folder.specs.declared.folder.Kind.TheVariants as kind
 use Rattle.ts_scan.specs.Files.{HasStamp}
-use Rattle.ts_scan.specs.Scans.{Children, Told, IsUnder, AreBelow, ArePrinted, AreThere, Found, FoundIn, Adds}
+use Rattle.ts_scan.specs.Scans.{Children, Told, IsUnder, ArePrinted, AreThere, Found, FoundIn, Adds}
 use Rattle.ts_scan.proofs.Parts.{joined, none_below, directory, file, whole}
 use Rattle.ts_scan.proofs.Printed.{IsClosed, HasOnly, joined_print, directory_print, file_print, whole_print}
 

@@ -6,7 +6,7 @@
 --     IsInSwap original tree s        where a replacement of the original by the tree may stand, stopped or ended
 use Rattle.std.specs.Prelude.{◌≡◌, ◌≢◌, ◌⊎◌, ℕ, ◌+◌, ◌<◌, ◌≤◌, Bool, true, false, List, [], ◌∷◌, Option, Some, None, Result, MatchResult}
 use Rattle.ts_model.specs.Trees.{Listing}
-use Rattle.ts_model.specs.Swap.{Spots, Call, IsThere, after_call, MayFail, recovery}
+use Rattle.ts_model.specs.Swap.{Spots, Call, after_call, MayFail, recovery}
 use Rattle.ts_model.specs.Swap as model
 use Rattle.ts_swap.specs.declared.places.Spot.{Spot}
 use Rattle.ts_swap.specs.declared.places.Spot.TheVariants.{Target, New, Old}

@@ -1,22 +1,18 @@
 -- Frames and the parts that are put into them.
-use Rattle.std.proofs.Common.{◌≡◌, ◌≢◌, ℕ, ◌+◌, Bool, true, false, cond, ◌||◌, List, [], ◌∷◌, ◌++◌, length, map, sum_by, Option, Some, None, refl, sym, ap, ap₂, ◌∙◌, subst, append_assoc, arith}
-use Rattle.std.proofs.lemmas.Bool.{cond-false}
+use Rattle.std.proofs.Common.{◌≡◌, ◌≢◌, ℕ, ◌+◌, Bool, true, false, cond, ◌||◌, List, [], ◌∷◌, ◌++◌, length, map, Option, Some, None, refl, sym, ap, ◌∙◌, subst, append_assoc, arith}
 use Rattle.std.specs.List.{AllByRecursion, list_any}
-use Rattle.ts_name.specs.Paths.{Name, Path, IsPath, IsAbove, IsBefore, below}
+use Rattle.ts_name.specs.Paths.{Name, Path, IsAbove, IsBefore, below}
 use Rattle.ts_model.specs.Trees.{Listing, listed, at, IsListing, IsSubListing}
 use Rattle.ts_model.specs.Runs.{graft}
 use Rattle.ts_model.specs.declared.row.Content.{Content}
-use Rattle.ts_model.specs.declared.row.Content.TheVariants.{Absent, Dir}
-use Rattle.ts_model.specs.declared.row.Row.{Row}
-use Rattle.ts_table.specs.Tables.{is_above, placed, IsPlace}
+use Rattle.ts_model.specs.declared.row.Content.TheVariants.{Absent}
+use Rattle.ts_table.specs.Tables.{is_above, IsPlace}
 use Rattle.ts_table.specs.Splices.{ArePlaces, AreInOrder, ArePaths, grafted, put_of, spliced}
 use Rattle.ts_table.specs.Splits.{AreSeparate, MaySplit, FrameOf, IsFrame, edits_of, without}
-use Rattle.ts_table.specs.Slots.{PartsFit, cleared, slot_paths}
+use Rattle.ts_table.specs.Slots.{cleared}
 use Rattle.ts_table.specs.declared.splice.Edit.{Edit}
-use Rattle.ts_table.specs.declared.splice.Put.{Put}
-use Rattle.ts_table.specs.declared.frame.Slot.{Slot}
 use Rattle.ts_table.proofs.Paths.{above_trans, before_trans, before_below, before_not_below, not_above}
-use Rattle.ts_table.proofs.Rows.{by_each, at_each, weaker, all_append, all_right, all_map}
+use Rattle.ts_table.proofs.Rows.{by_each, at_each, weaker, all_append, all_right}
 use Rattle.ts_table.proofs.Listings.{is_above_no}
 use Rattle.ts_table.proofs.Splicing.{AreParts, ComesFirst, IsSpliced, all_spliced}
 use Rattle.ts_table.proofs.Uses.{IsPlace-graft, placed_before}

@@ -1,5 +1,5 @@
 -- Where something may stand, told by the last row before a path.
-use Rattle.std.proofs.Common.{◌≡◌, ◌≢◌, ◌↔◌, ◌⊎◌, ℕ, zero, suc, ◌<◌, ◌≤◌, ◌+◌, Bool, true, false, IsTrue, List, [], ◌∷◌, ◌++◌, length, take, drop, Some, None, refl, sym, ap, ◌∙◌, subst, inl, inr, arith, append_assoc, append-nil, slice_get}
+use Rattle.std.proofs.Common.{◌≡◌, ◌≢◌, ◌↔◌, ◌⊎◌, ℕ, zero, suc, ◌<◌, ◌≤◌, ◌+◌, Bool, true, false, [], ◌∷◌, ◌++◌, length, take, drop, Some, refl, sym, ap, ◌∙◌, subst, inl, inr, arith, append_assoc, append-nil, slice_get}
 use Rattle.std.proofs.lemmas.Bool.{cond-false}
 use Rattle.std.proofs.lemmas.List.{take-append-drop}
 use Rattle.std.specs.List.{AllByRecursion}
@@ -11,7 +11,7 @@ use Rattle.ts_model.specs.declared.row.Content.{Content}
 use Rattle.ts_model.specs.declared.row.Content.TheVariants.{Absent, Dir}
 use Rattle.ts_model.specs.declared.row.Row.{Row}
 use Rattle.ts_table.specs.Tables.{IsPlace}
-use Rattle.ts_table.proofs.Paths.{before_itself, before_trans, before_below, same_path_differ, same_parent, snoc_not_empty, last_name}
+use Rattle.ts_table.proofs.Paths.{before_itself, before_below, same_path_differ, same_parent, snoc_not_empty, last_name}
 use Rattle.ts_table.proofs.Rows.{weaker, all_before, all_from, ascend_rest, ascend_first, listed_none, listed_here, listed_before}
 use Rattle.ts_table.proofs.Found.{is_lt_Less, between}
 use Rattle.ts_table.proofs.Cuts.{HasParents, IsListing-front}

@@ -1,27 +1,20 @@
 -- Rows that leave a table for parts: what each part is, and what is left.
-use Rattle.std.proofs.Common.{◌≡◌, ◌≢◌, ℕ, zero, suc, ◌+◌, ◌<◌, ◌≤◌, get_or, Bool, true, false, cond, ◌||◌, List, [], ◌∷◌, ◌++◌, length, map, take, drop, Option, Some, None, refl, sym, ap, ap₂, ◌∙◌, subst, inl, inr, append_assoc, append-nil, arith}
-use Rattle.std.proofs.lemmas.Bool.{cond-true, cond-false}
+use Rattle.std.proofs.Common.{◌≡◌, ◌≢◌, ℕ, suc, ◌+◌, ◌<◌, ◌≤◌, get_or, Bool, true, false, ◌||◌, List, [], ◌∷◌, ◌++◌, length, map, take, drop, Option, Some, None, refl, sym, ap, ◌∙◌, subst, append_assoc, arith}
 use Rattle.std.proofs.lemmas.List.{map-append}
 use Rattle.std.specs.List.{AllByRecursion}
-use Rattle.ts_name.specs.Paths.{Name, Path, IsAbove, IsBefore, below}
-use Rattle.ts_model.specs.Trees.{Listing, listed, at, Ascend, IsListing, IsSubListing, sub}
-use Rattle.ts_model.specs.Runs.{graft}
-use Rattle.ts_model.specs.declared.row.Content.{Content}
-use Rattle.ts_model.specs.declared.row.Content.TheVariants.{Absent, Dir}
+use Rattle.ts_name.specs.Paths.{Path, IsAbove, IsBefore, below}
+use Rattle.ts_model.specs.Trees.{Listing, listed, at, Ascend, IsListing, IsSubListing}
 use Rattle.ts_model.specs.declared.row.Row.{Row}
-use Rattle.ts_table.specs.Tables.{is_above, placed, relative, rows_below, root_row, IsPlace, IsCut}
-use Rattle.ts_table.specs.Splices.{ArePlaces, AreInOrder, ArePaths, comes_before, grafted, lead, put_of, spliced, stands_below, trail}
-use Rattle.ts_table.specs.Splits.{AreSeparate, ArePartsAt, MaySplit, IsFrame, edits_of, without}
+use Rattle.ts_table.specs.Tables.{placed, relative, rows_below, IsCut}
+use Rattle.ts_table.specs.Splices.{comes_before, lead, spliced, stands_below, trail}
+use Rattle.ts_table.specs.Splits.{AreSeparate, ArePartsAt}
 use Rattle.ts_table.specs.Slots.{HasRoom, SlotFits, SlotsFit, cleared, parted, passed, paths_of, rerouted, slot_paths, taken}
-use Rattle.ts_table.specs.declared.splice.Edit.{Edit}
 use Rattle.ts_table.specs.declared.frame.Slot.{Slot}
-use Rattle.ts_table.proofs.Paths.{before_trans, before_below, before_not_below, below_append, below_gives, above_trans, below_before}
-use Rattle.ts_table.proofs.Rows.{by_each, at_each, weaker, all_append, all_right, ascend_right}
-use Rattle.ts_table.proofs.Listings.{is_above_yes, is_above_no, is_above_gives, not_above_gives}
-use Rattle.ts_table.proofs.Found.{is_lt_Less, mid_is_below}
+use Rattle.ts_table.proofs.Paths.{before_trans, below_before}
+use Rattle.ts_table.proofs.Rows.{weaker, all_append, ascend_right}
+use Rattle.ts_table.proofs.Found.{mid_is_below}
 use Rattle.ts_table.proofs.Relative.{IsPart, part_of, relative_more, relative_pass}
-use Rattle.ts_table.proofs.Splicing.{AreParts, ComesFirst, IsSpliced, all_spliced, cut_left, lead_all, lead_trail}
-use Rattle.ts_table.proofs.Uses.{IsPlace-graft, placed_before}
+use Rattle.ts_table.proofs.Splicing.{cut_left, lead_all, lead_trail}
 
 -- ---- rows that move to other paths
 

@@ -8,7 +8,6 @@ use Rattle.std.specs.Prelude.{◌≡◌, ◌≤◌, List, [], ◌∷◌, length,
 use Rattle.std.specs.List.{AllByRecursion}
 use Rattle.ts_name.specs.Paths.{Path}
 use Rattle.ts_model.specs.Trees.{Listing, IsSubListing}
-use Rattle.ts_model.specs.declared.row.Row.{Row}
 use Rattle.ts_table.specs.Tables.{placed, relative, rows_below}
 use Rattle.ts_table.specs.Splices.{comes_before, lead, stands_below, trail}
 use Rattle.ts_table.specs.declared.frame.Room.{Room}

@@ -7,10 +7,10 @@ use Rattle.hex.specs.Hex.{encode_lower, decode_sized}
 use Rattle.hex.proofs.HexLemmas.{decode_of-ok, decode_sized-encode_lower, decode_sized-ok, decode_sized-twice}
 use Rattle.ts_name.specs.Paths.{Path, IsPath, path_text}
 use Rattle.ts_model.specs.Texts.{IsBytes}
-use Rattle.ts_tree.specs.Fields.{Without, HeadFits, IsNamed, IsNoHead, SpellsNoPath, head_line, file_line}
+use Rattle.ts_tree.specs.Fields.{Without, IsNamed, IsNoHead, SpellsNoPath, head_line}
 use Rattle.ts_tree.specs.declared.field.Head.{Head}
 use Rattle.ts_tree.specs.declared.field.Head.TheVariants as head
-use Rattle.ts_tree.proofs.Words.{clean_path, clean_without, cut_at, no_cut}
+use Rattle.ts_tree.proofs.Words.{clean_path, clean_without, cut_at}
 
 -- a path that isn't the root has a text
 pub path_text_some : (p : Path) → p ≢ [] → path_text p ≢ []

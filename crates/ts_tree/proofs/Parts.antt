@@ -1,12 +1,12 @@
 -- Parts of trees, and trees with parts put in place: their files fit, and their paths are paths.
 use Rattle.std.proofs.Common.{◌≡◌, ◌≢◌, ℕ, suc, length, Bool, true, false, cond, List, [], ◌∷◌, ◌++◌, Option, Some, None, refl, sym, ap, ◌∙◌, subst}
 use Rattle.std.specs.List.{AllByRecursion, list_any}
-use Rattle.ts_name.specs.Paths.{Name, Path, IsPath, IsBefore, below, same_path}
+use Rattle.ts_name.specs.Paths.{Path, IsPath, IsBefore, below, same_path}
 use Rattle.ts_model.specs.Trees.{Listing, Ascend, IsListing, IsSubListing, at, listed, sub}
 use Rattle.ts_model.specs.Texts.{FileFits, IsTreeBody}
 use Rattle.ts_model.specs.Runs.{graft}
 use Rattle.ts_model.specs.declared.row.Content.{Content}
-use Rattle.ts_model.specs.declared.row.Content.TheVariants.{Absent, Dir, File}
+use Rattle.ts_model.specs.declared.row.Content.TheVariants.{Absent}
 use Rattle.ts_model.specs.declared.row.Row.{Row}
 use Rattle.ts_table.specs.Splices.{grafted}
 use Rattle.ts_table.specs.Splits.{ArePartsAt, edits_of, without}

@@ -1,9 +1,9 @@
 -- What the lines that a reader has taken say of the lines that may follow.
-use Rattle.std.proofs.Common.{◌≡◌, ◌≢◌, ℕ, zero, suc, ◌+◌, ◌-◌, ◌*◌, ◌/◌, ◌%◌, ◌^◌, ◌<◌, ◌≤◌, min, List, [], ◌∷◌, ◌++◌, length, Some, refl, sym, ap, ◌∙◌, subst, append_assoc, arith, length-append}
+use Rattle.std.proofs.Common.{◌≡◌, ◌≢◌, ℕ, suc, ◌+◌, ◌-◌, ◌*◌, ◌/◌, ◌%◌, ◌^◌, ◌<◌, ◌≤◌, min, List, [], ◌∷◌, ◌++◌, length, Some, refl, sym, ap, ◌∙◌, subst, append_assoc, arith, length-append}
 use Rattle.std.proofs.lemmas.List.{append-nil}
-use Rattle.ts_name.specs.Paths.{Path, path_text}
+use Rattle.ts_name.specs.Paths.{Path}
 use Rattle.ts_model.specs.Trees.{Listing, IsListing}
-use Rattle.ts_model.specs.Texts.{Line, IsBytes, data_lines, tree_row_lines, tree_lines, IsTreeBody}
+use Rattle.ts_model.specs.Texts.{Line, data_lines, tree_row_lines, tree_lines, IsTreeBody}
 use Rattle.ts_model.specs.declared.row.Content.{Content}
 use Rattle.ts_model.specs.declared.row.Content.TheVariants.{Absent, Dir, File}
 use Rattle.ts_model.specs.declared.row.Row.{Row}
@@ -13,7 +13,7 @@ use Rattle.ts_tree.specs.Readers.{OpenFits, open_lines, BeginsNoTree, SpellsNoTr
 use Rattle.ts_tree.specs.declared.field.Head.{Head}
 use Rattle.ts_tree.specs.declared.field.Head.TheVariants as head
 use Rattle.ts_tree.specs.declared.reader.OpenFile.{OpenFile}
-use Rattle.ts_tree.proofs.TreeTexts.{RowFits, RowsFit, IsPartOf, GoesOn, rows_fit, later_fit, rows_front, part_front, part_lines, data_push, one_dir_line, one_file_line, other_line}
+use Rattle.ts_tree.proofs.TreeTexts.{RowFits, RowsFit, IsPartOf, rows_fit, later_fit, rows_front, part_front, part_lines, data_push, one_dir_line, one_file_line, other_line}
 
 part : (rows : Listing (List ℕ)) (f : OpenFile) → OpenFits rows f → IsPartOf f.path f.size f.bytes.items
 part rows f fits = record { path = fits.named.0; size = fits.size; bytes = fits.bytes; whole = fits.whole; less = fits.less }

@@ -4,13 +4,12 @@ use Rattle.std.proofs.Common.{◌≡◌, ◌≢◌, ◌⊎◌, ℕ, List, [], �
 use Rattle.std.specs.Prelude.{IfSome}
 use Rattle.std.specs.Io.KnownBytes.{Keeps, Consumes, IsAtEnd}
 use Rattle.std.proofs.lemmas.List.{append-nil}
-use Rattle.ts_text.specs.Lines.{Reading, IsLine, HasNoLine, GivesLine, HasEnded, HasFailed, HasRefused}
-use Rattle.ts_text.specs.declared.state.State.{State}
+use Rattle.ts_text.specs.Lines.{Reading, HasNoLine, GivesLine, HasEnded, HasFailed, HasRefused}
 use Rattle.ts_text.specs.declared.state.State.TheVariants.{Going, Refused}
 use Rattle.ts_text.specs.declared.fault.TextFault.TheVariants as text_fault
 use Rattle.ts_model.specs.Texts.{Line, text}
 use Rattle.ts_tree.specs.Decoding.{SourceFailed}
-use Rattle.ts_tree.proofs.Lines.{AreTextLines, LinesFollow, StandsFirst, lines_append, no_lines, stands_first, text_front, text_push}
+use Rattle.ts_tree.proofs.Lines.{AreTextLines, LinesFollow, lines_append, stands_first, text_front, text_push}
 
 pub record Taken (old now : Reading) (fed : List Line) : Type 0 where
   pub bytes : Consumes old.left now.left (text fed)

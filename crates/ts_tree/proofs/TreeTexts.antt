@@ -1,19 +1,18 @@
 -- The text of a tree: its lines have one tree, and those of a file that isn't whole yet say how it may go on.
-use Rattle.std.proofs.Common.{◌≡◌, ◌≢◌, ℕ, zero, suc, ◌+◌, ◌-◌, ◌*◌, ◌/◌, ◌%◌, ◌^◌, ◌<◌, ◌≤◌, min, List, [], ◌∷◌, ◌++◌, length, take, drop, codes, decimal, refl, sym, ap, ap₂, ◌∙◌, subst, append_assoc, arith, length-append, length-drop, take-append-drop}
+use Rattle.std.proofs.Common.{◌≡◌, ◌≢◌, ℕ, zero, suc, ◌+◌, ◌-◌, ◌*◌, ◌/◌, ◌%◌, ◌^◌, ◌<◌, ◌≤◌, min, List, [], ◌∷◌, ◌++◌, length, take, drop, decimal, refl, sym, ap, ap₂, ◌∙◌, subst, append_assoc, arith, length-append, length-drop, take-append-drop}
 use Rattle.std.specs.List.{AllByRecursion}
 use Rattle.std.proofs.lemmas.Fmt.{decimal_injective}
 use Rattle.std.proofs.lemmas.List.{append-nil, take-append-le, drop-append-le, length-take, take_all}
-use Rattle.std.proofs.Math.Seq.{take-length}
 use Rattle.hex.specs.Hex.{encode_lower}
 use Rattle.ts_name.specs.Paths.{Path, IsPath, path_text}
-use Rattle.ts_model.specs.Trees.{Listing, IsListing}
-use Rattle.ts_model.specs.Texts.{Line, words, IsBytes, data_lines, tree_row_lines, tree_lines, FileFits, IsTreeBody}
+use Rattle.ts_model.specs.Trees.{Listing}
+use Rattle.ts_model.specs.Texts.{Line, IsBytes, data_lines, tree_row_lines, tree_lines, FileFits, IsTreeBody}
 use Rattle.ts_model.specs.declared.row.Content.{Content}
 use Rattle.ts_model.specs.declared.row.Content.TheVariants.{Absent, Dir, File}
 use Rattle.ts_model.specs.declared.row.Row.{Row}
 use Rattle.ts_text.specs.Lines.{IsLine}
 use Rattle.ts_tree.specs.Fields.{Without, data_line, dir_line, file_line}
-use Rattle.ts_tree.proofs.Words.{IsClean, clean_append, clean_decimal, clean_hex, clean_path, clean_without, cut_at, one_hex, one_path, without_append}
+use Rattle.ts_tree.proofs.Words.{IsClean, clean_decimal, clean_hex, clean_path, clean_without, cut_at, one_hex, one_path, without_append}
 use Rattle.ts_tree.proofs.Lines.{AreTextLines, length_hex, length_number, length_path, lines_append}
 
 without_space : (x : List ℕ) → IsClean x → Without 32 x

@@ -1,8 +1,7 @@
-use Rattle.std.proofs.Common.{◌≡◌, ◌≢◌, ◌∷◌, ◌++◌, codes, sym, ◌∙◌}
+use Rattle.std.proofs.Common.{◌≡◌, ◌≢◌, ◌∷◌, ◌++◌, codes, ◌∙◌}
 use Rattle.std.proofs.lemmas.Result.{err_from_is_err_and}
 use Rattle.ts_plan.proofs.Words.{differs}
-use Rattle.ts_bundle.specs.Parts.{archive_lines}
-use Rattle.ts_bundle.proofs.Growth.{archive_done, same_line, without_more}
+use Rattle.ts_bundle.proofs.Growth.{archive_done, same_line}
 use Rattle.ts_bundle.proofs.Refusals.{archive_refused}
 use Rattle.ts_bundle.proofs.reader.archive_line.Goals as goal
 

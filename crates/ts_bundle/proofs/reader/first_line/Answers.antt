@@ -1,8 +1,8 @@
-use Rattle.std.proofs.Common.{◌≡◌, ◌≢◌, ◌∷◌, ◌++◌, codes, sym, ◌∙◌}
+use Rattle.std.proofs.Common.{◌≡◌, ◌≢◌, ◌∷◌, ◌++◌, codes, ◌∙◌}
 use Rattle.std.proofs.lemmas.Result.{err_from_is_err_and}
 use Rattle.ts_plan.proofs.Words.{differs}
-use Rattle.ts_model.specs.Texts.{print_lines, tree_lines}
-use Rattle.ts_bundle.specs.Parts.{archive_lines, first_lines}
+use Rattle.ts_model.specs.Texts.{print_lines}
+use Rattle.ts_bundle.specs.Parts.{archive_lines}
 use Rattle.ts_bundle.proofs.Growth.{grown, first_done, same_line}
 use Rattle.ts_bundle.proofs.Refusals.{first_ended, first_refused}
 use Rattle.ts_bundle.proofs.reader.first_line.Goals as goal

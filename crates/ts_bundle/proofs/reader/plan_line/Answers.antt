@@ -1,6 +1,5 @@
-use Rattle.std.proofs.Common.{◌≡◌, ◌≢◌, ◌∷◌, ◌++◌, codes, sym, ◌∙◌}
+use Rattle.std.proofs.Common.{◌≡◌, ◌≢◌, ◌∷◌, ◌++◌, codes, ◌∙◌}
 use Rattle.std.proofs.lemmas.Result.{err_from_is_err_and}
-use Rattle.ts_plan.proofs.Words.{differs}
 use Rattle.ts_model.specs.Texts.{rule_line}
 use Rattle.std.proofs.Common.{map}
 use Rattle.ts_plan.specs.Progress as progress

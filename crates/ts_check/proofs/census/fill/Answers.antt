@@ -1,8 +1,7 @@
-use Rattle.std.proofs.Common.{◌≡◌, sym, refl, ap, ◌∙◌, subst, arith, length, false, true}
+use Rattle.std.proofs.Common.{◌≡◌, sym, ap, ◌∙◌, arith, length, false, true}
 use Rattle.std.proofs.lemmas.Option.{slice_get_within}
 use Rattle.std.proofs.lemmas.Bool.{false≢true}
-use Rattle.ts_check.proofs.Scans.{item_at, wrong_here, IsScanned-skip, IsScanned-take, IsScanned}
-use Rattle.ts_check.specs.Places.{IsUnmet}
+use Rattle.ts_check.proofs.Scans.{item_at, wrong_here, IsScanned-skip, IsScanned-take}
 use Rattle.ts_check.proofs.census.fill.Goals as goal
 use Rattle.ts_check.proofs.census.fill.Goals.{in-Some+else-not-is_unmet, in_default}
 

@@ -1,4 +1,4 @@
-use Rattle.std.proofs.Common.{◌≡◌, sym, refl, ap, ◌∙◌, subst, inl, inr, length, slice_get, arith}
+use Rattle.std.proofs.Common.{◌≡◌, sym, refl, ap, ◌∙◌, subst, inl, inr, slice_get, arith}
 use Rattle.std.proofs.lemmas.Bool.{false≢true, cases_eq}
 use Rattle.std.proofs.lemmas.Option.{slice_get_within, same_Some}
 use Rattle.ts_model.specs.declared.row.Row.{Row}
@@ -6,7 +6,6 @@ use Rattle.ts_model.specs.declared.row.Stamp.{Stamp}
 use Rattle.ts_check.proofs.Scans.{item_at}
 use Rattle.ts_check.proofs.Staging.{one_file}
 use Rattle.ts_check.proofs.Complete.{nothing_there, from_start, to_end}
-use Rattle.ts_name.specs.Paths.{IsAbove}
 use Rattle.ts_model.specs.declared.row.Content.TheVariants.{File}
 use Rattle.ts_check.specs.Pieces.{HasAll, LacksRange}
 use Rattle.ts_check.proofs.pieces.is_staged.Goals as goal

@@ -1,6 +1,4 @@
-use Rattle.std.proofs.Common.{◌≡◌, sym, ap, ◌∙◌, IfNone, Option}
-use Rattle.ts_model.specs.declared.plan.Kind.{Kind}
-use Rattle.ts_check.specs.Pieces.{IsPlaceOf, Place}
+use Rattle.std.proofs.Common.{◌≡◌, ◌∙◌}
 use Rattle.ts_check.proofs.Placing.{no_place}
 use Rattle.ts_check.proofs.pieces.place_of.Goals as goal
 

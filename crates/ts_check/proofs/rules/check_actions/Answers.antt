@@ -1,4 +1,4 @@
-use Rattle.std.proofs.Common.{◌≡◌, refl, sym, Some, None}
+use Rattle.std.proofs.Common.{◌≡◌, refl, Some, None}
 use Rattle.ts_model.specs.declared.plan.PlanRule.TheVariants.{PredsAscend, OneCommit, PiecesLawful, PiecesComplete, OneMark}
 use Rattle.ts_need.specs.Needs.{snapshot_of}
 use Rattle.ts_check.proofs.Verdicts.{hold_more, broken_here, no_root, first_commit, first_lawful, first_once}

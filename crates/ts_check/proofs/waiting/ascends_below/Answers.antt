@@ -1,7 +1,5 @@
-use Rattle.std.proofs.Common.{◌≡◌, ◌≤◌, ◌⊎◌, ◌<◌, ℕ, List, ◌∷◌, drop, get_or, length, refl, sym, ◌∙◌, subst, arith, false, true, inl, inr}
+use Rattle.std.proofs.Common.{◌≡◌, ◌≤◌, ◌⊎◌, ◌<◌, ℕ, ◌∷◌, refl, ◌∙◌, arith, false, true, inl, inr}
 use Rattle.std.proofs.lemmas.Bool.{false≢true}
-use Rattle.std.proofs.Math.Seq.{drop-cons}
-use Rattle.ts_check.specs.Waiting.{AscendFrom}
 use Rattle.ts_check.proofs.Waits.{below_from, from_below, from_at, from_step}
 use Rattle.ts_check.proofs.waiting.ascends_below.Goals as goal
 

@@ -1,7 +1,6 @@
-use Rattle.std.proofs.Common.{ℕ, ◌<◌, ◌≡◌, ◌+◌, sym, ap, ◌∙◌, length, arith, Option, None}
-use Rattle.ts_check.specs.Places.{IsFirst}
+use Rattle.std.proofs.Common.{ℕ, ◌<◌, ◌≡◌, ◌+◌, ap, ◌∙◌, length, arith}
 use Rattle.ts_check.proofs.Scans.{item_at}
-use Rattle.ts_check.proofs.Waits.{IsLate, IsLate-skip, IsLate-none, IsLate-add, IsFirst-LacksPiece}
+use Rattle.ts_check.proofs.Waits.{IsLate-skip, IsLate-none, IsLate-add, IsFirst-LacksPiece}
 use Rattle.ts_check.proofs.waiting.first_without_piece.Goals as goal
 use Rattle.ts_check.proofs.waiting.first_without_piece.Goals.{in-Piece+in-Some, in-Piece+in_default-late_commit, in_default}
 

@@ -1,8 +1,8 @@
-use Rattle.std.proofs.Common.{◌≡◌, ◌∙◌, ap, ◌∷◌, [], codes, Some, true, false}
+use Rattle.std.proofs.Common.{◌≡◌, ◌∙◌, ap, ◌∷◌, [], codes, true}
 use Rattle.std.proofs.lemmas.Result.{IfOk-weaker}
 use Rattle.clap.specs.Words.{App, app_of, new_app}
 use Rattle.clap.specs.Simple.{app_of_fields}
-use Rattle.ts_command.specs.CommandLine.{IsLocal, pair_rules, place_rule, planned_pair_rules, taking, workers_rule}
+use Rattle.ts_command.specs.CommandLine.{IsLocal, place_rule, taking, workers_rule}
 use Rattle.ts_command.proofs.Lines.{command_step, rule_step, local_step}
 use Rattle.ts_command.proofs.described.described.Goals as goal
 

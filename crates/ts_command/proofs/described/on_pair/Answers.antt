@@ -1,8 +1,8 @@
 use Rattle.std.proofs.Common.{◌≡◌, ◌∙◌, ap, ◌∷◌, [], codes}
 use Rattle.std.proofs.lemmas.Result.{IfOk-weaker}
-use Rattle.clap.specs.Words.{App, app_of, new_app, with_rule}
+use Rattle.clap.specs.Words.{app_of, new_app, with_rule}
 use Rattle.clap.specs.Simple.{app_of_fields}
-use Rattle.ts_command.specs.CommandLine.{IsLocal, holds_rule, place_rule, workers_rule}
+use Rattle.ts_command.specs.CommandLine.{IsLocal, place_rule}
 use Rattle.ts_command.proofs.Lines.{rule_step, local_step}
 use Rattle.ts_command.proofs.described.on_pair.Goals as goal
 

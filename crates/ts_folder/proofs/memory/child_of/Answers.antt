@@ -1,4 +1,4 @@
-use Rattle.std.proofs.Common.{rules, sym, ap, ap₂, ◌∙◌, ◌≡◌, ◌∷◌, ◌++◌, [], Some, Err, refl, subst}
+use Rattle.std.proofs.Common.{rules, sym, ap, ap₂, ◌∙◌, ◌≡◌, ◌∷◌, ◌++◌, [], Some, Err, refl}
 use Rattle.ts_name.proofs.Prefixes.{same_last}
 use Rattle.ts_folder.proofs.Children.{child_here, child_none, last_lawful}
 use Rattle.ts_folder.proofs.memory.child_of.Goals as goal

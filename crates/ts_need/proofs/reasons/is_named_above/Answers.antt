@@ -1,5 +1,5 @@
-use Rattle.std.proofs.Common.{◌≡◌, sym, refl, ap, ◌∙◌}
-use Rattle.ts_need.proofs.Climbs.{IsClimb-start, IsClimb-up, climb_found, climb_end, climb_shorter}
+use Rattle.std.proofs.Common.{◌≡◌, sym, ◌∙◌}
+use Rattle.ts_need.proofs.Climbs.{IsClimb-start, IsClimb-up}
 use Rattle.std.proofs.lemmas.Bool.{false≢true}
 use Rattle.ts_need.proofs.reasons.is_named_above.Goals as goal
 

@@ -1,5 +1,3 @@
-use Rattle.std.proofs.Common.{Option, None, Some, subst, sym}
-use Rattle.ts_need.specs.Needs.{IsReasonOf, snapshot_of}
 use Rattle.ts_need.proofs.rules.lacking_place.Goals as goal
 
 pub returns-in-None : goal.returns-in-None

@@ -1,4 +1,4 @@
-use Rattle.std.proofs.Common.{rules, sym}
+use Rattle.std.proofs.Common.{rules}
 use Rattle.std.specs.Result.{result_err}
 use Rattle.std.proofs.lemmas.Fn.{always_returns_same}
 use Rattle.ts_model.specs.declared.plan.Entry.{Entry}

@@ -1,4 +1,4 @@
-use Rattle.std.proofs.Common.{◌<◌, ◌*◌, rules, arith}
+use Rattle.std.proofs.Common.{◌<◌, ◌*◌, arith}
 use Rattle.std.proofs.lemmas.Result.{err_from_is_err_and}
 use Rattle.ts_plan_build.specs.Blocks.{piece_count, piece_of}
 use Rattle.ts_plan_build.proofs.Counting.{piece_within}

@@ -1,5 +1,4 @@
-use Rattle.std.proofs.Common.{◌≡◌, ◌-◌, List, length, Some, slice_get, sym, subst, ◌∙◌, Bool, true, false}
-use Rattle.ts_name.specs.Paths.{IsAbove}
+use Rattle.std.proofs.Common.{◌≡◌, ◌-◌, List, length, Some, slice_get, sym, subst, ◌∙◌, true, false}
 use Rattle.ts_plan_build.specs.declared.builder.NewDir.{NewDir}
 use Rattle.ts_plan_build.proofs.Dirs.{off_more}
 use Rattle.ts_plan_build.proofs.builder.leave.Goals as goal

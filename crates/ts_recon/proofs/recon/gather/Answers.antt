@@ -1,6 +1,5 @@
 use Rattle.std.proofs.Common.{◌≡◌, ℕ, ◌-◌, min, cond, refl, subst}
 use Rattle.ts_model.specs.Sync.{listed_snapshot}
-use Rattle.ts_dirty.proofs.Rows.{walk_less}
 use Rattle.ts_recon.proofs.Gathered.{reasoned_start, reasoned_step, reasoned_end}
 use Rattle.ts_recon.proofs.recon.gather.Goals as goal
 

@@ -1,9 +1,9 @@
-use Rattle.std.proofs.Common.{◌≡◌, List, IfOk, sym, subst}
+use Rattle.std.proofs.Common.{◌≡◌, List, IfOk, subst}
 use Rattle.ts_model.specs.Sync.{listed_snapshot}
 use Rattle.ts_model.specs.Trees.{Listing}
 use Rattle.ts_model.specs.declared.hold.Rule.{Rule}
 use Rattle.ts_model.specs.declared.row.Stamp.{Stamp}
-use Rattle.ts_dirty.specs.Found.{Found, IsFoundOf}
+use Rattle.ts_dirty.specs.Found.{IsFoundOf}
 use Rattle.ts_recon.specs.Reasons.{AreReasons}
 use Rattle.ts_recon.proofs.recon.reasons.Goals as goal
 

@@ -1,4 +1,4 @@
-use Rattle.std.proofs.Common.{◌≡◌, List, [], ◌∷◌, ◌++◌, length, map, sym, ap, ap₂, ◌∙◌, subst, arith, append_assoc}
+use Rattle.std.proofs.Common.{◌≡◌, [], ◌∷◌, ◌++◌, length, map, sym, ap, ap₂, ◌∙◌, subst, arith, append_assoc}
 use Rattle.ts_table.specs.Slots.{PartsFit, rerouted, slot_paths}
 use Rattle.ts_table.specs.Splices.{put_of}
 use Rattle.ts_table.specs.Splits.{edits_of}

@@ -1,10 +1,7 @@
 use Rattle.std.proofs.Common.{◌-◌, ◌≡◌, length, arith, sym, ◌∙◌, refl}
 use Rattle.std.proofs.lemmas.Bool.{false≢true}
-use Rattle.ts_model.specs.Trees.{at}
-use Rattle.ts_table.specs.Tables.{IsPlace}
 use Rattle.ts_table.proofs.Last.{none_last}
-use Rattle.ts_table.proofs.Paths.{last_name}
-use Rattle.ts_table.proofs.Places.{HasParentAbove, MayBeAbove, last_from_place, place_from_last, parent_of, no_place}
+use Rattle.ts_table.proofs.Places.{last_from_place, place_from_last, parent_of, no_place}
 use Rattle.ts_table.proofs.table.is_place_after.Goals as goal
 
 pub returns-then-has_parent_above : goal.returns-then-has_parent_above

@@ -1,8 +1,7 @@
-use Rattle.std.proofs.Common.{ℕ, List, ◌≡◌, Ok, refl, sym, ap, ◌∙◌, subst}
+use Rattle.std.proofs.Common.{ℕ, ◌≡◌, sym, ap, ◌∙◌}
 use Rattle.std.specs.Result.{is_err}
 use Rattle.std.proofs.lemmas.Bool.{false≢true}
 use Rattle.std.proofs.lemmas.Bool.Decides.{Decides-eqb}
-use Rattle.std.proofs.lemmas.Result.{MatchResult-at_ok}
 use Rattle.std.proofs.lemmas.Slice.Eq.{slice_eq-Decides}
 use Rattle.hex.specs.Hex.{encode_lower}
 use Rattle.ts_text.proofs.Numbers.{digest_decoded}

@@ -1,7 +1,7 @@
-use Rattle.std.proofs.Common.{◌≡◌, ◌∙◌, ◌+◌, ◌/◌, ◌<◌, ◌∷◌, [], ◌++◌, List, length, min, subst, rules, arith}
+use Rattle.std.proofs.Common.{◌≡◌, ◌∙◌, ◌+◌, ◌/◌, ◌<◌, ◌∷◌, [], ◌++◌, length, min, subst, arith}
 use Rattle.std.proofs.lemmas.Grind.{common_steps}
 use Rattle.std.proofs.lemmas.Result.{err_from_is_err_and}
-use Rattle.ts_model.specs.Texts.{Line, data_lines}
+use Rattle.ts_model.specs.Texts.{data_lines}
 use Rattle.ts_tree.specs.Fields.{data_line}
 use Rattle.ts_tree.proofs.Writing.{Wrote, data_step, wrote_front, wrote_more}
 use Rattle.ts_tree.proofs.encoding.write_data.Goals as goal

@@ -1,4 +1,4 @@
-use Rattle.std.proofs.Common.{◌∷◌, [], ◌++◌, Ok, ap}
+use Rattle.std.proofs.Common.{◌∷◌, [], ◌++◌}
 use Rattle.std.proofs.lemmas.Result.{err_from_is_err_and}
 use Rattle.ts_model.specs.Texts.{tree_lines}
 use Rattle.ts_tree.specs.Fields.{IsNoHead}

@@ -1,8 +1,8 @@
-use Rattle.std.proofs.Common.{◌≡◌, ◌-◌, ◌∷◌, [], ◌++◌, min, Some, length, ap, ◌∙◌, arith}
+use Rattle.std.proofs.Common.{◌≡◌, ◌-◌, ◌∷◌, [], ◌++◌, min, Some, length, ◌∙◌, arith}
 use Rattle.std.proofs.lemmas.Result.{err_from_is_err_and, IfOk-weaker}
 use Rattle.ts_model.specs.Texts.{tree_lines, tree_row_lines}
 use Rattle.ts_model.specs.declared.row.Content.TheVariants.{File}
-use Rattle.ts_tree.specs.Fields.{AddsData, IsNoData}
+use Rattle.ts_tree.specs.Fields.{IsNoData}
 use Rattle.ts_tree.specs.Readers.{BeginsNoTree, open_lines}
 use Rattle.ts_tree.proofs.Readers.{no_data, file_ends, file_goes_on}
 use Rattle.ts_tree.proofs.Refusals.{refuses_weaker}

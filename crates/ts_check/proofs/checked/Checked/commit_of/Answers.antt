@@ -1,11 +1,10 @@
-use Rattle.std.proofs.Common.{◌≡◌, ℕ, ◌<◌, length, get_or, Some, slice_get, ap, sym, refl, ◌∙◌, subst, arith}
+use Rattle.std.proofs.Common.{◌≡◌, ℕ, ◌<◌, length, get_or, ap, sym, refl, ◌∙◌, subst, arith}
 use Rattle.std.proofs.lemmas.List.{get_or_default}
 use Rattle.std.proofs.lemmas.Option.{get_or_from_slice_get, slice_get_within}
 use Rattle.ts_model.specs.Runs.{IsPieceOf}
 use Rattle.ts_model.specs.declared.plan.Plan.{Plan}
 use Rattle.ts_model.specs.Sync.{listed_snapshot}
 use Rattle.ts_check.specs.Checkup.{Checkup}
-use Rattle.ts_check.specs.Places.{no_action}
 use Rattle.ts_check.proofs.Checking.{few_actions, no_commit, its_commit, if_none}
 use Rattle.ts_check.proofs.Scans.{item_at}
 use Rattle.ts_check.proofs.checked.Checked.commit_of.Goals as goal

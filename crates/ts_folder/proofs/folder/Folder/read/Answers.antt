@@ -1,7 +1,6 @@
-use Rattle.std.proofs.Common.{rules, ◌≡◌, ◌≢◌, ◌≤◌, ℕ, List, Option, length, IfErr, IfOk, IfSome, ◌+◌, ◌-◌, ◌*◌, ◌<◌, sym, subst, take, drop, vec_len, arith}
+use Rattle.std.proofs.Common.{◌≡◌, ◌≢◌, ◌≤◌, ℕ, length, IfSome, ◌+◌, ◌-◌, ◌*◌, ◌<◌, sym, subst, take, drop, vec_len, arith}
 use Rattle.std.proofs.lemmas.Option.{IfSome_then}
-use Rattle.ts_folder.specs.Folders.{Fills, IsFile, MayAnswer, Reads}
-use Rattle.ts_model.specs.Texts.{IsTreeBody}
+use Rattle.ts_folder.specs.Folders.{Reads}
 use Rattle.ts_model.specs.Trees.{at}
 use Rattle.ts_folder.proofs.Ranges.{IsStep, reads_nothing, step_reads, step_ends, ends_there}
 use Rattle.ts_folder.proofs.folder.Folder.read.Goals as goal

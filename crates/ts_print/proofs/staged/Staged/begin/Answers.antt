@@ -1,4 +1,3 @@
-use Rattle.std.proofs.Common.{rules, sym}
 use Rattle.ts_print.proofs.Assembling.{IsSubListing-begun, begun_fit}
 use Rattle.ts_print.proofs.staged.Staged.begin.Goals as goal
 

@@ -1,14 +1,11 @@
-use Rattle.std.proofs.Common.{◌↔◌, ◌≤◌, length, IsTrue, take, rules}
+use Rattle.std.proofs.Common.{◌↔◌, ◌≤◌, rules}
 use Rattle.std.proofs.lemmas.List.Sorted.{IsPartitionPoint-from_clause}
-use Rattle.std.specs.List.Sorted.{IsPartitionPoint}
 use Rattle.std.specs.Ordering.{is_lt}
 use Rattle.ts_model.specs.Trees.{at}
 use Rattle.ts_name.specs.Paths.{path_cmp}
 use Rattle.ts_table.proofs.Found.{before_parts}
 use Rattle.ts_table.proofs.Places.{front_lists, front_before, place_in_front}
 use Rattle.ts_table.proofs.table.Table.is_place.Goals as goal
-use Rattle.ts_table.proofs.table.Table.is_place.Given.{Over}
-use Rattle.ts_table.proofs.table.Table.is_place.Goals.{After-is_place_after}
 
 pub is_place_after-requires-clause-listing : goal.is_place_after-requires-clause-listing
 is_place_after-requires-clause-listing g c = rw c.deref-2.ensures.value (front_lists c.self.inside.rows.items c.partition_point-start.result c.self.invariant)

@@ -1,11 +1,11 @@
-use Rattle.std.proofs.Common.{◌≡◌, ◌≢◌, [], List, map, sym, ap, ap₂, ◌∙◌, subst}
+use Rattle.std.proofs.Common.{◌≡◌, ◌≢◌, [], map, sym, ap, ap₂, ◌∙◌, subst}
 use Rattle.std.specs.List.{AllByRecursion}
 use Rattle.ts_name.specs.Paths.{Path}
 use Rattle.ts_model.specs.Trees.{at}
 use Rattle.ts_table.specs.Tables.{IsPlace}
 use Rattle.ts_table.specs.Splices.{spliced}
 use Rattle.ts_table.specs.Splits.{AreSeparate, ArePartsAt, IsFrame, FrameOf}
-use Rattle.ts_table.specs.Slots.{SlotsFit, cleared, parted, slot_paths}
+use Rattle.ts_table.specs.Slots.{cleared, parted, slot_paths}
 use Rattle.ts_table.proofs.Rows.{weaker}
 use Rattle.ts_table.proofs.Joining.{IsLeft, frame_left}
 use Rattle.ts_table.proofs.Taking.{taken_at_first, slots_fit, parts_there}

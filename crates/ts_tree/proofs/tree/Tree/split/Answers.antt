@@ -1,8 +1,6 @@
-use Rattle.std.proofs.Common.{◌≡◌, List, ◌++◌, length, ap, ◌∙◌, sym, subst, arith}
-use Rattle.std.specs.List.{AllByRecursion}
+use Rattle.std.proofs.Common.{◌≡◌, ◌++◌, ap, ◌∙◌, sym, subst, arith}
 use Rattle.ts_model.specs.Trees.{at}
-use Rattle.ts_table.specs.Splits.{ArePartsAt, without}
-use Rattle.ts_tree.specs.Trees.{FilesFit}
+use Rattle.ts_table.specs.Splits.{ArePartsAt}
 use Rattle.ts_tree.proofs.Parts.{left_fit, parts_count, parts_fit}
 use Rattle.ts_tree.proofs.tree.Tree.split.Goals as goal
 
