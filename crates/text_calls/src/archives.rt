@@ -39,23 +39,21 @@ fn number_of(alloc: Global, source: Drip<'_>) -> u8 {
 }
 
 /// The archives, with the lines between the first and the last.
-fn archives() -> [(&'static [&'static [u8]], &'static [u8]); 3] {
-    [
-        (&[], EMPTY),
-        (
-            &[b"f /a 1 ca978112ca1bbdcafac231b39a23dc4da786eff8147c4e72b9807785afee48bb"],
-            ONE,
-        ),
-        (
-            &[
-                b"d /a",
-                b"f /a/b 0 e3b0c44298fc1c149afbf4c8996fb92427ae41e4649b934ca495991b7852b855",
-                b"f /c 18446744073709551615 0000000000000000000000000000000000000000000000000000000000000000",
-            ],
-            LARGE,
-        ),
-    ]
-}
+const ARCHIVES: &[(&[&[u8]], &[u8])] = &[
+    (&[], EMPTY),
+    (
+        &[b"f /a 1 ca978112ca1bbdcafac231b39a23dc4da786eff8147c4e72b9807785afee48bb"],
+        ONE,
+    ),
+    (
+        &[
+            b"d /a",
+            b"f /a/b 0 e3b0c44298fc1c149afbf4c8996fb92427ae41e4649b934ca495991b7852b855",
+            b"f /c 18446744073709551615 0000000000000000000000000000000000000000000000000000000000000000",
+        ],
+        LARGE,
+    ),
+];
 
 /// Whether the archive is written as far as there is room, and a fault told where that isn't all.
 fn writes_into(alloc: Global, print: &Print, text: &[u8], step: usize, room: usize) -> bool {
@@ -106,16 +104,16 @@ fn is_archive(alloc: Global, lines: &[&[u8]], text: &[u8], step: usize) -> bool 
 fn archives_are_written_and_read(rt: HostRuntime) {
     assert!(rt; EMPTY.len() == 89);
     assert!(rt; ONE.len() == 161);
-    for (lines, text) in archives() {
+    for (lines, text) in ARCHIVES {
         for step in [1, 7, 1_000] {
-            assert!(rt; is_archive(rt.alloc(), lines, text, step), "by {step}");
+            assert!(rt; is_archive(rt.alloc(), *lines, *text, step), "by {step}");
         }
     }
 }
 
 #[test]
 fn what_is_cut_or_lost_is_told(rt: HostRuntime) {
-    for (_, text) in archives() {
+    for (_, text) in ARCHIVES {
         for length in 0..text.len() {
             let cut = dripping(&text[..length], 1_000);
             assert!(rt; number_of(rt.alloc(), cut) == 6, "cut to {length}");
@@ -134,7 +132,7 @@ fn what_is_cut_or_lost_is_told(rt: HostRuntime) {
 }
 
 /// Texts that are refused, and the number of the fault.
-const OTHERS: [(&[u8], u8); 15] = [
+const OTHERS: &[(&[u8], u8)] = &[
     // the file has another size
     (
         b"twosync-archive 1\nf /a 2 ca978112ca1bbdcafac231b39a23dc4da786eff8147c4e72b9807785afee48bb\nend 1 29724455c81111a80176a71e9f37580455150b06baa2f3915adeb8b9f0a9d138\n",
@@ -216,7 +214,7 @@ const OTHERS: [(&[u8], u8); 15] = [
 fn other_texts_are_refused(rt: HostRuntime) {
     for (text, want) in OTHERS {
         assert!(rt;
-            number_of(rt.alloc(), dripping(text, 1_000)) == want,
+            number_of(rt.alloc(), dripping(*text, 1_000)) == *want,
             "{text:?}"
         );
     }

@@ -28,7 +28,7 @@ fn names(alloc: Global, rules: &[u8], text: &[u8]) -> Option<bool> {
 }
 
 /// Rules, a path, and whether they name it.
-const NAMED: [(&[u8], &[u8], bool); 25] = [
+const NAMED: &[(&[u8], &[u8], bool)] = &[
     (b"name *.o\n", b"/n/x.o", true),
     (b"name *.o\n", b"/.o", true),
     (b"name *.o\n", b"/x.oo", false),
@@ -58,7 +58,7 @@ const NAMED: [(&[u8], &[u8], bool); 25] = [
 ];
 
 /// The same, where a pattern goes back to an earlier star.
-const GOING_BACK: [(&[u8], &[u8], bool); 14] = [
+const GOING_BACK: &[(&[u8], &[u8], bool)] = &[
     (b"name *a*b\n", b"/ab", true),
     (b"name *a*b\n", b"/abab", true),
     (b"name *a*b\n", b"/bab", true),
@@ -78,10 +78,16 @@ const GOING_BACK: [(&[u8], &[u8], bool); 14] = [
 #[test]
 fn rules_name_paths(rt: HostRuntime) {
     for (rules, text, want) in NAMED {
-        assert!(rt; names(rt.alloc(), rules, text) == Some(want), "{rules:?}");
+        assert!(rt;
+            names(rt.alloc(), *rules, *text) == Some(*want),
+            "{rules:?}"
+        );
     }
     for (rules, text, want) in GOING_BACK {
-        assert!(rt; names(rt.alloc(), rules, text) == Some(want), "{rules:?}");
+        assert!(rt;
+            names(rt.alloc(), *rules, *text) == Some(*want),
+            "{rules:?}"
+        );
     }
 }
 
@@ -148,7 +154,7 @@ fn rules_are_taken_line_by_line(rt: HostRuntime) {
 }
 
 /// Texts of rules, and the first line that is bad.
-const BAD: [(&[u8], u64); 26] = [
+const BAD: &[(&[u8], u64)] = &[
     (b"name **\n", 1),
     (b"name a/b\n", 1),
     (b"name a%2Fb\n", 1),
@@ -180,7 +186,7 @@ const BAD: [(&[u8], u64); 26] = [
 #[test]
 fn bad_lines_are_told(rt: HostRuntime) {
     for (text, line) in BAD {
-        assert!(rt; outcome(rt.alloc(), text) == (11, line), "{text:?}");
+        assert!(rt; outcome(rt.alloc(), *text) == (11, *line), "{text:?}");
     }
 }
 

@@ -21,50 +21,52 @@ fn text_of(alloc: Global, path: &Path) -> Option<Vec<u8>> {
     Some(out)
 }
 
+/// Texts, and the number of the fault, or 0.
+const KINDS: &[(&[u8], u8)] = &[
+    (b"", 0),
+    (b"/a", 0),
+    (b"/a%20b%25", 0),
+    (b"/a/b/c", 0),
+    (b"/.a", 0),
+    (b"/...", 0),
+    (b"/.twosync2", 0),
+    (b"/\xc3\xa9", 0),
+    (b"/%01%1F%20%7F", 0),
+    (b"/", 2),
+    (b"//a", 2),
+    (b"/a/", 2),
+    (b"/a//b", 2),
+    (b"/.", 2),
+    (b"/..", 2),
+    (b"/a/..", 2),
+    (b"/.twosync", 2),
+    (b"/a/.twosync/b", 2),
+    (b"/a\x00b", 2),
+    (b"/\xff", 2),
+    (b"/\xc3", 2),
+    (b"/\xc0\xaf", 2),
+    (b"/\xed\xa0\x80", 2),
+    (b"/\xf4\x90\x80\x80", 2),
+    (b"a", 3),
+    (b"a/b", 3),
+    (b"/a%2Fb", 3),
+    (b"/a%2a", 3),
+    (b"/a%2A", 3),
+    (b"/%00", 3),
+    (b"/%41", 3),
+    (b"/%7f", 3),
+    (b"/%80", 3),
+    (b"/%2", 3),
+    (b"/%", 3),
+    (b"/a b", 3),
+    (b"/a\n", 3),
+    (b"//%zz", 3),
+];
+
 #[test]
 fn texts_of_every_kind(rt: HostRuntime) {
-    let cases: [(&[u8], u8); 38] = [
-        (b"", 0),
-        (b"/a", 0),
-        (b"/a%20b%25", 0),
-        (b"/a/b/c", 0),
-        (b"/.a", 0),
-        (b"/...", 0),
-        (b"/.twosync2", 0),
-        (b"/\xc3\xa9", 0),
-        (b"/%01%1F%20%7F", 0),
-        (b"/", 2),
-        (b"//a", 2),
-        (b"/a/", 2),
-        (b"/a//b", 2),
-        (b"/.", 2),
-        (b"/..", 2),
-        (b"/a/..", 2),
-        (b"/.twosync", 2),
-        (b"/a/.twosync/b", 2),
-        (b"/a\x00b", 2),
-        (b"/\xff", 2),
-        (b"/\xc3", 2),
-        (b"/\xc0\xaf", 2),
-        (b"/\xed\xa0\x80", 2),
-        (b"/\xf4\x90\x80\x80", 2),
-        (b"a", 3),
-        (b"a/b", 3),
-        (b"/a%2Fb", 3),
-        (b"/a%2a", 3),
-        (b"/a%2A", 3),
-        (b"/%00", 3),
-        (b"/%41", 3),
-        (b"/%7f", 3),
-        (b"/%80", 3),
-        (b"/%2", 3),
-        (b"/%", 3),
-        (b"/a b", 3),
-        (b"/a\n", 3),
-        (b"//%zz", 3),
-    ];
-    for (text, wanted) in cases {
-        assert!(rt; outcome(rt.alloc(), text) == wanted);
+    for (text, wanted) in KINDS {
+        assert!(rt; outcome(rt.alloc(), *text) == *wanted);
     }
 }
 
@@ -111,14 +113,22 @@ fn child_of_root(alloc: Global, bytes: &[u8]) -> Option<Path> {
     Path::root(alloc).child(alloc, &name).ok()
 }
 
+fn reads_as(alloc: Global, text: &[u8], path: &Path) -> bool {
+    match Path::parse_text(alloc, text) {
+        Ok(again) => again == *path,
+        Err(_) => false,
+    }
+}
+
 /// The text of that path, where it reads as the path again.
 fn spelled(alloc: Global, bytes: &[u8]) -> Option<Vec<u8>> {
     let path = child_of_root(alloc, bytes)?;
     let text = text_of(alloc, &path)?;
-    if Path::parse_text(alloc, &text).ok()? != path {
-        return None;
+    if reads_as(alloc, &text, &path) {
+        Some(text)
+    } else {
+        None
     }
-    Some(text)
 }
 
 fn is_spelled(alloc: Global, bytes: &[u8], want: &[u8]) -> bool {
@@ -195,13 +205,14 @@ fn paths_are_in_the_order_of_their_names(rt: HostRuntime) {
     assert!(rt; names_compared(rt.alloc(), b" ", b"!") == Some((true, true)));
 }
 
-/// What `/a/bc` tells, beside the root, `/a` and `/ab`.
+/// What the root, `/a` and `/a/bc` tell.
+fn tells_sizes(root: &Path, top: &Path, path: &Path) -> bool {
+    path.depth() == 2 && path.size() == 3 && root.is_root() && !top.is_root()
+}
+
+/// What lies above `/a/bc`, and not above `/ab`.
 fn tells_places(root: &Path, top: &Path, path: &Path, beside: &Path) -> bool {
-    path.depth() == 2
-        && path.size() == 3
-        && root.is_root()
-        && !top.is_root()
-        && top.is_prefix(path)
+    top.is_prefix(path)
         && !top.is_prefix(beside)
         && top.is_parent_of(path)
         && !root.is_parent_of(path)
@@ -209,11 +220,15 @@ fn tells_places(root: &Path, top: &Path, path: &Path, beside: &Path) -> bool {
         && !path.has_parent_above(beside)
 }
 
-fn tells(alloc: Global) -> Option<bool> {
+fn tells(alloc: Global) -> Option<[bool; 2]> {
+    let root = Path::root(alloc);
     let top = path(alloc, b"/a")?;
     let place = path(alloc, b"/a/bc")?;
     let beside = path(alloc, b"/ab")?;
-    Some(tells_places(&Path::root(alloc), &top, &place, &beside))
+    Some([
+        tells_sizes(&root, &top, &place),
+        tells_places(&root, &top, &place, &beside),
+    ])
 }
 
 /// Whether the last name of a path is this.
@@ -226,7 +241,7 @@ fn ends_in(path: &Path, want: &[u8]) -> bool {
 
 #[test]
 fn calls_without_memory(rt: HostRuntime) {
-    assert!(rt; tells(rt.alloc()) == Some(true));
+    assert!(rt; tells(rt.alloc()) == Some([true; 2]));
     match path(rt.alloc(), b"/a/bc") {
         Some(path) => assert!(rt; ends_in(&path, b"bc")),
         None => assert!(rt; false),
@@ -234,10 +249,18 @@ fn calls_without_memory(rt: HostRuntime) {
     assert!(rt; Path::root(rt.alloc()).last().is_none());
 }
 
-/// Whether a path's copy is like it, and its parent is the one above it.
-fn has_copy_and_parent(alloc: Global, path: &Path, top: &Path) -> Option<bool> {
-    let is_copied = path.copy(alloc).ok()? == *path;
-    Some(is_copied && path.parent(alloc).ok()?? == *top)
+fn has_copy(alloc: Global, path: &Path) -> bool {
+    match path.copy(alloc) {
+        Ok(copy) => copy == *path,
+        Err(_) => false,
+    }
+}
+
+fn has_parent(alloc: Global, path: &Path, top: &Path) -> bool {
+    match path.parent(alloc) {
+        Ok(Some(parent)) => parent == *top,
+        _ => false,
+    }
 }
 
 /// Whether the path is joined of the one above it and the rest, of this text.
@@ -253,11 +276,12 @@ fn is_child(alloc: Global, path: &Path, top: &Path, bytes: &[u8]) -> Option<bool
     Some(name.as_bytes() == bytes && top.child(alloc, &name).ok()? == *path)
 }
 
-fn made(alloc: Global) -> Option<[bool; 3]> {
+fn made(alloc: Global) -> Option<[bool; 4]> {
     let top = path(alloc, b"/a")?;
     let place = path(alloc, b"/a/bc")?;
     Some([
-        has_copy_and_parent(alloc, &place, &top)?,
+        has_copy(alloc, &place),
+        has_parent(alloc, &place, &top),
         is_joined(alloc, &place, &top, b"/bc")?,
         is_child(alloc, &place, &top, b"bc")?,
     ])
@@ -265,7 +289,7 @@ fn made(alloc: Global) -> Option<[bool; 3]> {
 
 #[test]
 fn calls_with_ample_memory(rt: HostRuntime) {
-    assert!(rt; made(rt.alloc()) == Some([true; 3]));
+    assert!(rt; made(rt.alloc()) == Some([true; 4]));
 }
 
 /// The numbers of the faults of joining two paths of so many names of such sizes.

@@ -44,17 +44,6 @@ fn number_of(alloc: Global, source: Drip<'_>) -> u8 {
     }
 }
 
-/// What comes of reading a text and writing its plan.
-#[derive(PartialEq, Drop)]
-enum Outcome {
-    /// The text again.
-    Same,
-    /// A fault in reading, of this number.
-    Refused(u8),
-    /// Another text, or a fault in writing.
-    Other,
-}
-
 /// Whether the plan is written as this text.
 fn writes_as(alloc: Global, plan: &Plan, text: &[u8]) -> bool
     requires { IsPlan plan.now }
@@ -63,16 +52,17 @@ fn writes_as(alloc: Global, plan: &Plan, text: &[u8]) -> bool
     encode(alloc, plan, &mut sink).is_ok() && sink.into_inner().as_slice() == text
 }
 
-fn round(alloc: Global, text: &[u8]) -> Outcome {
+/// 0 where the plan of the text is written as the same text, or the number of the fault that the text is refused with.
+fn round(alloc: Global, text: &[u8]) -> Option<u8> {
     match read(alloc, dripping(text, 1_000)) {
         Ok(plan) => {
             if writes_as(alloc, &plan, text) {
-                Outcome::Same
+                Some(0)
             } else {
-                Outcome::Other
+                None
             }
         }
-        Err(fault) => Outcome::Refused(fault.number()),
+        Err(fault) => Some(fault.number()),
     }
 }
 
@@ -85,12 +75,12 @@ fn reads_and_writes_plans(rt: HostRuntime) {
         b"twosync-plan 1\nentry same /a%20b\nentry second /c\nentry conflict /d\nentry held /e\nentry dir /f/g\npiece 4294967295 18446744073709551615 0 /f\np 4294967295\np 0\nend 5 1\n",
     ];
     for text in texts {
-        assert!(rt; round(rt.alloc(), text) == Outcome::Same, "{text:?}");
+        assert!(rt; round(rt.alloc(), text) == Some(0), "{text:?}");
     }
 }
 
 /// Texts that spell no plan.
-const OTHERS: [&[u8]; 29] = [
+const OTHERS: &[&[u8]] = &[
     b"",
     b"twosync-plan 1\n",
     b"twosync-plan 2\nend 0 0\n",
@@ -125,7 +115,7 @@ const OTHERS: [&[u8]; 29] = [
 #[test]
 fn refuses_other_texts(rt: HostRuntime) {
     for text in OTHERS {
-        assert!(rt; round(rt.alloc(), text) == Outcome::Refused(6), "{text:?}");
+        assert!(rt; round(rt.alloc(), *text) == Some(6), "{text:?}");
     }
 }
 
@@ -200,10 +190,10 @@ fn what_is_cut_or_lost_is_told(rt: HostRuntime) {
 }
 
 /// What comes of the text with another byte at a place.
-fn round_with(alloc: Global, place: usize, byte: u8) -> Option<Outcome> {
+fn round_with(alloc: Global, place: usize, byte: u8) -> Option<u8> {
     let mut text = Vec::from_slice(alloc, NEW_DIRECTORY).ok()?;
     *text.get_mut(place)? = byte;
-    Some(round(alloc, &text))
+    round(alloc, &text)
 }
 
 #[test]
@@ -212,11 +202,8 @@ fn each_text_has_one_value(rt: HostRuntime) {
     for place in 0..NEW_DIRECTORY.len() {
         for byte in [b'0', b' ', b'\n'] {
             match round_with(rt.alloc(), place, byte) {
-                Some(Outcome::Same) => read_count = read_count.saturating_add(1),
-                Some(Outcome::Refused(number)) => assert!(rt;
-                    number == 6 || number == 12,
-                    "{place}"
-                ),
+                Some(0) => read_count = read_count.saturating_add(1),
+                Some(6 | 12) => {}
                 _ => assert!(rt; false, "{place}"),
             }
         }

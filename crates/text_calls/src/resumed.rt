@@ -1,9 +1,7 @@
 //! Plans for what is there now.
-use crate::shared::{World, print_of, scene_of};
+use crate::shared::{World, scene_of};
 use std::alloc::Global;
-use ts_hold::Holds;
-use ts_model::plan::{Action, Kind, Plan, Reason};
-use ts_print::Print;
+use ts_model::plan::{Kind, Plan, Reason};
 use ts_resume::{ResumeFault, resume};
 use ts_text::push_decimal;
 
@@ -71,9 +69,8 @@ fn push_kind(out: &mut Vec<u8>, kind: &Kind) -> Option<()> {
     }
 }
 
-fn push_action(out: &mut Vec<u8>, action: &Action) -> Option<()> {
-    push_kind(out, &action.kind)?;
-    for number in action.preds.as_slice() {
+fn push_preds(out: &mut Vec<u8>, preds: &[u32]) -> Option<()> {
+    for number in preds {
         push_number(out, b"\np ", u64::from(*number))?;
     }
     out.push(b'\n').ok()
@@ -88,32 +85,37 @@ fn lines_of(alloc: Global, plan: &Plan) -> Option<Vec<u8>> {
         out.push(b'\n').ok()?;
     }
     for action in plan.actions.as_slice() {
-        push_action(&mut out, action)?;
+        push_kind(&mut out, &action.kind)?;
+        push_preds(&mut out, action.preds.as_slice())?;
     }
     Some(out)
 }
 
 /// The plan for what is there.
-fn plan_for(alloc: Global, world: &World<'_>) -> Option<Plan> {
+fn plan_for(alloc: Global, world: &World<'_>) -> Option<Result<Plan, ResumeFault>> {
     let scene = scene_of(alloc, world)?;
-    resume(
+    Some(resume(
         alloc,
         &scene.archive,
         &scene.first,
         &scene.second,
         &scene.holds,
-    )
-    .ok()
+    ))
+}
+
+/// Whether the plan has these lines.
+fn has_lines(alloc: Global, plan: &Plan, want: &[u8]) -> bool {
+    match lines_of(alloc, plan) {
+        Some(lines) => lines.as_slice() == want,
+        None => false,
+    }
 }
 
 /// Whether the plan for what is there has these lines.
 fn is_planned(alloc: Global, world: &World<'_>, want: &[u8]) -> bool {
-    let Some(plan) = plan_for(alloc, world) else {
-        return false;
-    };
-    match lines_of(alloc, &plan) {
-        Some(lines) => lines.as_slice() == want,
-        None => false,
+    match plan_for(alloc, world) {
+        Some(Ok(plan)) => has_lines(alloc, &plan, want),
+        _ => false,
     }
 }
 
@@ -127,7 +129,7 @@ type Case = (
 );
 
 /// One file on either side.
-const FILES: [Case; 9] = [
+const FILES: &[Case] = &[
     (&[], &[], &[], b"", b""),
     (
         &[],
@@ -189,7 +191,7 @@ piece 2 0 1048576 /g\npiece 2 1048576 1 /g\ncommit 2\np 5\np 6\nmark 2\np 7\n",
 ];
 
 /// Directories on either side.
-const DIRS: [Case; 5] = [
+const DIRS: &[Case] = &[
     // a deletion against a change inside
     (
         &[b"d /d", D_X],
@@ -229,8 +231,8 @@ piece 2 0 1 /d/y\ncommit 2\np 4\nmark 2\np 0\np 5\n",
     (&[], &[b"d /n", N_X], &[], b"name *.o\n", b"entry held /n\n"),
 ];
 
-fn is_case(alloc: Global, case: Case) -> bool {
-    let (archive, first, second, rules, want) = case;
+fn is_case(alloc: Global, case: &Case) -> bool {
+    let (archive, first, second, rules, want) = *case;
     let world = World {
         archive,
         first,
@@ -252,9 +254,13 @@ fn what_is_there_has_its_plan(rt: HostRuntime) {
 
 /// How many actions the plan has where the first replica has this one new file, None where it is past a limit.
 fn actions_for(alloc: Global, line: &[u8]) -> Option<Option<usize>> {
-    let nothing = Print::empty(alloc);
-    let first = print_of(alloc, &[line])?;
-    match resume(alloc, &nothing, &first, &nothing, &Holds::none(alloc)) {
+    let world = World {
+        archive: &[],
+        first: &[line],
+        second: &[],
+        rules: b"",
+    };
+    match plan_for(alloc, &world)? {
         Ok(plan) => Some(Some(plan.actions.as_slice().len())),
         Err(ResumeFault::PastLimit) => Some(None),
         Err(_) => None,
