@@ -161,8 +161,7 @@ fn push_entry(alloc: Global, world: &World, draft: &mut Draft, item: Item) -> Re
     let entry = draft.items.len();
     let mut before = Vec::new(alloc);
     if let Some(dir) = draft.dir_above(item.spot) {
-        let mark = draft.steps.iter().position(|step| step.is(Deed::Mark, dir));
-        if let Some(mark) = mark {
+        if let Some(mark) = draft.place_of(Deed::Mark, dir) {
             before.push(mark)?;
         }
     }

@@ -9,6 +9,9 @@ const ACTION_LIMIT: usize = 1_048_576;
 
 const PRED_LIMIT: usize = 4_194_304;
 
+/// The offsets and lengths that a piece of these worlds can have.
+const RANGES: [(u64, u64); 4] = [(0, 1), (0, PIECE), (PIECE, 1), (PIECE, PIECE)];
+
 /// The rules, in the order in which they are asked.
 pub const RULES: [PlanRule; 12] = [
     PlanRule::Limits,
@@ -70,7 +73,7 @@ impl Step {
     }
 
     fn waits_for(&self, number: usize) -> bool {
-        self.preds.iter().any(|pred| *pred == number)
+        self.preds.contains(&number)
     }
 }
 
@@ -133,10 +136,10 @@ impl Draft {
 
     /// Whether an entry's path isn't greater than that of the entry before it.
     fn is_out_of_order(&self, place: usize) -> bool {
-        let before = place
-            .checked_sub(1)
-            .and_then(|number| self.items.get(number));
-        match (before, self.items.get(place)) {
+        if place == 0 {
+            return false;
+        }
+        match (self.items.get(place - 1), self.items.get(place)) {
             (Some(before), Some(item)) => before.spot >= item.spot,
             _ => false,
         }
@@ -150,13 +153,28 @@ impl Draft {
         }
     }
 
+    /// Whether a path is no entry, and so many entries have smaller paths.
+    fn is_missing_at(&self, spot: Spot, place: usize) -> bool {
+        let mut smaller: usize = 0;
+        for item in &self.items {
+            if item.spot == spot {
+                return false;
+            }
+            if item.spot < spot {
+                smaller = smaller.saturating_add(1);
+            }
+        }
+        smaller == place
+    }
+
     /// Whether a path with a reason is no entry, and so many entries have smaller paths.
     fn lacks_entry(&self, world: &World, place: usize) -> bool {
-        SPOTS.iter().any(|spot| {
-            world.reason_of(*spot).is_some()
-                && !self.items.iter().any(|item| item.spot == *spot)
-                && self.items.iter().filter(|item| item.spot < *spot).count() == place
-        })
+        for spot in SPOTS {
+            if world.reason_of(spot).is_some() && self.is_missing_at(spot, place) {
+                return true;
+            }
+        }
+        false
     }
 
     /// Whether an action waits for itself or a later one, or its predecessors don't ascend.
@@ -164,13 +182,35 @@ impl Draft {
         let Some(step) = self.steps.get(place) else {
             return false;
         };
-        let later = step.preds.iter().skip(1);
-        step.preds.iter().any(|pred| *pred >= place)
-            || step
-                .preds
-                .iter()
-                .zip(later)
-                .any(|(one, next)| *one >= *next)
+        // the least number that the next one may have
+        let mut least: usize = 0;
+        for pred in &step.preds {
+            if *pred >= place || *pred < least {
+                return true;
+            }
+            least = pred.saturating_add(1);
+        }
+        false
+    }
+
+    /// Where the deed for an entry stands first.
+    pub fn place_of(&self, deed: Deed, entry: usize) -> Option<usize> {
+        for (number, step) in self.steps.iter().enumerate() {
+            if step.is(deed, entry) {
+                return Some(number);
+            }
+        }
+        None
+    }
+
+    /// Where a piece of the same entry, path and offset as a range stands first.
+    fn place_of_piece(&self, entry: usize, range: &Range) -> Option<usize> {
+        for (number, step) in self.steps.iter().enumerate() {
+            if step.is_piece_at(entry, range) {
+                return Some(number);
+            }
+        }
+        None
     }
 
     /// The entry that a place behind the actions stands for.
@@ -187,14 +227,11 @@ impl Draft {
                 Some(item) => item.wants(deed),
                 None => false,
             };
-            let mut earlier = self.steps.iter().take(place);
             return step.deed == deed
-                && (!is_wanted || earlier.any(|other| other.is(deed, step.entry)));
+                && (!is_wanted || self.place_of(deed, step.entry) != Some(place));
         }
         match self.entry_of(place) {
-            Some((entry, item)) => {
-                item.wants(deed) && !self.steps.iter().any(|step| step.is(deed, entry))
-            }
+            Some((entry, item)) => item.wants(deed) && self.place_of(deed, entry).is_none(),
             None => false,
         }
     }
@@ -219,8 +256,7 @@ impl Draft {
             let Deed::Piece(range) = step.deed else {
                 return false;
             };
-            let mut earlier = self.steps.iter().take(place);
-            return earlier.any(|other| other.is_piece_at(step.entry, &range));
+            return self.place_of_piece(step.entry, &range) != Some(place);
         }
         match self.entry_of(place) {
             Some((entry, item)) => self.lacks_piece(world, entry, item),
@@ -228,23 +264,25 @@ impl Draft {
         }
     }
 
+    /// Whether an entry that has a range, if it has, lacks the piece of it.
+    fn lacks_range(&self, world: &World, entry: usize, item: &Item, range: &Range) -> bool {
+        item.has_range(world, range) && self.place_of_piece(entry, range).is_none()
+    }
+
     fn lacks_piece(&self, world: &World, entry: usize, item: &Item) -> bool {
-        SPOTS.iter().any(|spot| {
-            [0, PIECE].iter().any(|offset| {
-                [1, PIECE].iter().any(|length| {
-                    let range = Range {
-                        offset: *offset,
-                        length: *length,
-                        spot: *spot,
-                    };
-                    item.has_range(world, &range)
-                        && !self
-                            .steps
-                            .iter()
-                            .any(|step| step.is_piece_at(entry, &range))
-                })
-            })
-        })
+        for spot in SPOTS {
+            for (offset, length) in RANGES {
+                let range = Range {
+                    offset,
+                    length,
+                    spot,
+                };
+                if self.lacks_range(world, entry, item, &range) {
+                    return true;
+                }
+            }
+        }
+        false
     }
 
     /// Whether a commit doesn't wait for some piece of its entry.
@@ -252,11 +290,15 @@ impl Draft {
         let Some(step) = self.steps.get(place) else {
             return false;
         };
-        let mut pieces = self.steps.iter().enumerate();
-        step.deed == Deed::Commit
-            && pieces.any(|(number, other)| {
-                other.is_piece_of(step.entry) && !step.waits_for(number)
-            })
+        if step.deed != Deed::Commit {
+            return false;
+        }
+        for (number, other) in self.steps.iter().enumerate() {
+            if other.is_piece_of(step.entry) && !step.waits_for(number) {
+                return true;
+            }
+        }
+        false
     }
 
     /// Whether an action is a mark, and doesn't wait for the deed of an entry.
@@ -264,9 +306,15 @@ impl Draft {
         let Some(step) = self.steps.get(place) else {
             return false;
         };
-        let mut others = self.steps.iter().enumerate();
-        step.deed == Deed::Mark
-            && others.any(|(number, other)| { other.is(deed, entry) && !step.waits_for(number) })
+        if step.deed != Deed::Mark {
+            return false;
+        }
+        for (number, other) in self.steps.iter().enumerate() {
+            if other.is(deed, entry) && !step.waits_for(number) {
+                return true;
+            }
+        }
+        false
     }
 
     /// Whether a mark doesn't wait for its entry's commit.
@@ -289,18 +337,23 @@ impl Draft {
     }
 
     fn dir_at(&self, spot: Spot) -> Option<usize> {
-        self.items
-            .iter()
-            .position(|item| item.spot == spot && item.reason == Reason::Dir)
+        for (entry, item) in self.items.iter().enumerate() {
+            if item.spot == spot && item.reason == Reason::Dir {
+                return Some(entry);
+            }
+        }
+        None
     }
 
     /// Whether a mark doesn't wait for that of the new directory nearest above.
     fn is_before_its_dir(&self, place: usize) -> bool {
-        let item = self
-            .steps
-            .get(place)
-            .and_then(|step| self.items.get(step.entry));
-        match item.and_then(|item| self.dir_above(item.spot)) {
+        let Some(step) = self.steps.get(place) else {
+            return false;
+        };
+        let Some(item) = self.items.get(step.entry) else {
+            return false;
+        };
+        match self.dir_above(item.spot) {
             Some(dir) => self.is_mark_before(place, Deed::Mark, dir),
             None => false,
         }

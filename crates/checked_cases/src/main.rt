@@ -15,9 +15,10 @@ use cases::{Dice, break_one, crowd, plan_of};
 use draft::{Draft, RULES};
 use std::alloc::Global;
 use ts_check::{CheckFault, check};
-use ts_model::plan::PlanRule;
+use ts_hold::Holds;
+use ts_model::plan::{Plan, PlanRule};
 use world::World;
-use written::{holds_of, print_of, written};
+use written::{Prints, holds_of, prints_of, written};
 
 const CASES: u32 = 2_000;
 
@@ -39,18 +40,26 @@ fn is_same(found: Verdict, wanted: Verdict) -> bool
     }
 }
 
-/// What the checker says of a plan.
-fn checked(alloc: Global, world: &World, draft: &Draft) -> Result<Verdict> {
-    let archive = print_of(alloc, &world.archive)?;
-    let first = print_of(alloc, &world.first)?;
-    let second = print_of(alloc, &world.second)?;
-    let holds = holds_of(alloc, world)?;
-    let plan = written(alloc, draft)?;
-    match check(alloc, &plan, &archive, &first, &second, &holds) {
+/// What the checker says of a plan for these prints.
+fn asked(alloc: Global, plan: &Plan, prints: &Prints, holds: &Holds) -> Result<Verdict> {
+    let Prints {
+        archive,
+        first,
+        second,
+    } = prints;
+    match check(alloc, plan, archive, first, second, holds) {
         Ok(_) => Ok(None),
         Err(CheckFault::Broken { rule, place }) => Ok(Some((rule, place))),
         Err(fault) => bail!("{fault}"),
     }
+}
+
+/// What the checker says of a plan.
+fn checked(alloc: Global, world: &World, draft: &Draft) -> Result<Verdict> {
+    let plan = written(alloc, draft)?;
+    let holds = holds_of(alloc, world)?;
+    let prints = prints_of(alloc, world)?;
+    asked(alloc, &plan, &prints, &holds)
 }
 
 /// A plan for a world, valid or broken.

@@ -7,7 +7,7 @@ use ts_model::plan::Reason;
 pub const PIECE: u64 = 1_048_576;
 
 /// A path: the root, `/a`, `/a/a`, `/a/b`, `/b`, `/b/a` or `/b/b`. The order is that of paths.
-#[derive(Clone, Copy, Debug, PartialEq, Eq, PartialOrd, Ord)]
+#[derive(Clone, Copy, PartialEq, Eq, PartialOrd, Ord)]
 pub enum Spot {
     Root,
     A,
@@ -60,7 +60,7 @@ impl Spot {
 }
 
 /// What a file holds: nothing, one of two single bytes, a whole piece, or a piece and one byte more.
-#[derive(Clone, Copy, Debug, PartialEq, Eq)]
+#[derive(Clone, Copy, PartialEq, Eq)]
 pub enum Filling {
     Nothing,
     OneByte,
@@ -81,7 +81,7 @@ impl Filling {
 }
 
 /// What is at a path.
-#[derive(Clone, Copy, Debug, PartialEq, Eq)]
+#[derive(Clone, Copy, PartialEq, Eq)]
 pub enum Node {
     Absent,
     Dir,
@@ -99,7 +99,7 @@ impl Node {
 }
 
 /// What is at each path, in their order.
-#[derive(Clone, Copy, Debug)]
+#[derive(Clone, Copy)]
 pub struct Tree {
     pub nodes: [Node; 7],
 }
@@ -118,7 +118,7 @@ impl Tree {
 }
 
 /// An archive, two replicas, and the path that a hold rule names, if there is a rule.
-#[derive(Clone, Copy, Debug)]
+#[derive(Clone, Copy)]
 pub struct World {
     pub archive: Tree,
     pub first: Tree,
@@ -128,7 +128,12 @@ pub struct World {
 
 /// Whether two trees have something else at a path or below it.
 fn differ(one: &Tree, other: &Tree, spot: Spot) -> bool {
-    SPOTS.iter().any(|below| spot.is_above(*below) && one.at(*below) != other.at(*below))
+    for below in SPOTS {
+        if spot.is_above(below) && one.at(below) != other.at(below) {
+            return true;
+        }
+    }
+    false
 }
 
 impl World {

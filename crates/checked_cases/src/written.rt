@@ -22,7 +22,7 @@ fn digit_of(filling: Filling) -> u32 {
 }
 
 /// The print of a tree, read from its text.
-pub fn print_of(alloc: Global, tree: &Tree) -> Result<Print> {
+fn print_of(alloc: Global, tree: &Tree) -> Result<Print> {
     let mut reader = PrintReader::new(alloc);
     for spot in SPOTS {
         let text = spot.text();
@@ -38,6 +38,26 @@ pub fn print_of(alloc: Global, tree: &Tree) -> Result<Print> {
         reader.line(alloc, line.as_bytes())?;
     }
     Ok(reader.finish()?)
+}
+
+/// What a plan is made for: the archive's print and those of both replicas.
+#[derive(Drop)]
+pub struct Prints {
+    pub archive: Print,
+    pub first: Print,
+    pub second: Print,
+}
+
+/// The prints of a world.
+pub fn prints_of(alloc: Global, world: &World) -> Result<Prints> {
+    let archive = print_of(alloc, &world.archive)?;
+    let first = print_of(alloc, &world.first)?;
+    let second = print_of(alloc, &world.second)?;
+    Ok(Prints {
+        archive,
+        first,
+        second,
+    })
 }
 
 /// The hold rules of a world.
