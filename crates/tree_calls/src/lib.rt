@@ -1,10 +1,20 @@
-//! Calls of ts_tree with ample memory. A crate is proved a second time with its tests, so those that need nothing private
-//! of a library stand here.
+//! Calls with ample memory of ts_tree, ts_print, ts_scan, ts_disk and ts_trial. A crate is proved a second time with its
+//! tests, so those that need nothing private of a library stand here.
 #![tactic(auto)]
 
 #[cfg(test)]
+mod disks;
+#[cfg(test)]
 mod parts;
+#[cfg(test)]
+mod prints;
+#[cfg(test)]
+mod scans;
 #[cfg(test)]
 mod shared;
 #[cfg(test)]
+mod stamped;
+#[cfg(test)]
 mod trees;
+#[cfg(test)]
+mod trials;

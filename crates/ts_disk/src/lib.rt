@@ -16,6 +16,3 @@ pub use lock::{Lock, take_lock};
 pub use places::DiskPlaces;
 pub use recovery::{clear_leftovers, recover_replica};
 pub use site::DiskSite;
-
-#[cfg(test)]
-mod tests;

@@ -9,6 +9,3 @@ mod walk;
 
 pub use fault::{Refusal, ScanFault};
 pub use scanning::scan;
-
-#[cfg(test)]
-mod tests;

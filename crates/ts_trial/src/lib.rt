@@ -6,6 +6,3 @@ pub mod trials;
 
 pub use fault::TrialFault;
 pub use trials::trial;
-
-#[cfg(test)]
-mod tests;

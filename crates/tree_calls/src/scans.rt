@@ -1,45 +1,65 @@
 //! Scans of small folders with 1, 2 and 64 workers.
 ghost use Rattle.std.specs.Prelude.{◌≤◌};
 
-use crate::{Refusal, ScanFault, scan};
+use crate::shared::{path, tree_of};
 use std::alloc::Global;
-use std::process::Abort;
 use std::sync::atomic::{AtomicU64, Ordering};
-use std::test::Fail;
 use std::thread;
 use std::thread::Threads;
 use ts_folder::{Failing, FaultyFolder, Folder, FolderFault, Kind, MemFolder, Trouble};
 use ts_name::{Name, Path};
 use ts_print::Print;
+use ts_scan::{Refusal, ScanFault, scan};
 use ts_tree::{Tree, TreeReader};
 
-/// The tree that these lines spell.
-fn tree_of(alloc: Global, lines: &[&str]) -> Result<Tree, Fail> {
-    let mut reader = TreeReader::new(alloc);
-    for line in lines {
-        reader.line(alloc, line.as_bytes())?;
+/// Gives the reader a directory of this number in another, and ten files in it.
+fn takes_files(alloc: Global, reader: &mut TreeReader, first: u8, second: u8) -> bool {
+    if reader
+        .line(
+            alloc,
+            &[
+                b'd', b' ', b'/', b'd', b'1', first, b'/', b'e', b'1', second,
+            ],
+        )
+        .is_err()
+    {
+        return false;
     }
-    Ok(reader.finish()?)
+    for third in b'0'..=b'9' {
+        let line = [
+            b'f', b' ', b'/', b'd', b'1', first, b'/', b'e', b'1', second, b'/', b'f', b'1', third,
+            b' ', b'2',
+        ];
+        if reader.line(alloc, &line).is_err() {
+            return false;
+        }
+        if reader
+            .line(alloc, &[b'x', b' ', b'1', first, b'1', third])
+            .is_err()
+        {
+            return false;
+        }
+    }
+    true
 }
 
 /// Directories in directories, with 320 files in all.
-fn nested(alloc: Global) -> Result<Tree, Fail> {
+fn nested(alloc: Global) -> Option<Tree> {
     let mut reader = TreeReader::new(alloc);
-    for first in 10..18u8 {
-        let line = format!(in alloc; "d /d{first}")?;
-        reader.line(alloc, line.as_bytes())?;
-        for second in 10..14u8 {
-            let line = format!(in alloc; "d /d{first}/e{second}")?;
-            reader.line(alloc, line.as_bytes())?;
-            for third in 10..20u8 {
-                let line = format!(in alloc; "f /d{first}/e{second}/f{third} 2")?;
-                reader.line(alloc, line.as_bytes())?;
-                let line = format!(in alloc; "x {first}{third}")?;
-                reader.line(alloc, line.as_bytes())?;
+    for first in b'0'..b'8' {
+        if reader
+            .line(alloc, &[b'd', b' ', b'/', b'd', b'1', first])
+            .is_err()
+        {
+            return None;
+        }
+        for second in b'0'..b'4' {
+            if !takes_files(alloc, &mut reader, first, second) {
+                return None;
             }
         }
     }
-    Ok(reader.finish()?)
+    reader.finish().ok()
 }
 
 /// A folder that tells no tree and lists one directory `a` at every path.
@@ -142,98 +162,118 @@ impl Folder for Gate {
     }
 }
 
-/// The number of a scan's fault and the text of its path; 0 where there is a print.
-fn told<R: Threads + Sync, F: Folder + Sync>(
+/// Whether a scan is refused with the fault of this number at this path.
+fn refuses<R: Threads + Sync, F: Folder + Sync>(
     rt: &R,
     alloc: Global,
     folder: &F,
     workers: u32,
-) -> Result<(u8, Vec<u8>), Fail>
+    number: u8,
+    place: &Path,
+) -> bool
 where
     F::File: Send,
     requires some { 1 ≤ workers }
     requires few { workers ≤ 64 }
 {
-    let mut text = Vec::new(alloc);
     match scan(rt, alloc, folder, workers) {
-        Ok(_print) => Ok((0, text)),
-        Err(fault) => {
-            if let Some(path) = fault.path() {
-                path.write_text(&mut text)?;
-            }
-            Ok((fault.number(), text))
-        }
+        Ok(_) => false,
+        Err(fault) => fault.number() == number && fault.path() == Some(place),
     }
 }
 
-#[test]
-fn answers_the_print_of_the_tree(rt: HostRuntime) -> Result<(), Fail> {
-    let alloc = rt.alloc();
+/// The nested tree in memory, and its print.
+fn nested_folder(alloc: Global) -> Option<(MemFolder, Print)> {
     let tree = nested(alloc)?;
-    let wanted = Print::of_tree(alloc, &tree)?;
-    let folder = MemFolder::new(tree);
+    let print = Print::of_tree(alloc, &tree).ok()?;
+    Some((MemFolder::new(tree), print))
+}
+
+#[test]
+fn answers_the_print_of_the_tree(rt: HostRuntime) {
+    let alloc = rt.alloc();
+    let Some((folder, wanted)) = nested_folder(alloc) else {
+        panic!(rt; "no folder");
+    };
     let root = Path::root(alloc);
-    assert_eq!(rt; wanted.rows().len(), 360);
+    assert!(rt; wanted.rows().len() == 360);
     for workers in [1, 2, 64] {
-        let print = scan(&rt, alloc, &folder, workers)?;
+        let Ok(print) = scan(&rt, alloc, &folder, workers) else {
+            panic!(rt; "no print by {workers}");
+        };
         assert!(rt; print.sub_eq(&wanted, &root), "{workers}");
     }
-    Ok(())
 }
 
-#[test]
-fn tells_the_first_fault_in_path_order(rt: HostRuntime) -> Result<(), Fail> {
-    let alloc = rt.alloc();
-    let tree = tree_of(
-        alloc,
-        &["f /a 1", "x 61", "f /b 1", "x 62", "f /c 1", "x 63"],
-    )?;
+/// The files `/a`, `/b` and `/c`, where the device fails at the first and the last.
+fn faulty(alloc: Global) -> Option<FaultyFolder> {
+    let tree = tree_of(alloc, b"f /a 1\nx 61\nf /b 1\nx 62\nf /c 1\nx 63\n")?;
     let mut reads = Vec::new(alloc);
     for text in ["/a", "/c"] {
-        reads.push(Failing {
-            path: Path::parse_text(alloc, text.as_bytes())?,
-            trouble: Trouble::Device,
-        })?;
+        let path = path(alloc, text)?;
+        let trouble = Trouble::Device;
+        reads.push(Failing { path, trouble }).ok()?;
     }
-    let folder = FaultyFolder::new(MemFolder::new(tree), Vec::new(alloc), reads);
-    for workers in [1, 2, 64] {
-        let (number, text) = told(&rt, alloc, &folder, workers)?;
-        assert_eq!(rt; number, 8, "{workers}");
-        assert_eq!(rt; text.as_slice(), b"/a".as_slice(), "{workers}");
-    }
-    Ok(())
+    Some(FaultyFolder::new(MemFolder::new(tree), Vec::new(alloc), reads))
 }
 
 #[test]
-fn tells_a_path_that_is_too_deep(rt: HostRuntime) -> Result<(), Fail> {
+fn tells_the_first_fault_in_path_order(rt: HostRuntime) {
     let alloc = rt.alloc();
-    let top = MemFolder::new(tree_of(alloc, &["d /a"])?);
+    let (Some(folder), Some(place)) = (faulty(alloc), path(alloc, "/a")) else {
+        panic!(rt; "no folder");
+    };
+    for workers in [1, 2, 64] {
+        assert!(rt;
+            refuses(&rt, alloc, &folder, workers, 8, &place),
+            "{workers}"
+        );
+    }
+}
+
+/// The path of 64 names `a`.
+fn deepest(alloc: Global) -> Option<Path> {
+    let mut text = [b'a'; 128];
+    for at in 0..64 {
+        text[2 * at] = b'/';
+    }
+    Path::parse_text(alloc, &text).ok()
+}
+
+/// A folder in memory of these rows.
+fn folder_of(alloc: Global, text: &[u8]) -> Option<MemFolder> {
+    Some(MemFolder::new(tree_of(alloc, text)?))
+}
+
+#[test]
+fn tells_a_path_that_is_too_deep(rt: HostRuntime) {
+    let alloc = rt.alloc();
+    let (Some(top), Some(place)) = (folder_of(alloc, b"d /a\n"), deepest(alloc)) else {
+        panic!(rt; "no folder");
+    };
     let folder = Endless { top };
-    let mut deepest = Vec::new(alloc);
-    for _ in 0..64 {
-        deepest.extend_from_slice(b"/a".as_slice())?;
-    }
     for workers in [1, 2, 64] {
-        let (number, text) = told(&rt, alloc, &folder, workers)?;
-        assert_eq!(rt; number, 4, "{workers}");
-        assert_eq!(rt; text.as_slice(), deepest.as_slice(), "{workers}");
+        assert!(rt;
+            refuses(&rt, alloc, &folder, workers, 4, &place),
+            "{workers}"
+        );
     }
-    Ok(())
 }
 
 #[test]
-fn lists_two_directories_at_once(rt: HostRuntime) -> Result<(), Fail> {
+fn lists_two_directories_at_once(rt: HostRuntime) {
     let alloc = rt.alloc();
-    let gate = Gate::new(MemFolder::new(tree_of(alloc, &["d /a", "d /b"])?));
-    let (number, _text) = told(&rt, alloc, &gate, 2)?;
-    assert_eq!(rt; number, 0);
-    assert_eq!(rt; gate.late.load(Ordering::SeqCst), 0);
-    Ok(())
+    let Some(top) = folder_of(alloc, b"d /a\nd /b\n") else {
+        panic!(rt; "no folder");
+    };
+    let gate = Gate::new(top);
+    assert!(rt; scan(&rt, alloc, &gate, 2).is_ok());
+    assert!(rt; gate.late.load(Ordering::SeqCst) == 0);
 }
 
 #[test]
-fn numbers_its_faults(rt: HostRuntime) {
-    assert_eq!(rt; ScanFault::OutOfMemory.number(), 1);
+fn numbers_faults(rt: HostRuntime) {
+    assert!(rt; ScanFault::OutOfMemory.number() == 1);
     assert!(rt; ScanFault::OutOfMemory.path().is_none());
     for (fault, number) in [
         (Refusal::TooLong, 4),
@@ -241,6 +281,6 @@ fn numbers_its_faults(rt: HostRuntime) {
         (Refusal::NotThere, 9),
         (Refusal::Unreadable, 10),
     ] {
-        assert_eq!(rt; fault.number(), number);
+        assert!(rt; fault.number() == number, "{number}");
     }
 }

@@ -1,0 +1,136 @@
+//! Real folders, each test in one of its own below the system's place for such.
+use std::fs::{File, Files};
+use std::rt::Env;
+use std::{env, fs, process};
+use ts_disk::{DiskFault, recover_replica, take_lock};
+
+/// The place of a folder for the process of this number.
+fn ground<R: Env + AllocGlobal>(rt: &R, number: u32, name: &str) -> Option<String> {
+    let place = env::temp_dir(rt).ok()?;
+    format!(in rt.alloc(); "{}/twosync-{number}-{name}", place.as_str()).ok()
+}
+
+/// A plan whose entry 1 is at `/d/a`.
+const PLAN: &str = "twosync-plan 1\nentry conflict /c\nentry first /d/a\nend 2 0\n";
+
+/// Which of the target, the new and the old spot are taken, and what is then at the target.
+const RECOVERIES: [([bool; 3], Option<&str>); 8] = [
+    ([true, false, false], Some("t")),
+    ([true, true, false], Some("t")),
+    ([true, false, true], Some("t")),
+    ([false, false, false], None),
+    ([false, true, false], None),
+    ([false, false, true], None),
+    ([false, true, true], Some("o")),
+    ([true, true, true], Some("t")),
+];
+
+/// Makes a folder below the root.
+fn makes<R: Files + AllocGlobal>(rt: &R, root: &str, place: &str) -> bool {
+    match format!(in rt.alloc(); "{root}/{place}") {
+        Ok(at) => fs::create_dir(rt, at.as_str()).is_ok(),
+        Err(_) => false,
+    }
+}
+
+/// Writes a file below the root.
+fn writes<R: Files + AllocGlobal>(rt: &R, root: &str, place: &str, bytes: &str) -> bool {
+    match format!(in rt.alloc(); "{root}/{place}") {
+        Ok(at) => fs::write(rt, at.as_str(), bytes).is_ok(),
+        Err(_) => false,
+    }
+}
+
+/// Whether a file below the root has just these bytes, or is absent.
+fn has<R: Files + AllocGlobal>(rt: &R, root: &str, place: &str, want: Option<&str>) -> bool {
+    let Ok(at) = format!(in rt.alloc(); "{root}/{place}") else {
+        return false;
+    };
+    match want {
+        Some(bytes) => match fs::read_to_string(rt, at.as_str()) {
+            Ok(text) => text.as_str() == bytes,
+            Err(_) => false,
+        },
+        None => fs::exists(rt, at.as_str()).is_ok_and(|there| !there),
+    }
+}
+
+/// Makes a replica with the plan file, and a file at each of the spots that are taken.
+fn stops<R: Files + AllocGlobal>(rt: &R, root: &str, taken: [bool; 3]) -> bool {
+    let [target, new, old] = taken;
+    makes(rt, root, "")
+        && makes(rt, root, "d")
+        && makes(rt, root, ".twosync")
+        && writes(rt, root, ".twosync/plan", PLAN)
+        && (!target || writes(rt, root, "d/a", "t"))
+        && (!new || writes(rt, root, ".twosync/new-1", "n"))
+        && (!old || writes(rt, root, ".twosync/old-1", "o"))
+}
+
+/// Whether the target has just these bytes, or is absent, and no spot and no plan file is left.
+fn is_settled<R: Files + AllocGlobal>(rt: &R, root: &str, want: Option<&str>) -> bool {
+    has(rt, root, "d/a", want)
+        && has(rt, root, ".twosync/plan", None)
+        && has(rt, root, ".twosync/new-1", None)
+        && has(rt, root, ".twosync/old-1", None)
+}
+
+/// Whether a replica that was stopped is settled by its recovery.
+fn recovers<R: Files + AllocGlobal + Clone + Drop>(
+    rt: &R,
+    root: &str,
+    taken: [bool; 3],
+    want: Option<&str>,
+) -> bool {
+    stops(rt, root, taken)
+        && recover_replica(rt, rt.alloc(), root).is_ok()
+        && is_settled(rt, root, want)
+        && fs::remove_dir_all(rt, root).is_ok()
+}
+
+#[test]
+fn recovery_goes_by_what_is_there(rt: HostRuntime) {
+    let Some(root) = ground(&rt, process::id(rt.process()), "recovery") else {
+        panic!(rt; "no place");
+    };
+    for (taken, want) in RECOVERIES {
+        assert!(rt; recovers(&rt, root.as_str(), taken, want), "from {taken:?}");
+    }
+}
+
+/// What comes of taking the lock, which is let go at once: whether there is a replica, or the fault.
+fn taken<R: Files<File = File> + AllocGlobal>(rt: &R, root: &str) -> Result<bool, DiskFault> {
+    match take_lock(rt, rt.alloc(), root) {
+        Ok(lock) => Ok(lock.is_some()),
+        Err(fault) => Err(fault),
+    }
+}
+
+#[test]
+fn one_run_at_a_time_has_the_lock(rt: HostRuntime) {
+    let Some(root) = ground(&rt, process::id(rt.process()), "lock") else {
+        panic!(rt; "no place");
+    };
+    let root = root.as_str();
+    assert!(rt; fs::create_dir(&rt, root).is_ok());
+    let Ok(Some(held)) = take_lock(&rt, rt.alloc(), root) else {
+        panic!(rt; "no lock");
+    };
+    assert!(rt; taken(&rt, root) == Err(DiskFault::Locked));
+    drop(held);
+    assert!(rt; taken(&rt, root) == Ok(true));
+    assert!(rt; fs::remove_dir_all(&rt, root).is_ok());
+    assert!(rt; taken(&rt, root) == Ok(false));
+}
+
+#[test]
+fn numbers_faults(rt: HostRuntime) {
+    for (fault, number) in [
+        (DiskFault::OutOfMemory, 1),
+        (DiskFault::Failed, 5),
+        (DiskFault::Device, 8),
+        (DiskFault::Locked, 8),
+    ] {
+        assert!(rt; fault.number() == number, "{number}");
+    }
+}
