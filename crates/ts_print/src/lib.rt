@@ -23,6 +23,3 @@ pub use sub_print::SubPrint;
 pub use ts_model::plan::{Action, Entry, Kind, Plan, PlanRule, Reason, Side};
 pub use ts_model::row::Stamp;
 pub use walk::Walk;
-
-#[cfg(test)]
-mod tests;
