@@ -175,7 +175,7 @@ const BUNDLE: &[u8] =
     b"twosync-bundle 1\narchive\nd /a\nfirst\nsecond\nholds\nplan\ntwosync-plan 1\nend 0 0\n";
 
 /// Texts that spell no bundle.
-const OTHER_TEXTS: [&[u8]; 11] = [
+const OTHER_TEXTS: &[&[u8]] = &[
     b"",
     b"twosync-bundle 2\narchive\nfirst\nsecond\nholds\nplan\ntwosync-plan 1\nend 0 0\n",
     b"twosync-bundle 1\narchives\nfirst\nsecond\nholds\nplan\ntwosync-plan 1\nend 0 0\n",
@@ -193,7 +193,7 @@ const OTHER_TEXTS: [&[u8]; 11] = [
 fn refuses_other_texts(rt: HostRuntime) {
     assert!(rt; number_of(rt.alloc(), whole(BUNDLE)) == 0);
     for text in OTHER_TEXTS {
-        assert!(rt; number_of(rt.alloc(), whole(text)) == 17, "{text:?}");
+        assert!(rt; number_of(rt.alloc(), whole(*text)) == 17, "{text:?}");
     }
 }
 

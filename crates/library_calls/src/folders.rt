@@ -62,25 +62,21 @@ fn is_answer(got: Option<Result<Vec<u8>, u8>>, want: Result<&[u8], u8>) -> bool 
     }
 }
 
+/// A directory, and the names in it, drawn, or the number of the fault.
+type List = (&'static str, Result<&'static [u8], u8>);
+
+/// A file, an offset and a length, and the bytes there, or the number of the fault.
+type Reading = (&'static str, u64, u32, Result<&'static [u8], u8>);
+
 /// Lists each directory, and asserts what is told.
-fn assert_lists<F: Folder>(
-    rt: &impl Abort,
-    alloc: Global,
-    folder: &F,
-    cases: &[(&str, Result<&[u8], u8>)],
-) {
+fn assert_lists<F: Folder>(rt: &impl Abort, alloc: Global, folder: &F, cases: &[List]) {
     for (text, want) in cases {
         assert!(rt; is_answer(listed(alloc, folder, *text), *want), "at {text}");
     }
 }
 
 /// Reads each file from an offset on, and asserts what is told.
-fn assert_reads<F: Folder>(
-    rt: &impl Abort,
-    alloc: Global,
-    folder: &F,
-    cases: &[(&str, u64, u32, Result<&[u8], u8>)],
-) {
+fn assert_reads<F: Folder>(rt: &impl Abort, alloc: Global, folder: &F, cases: &[Reading]) {
     for (text, offset, len, want) in cases {
         assert!(rt;
             is_answer(bytes(alloc, folder, *text, *offset, *len), *want),
@@ -89,30 +85,34 @@ fn assert_reads<F: Folder>(
     }
 }
 
+/// What the directories of the small folder list.
+const SMALL_LISTS: &[List] = &[
+    ("", Ok(b"/a:c")),
+    ("/a", Ok(b":b")),
+    ("/c", Err(9)),
+    ("/a/b", Err(9)),
+    ("/x", Err(9)),
+];
+
+/// What its files read as.
+const SMALL_READS: &[Reading] = &[
+    ("/a", 0, 1, Err(9)),
+    ("", 0, 1, Err(9)),
+    ("/x", 0, 1, Err(9)),
+    ("/c", 0, 5, Ok(b"b")),
+    ("/c", 1, 5, Ok(b"")),
+    ("/c", u64::MAX, 5, Ok(b"")),
+    ("/a/b", 0, 0, Ok(b"")),
+];
+
 #[test]
 fn lists_and_reads_in_memory(rt: HostRuntime) {
     let alloc = rt.alloc();
     let Some(folder) = small(alloc) else {
         panic!(rt; "no folder");
     };
-    let lists: [(&str, Result<&[u8], u8>); 5] = [
-        ("", Ok(b"/a:c")),
-        ("/a", Ok(b":b")),
-        ("/c", Err(9)),
-        ("/a/b", Err(9)),
-        ("/x", Err(9)),
-    ];
-    assert_lists(&rt, alloc, &folder, &lists);
-    let reads: [(&str, u64, u32, Result<&[u8], u8>); 7] = [
-        ("/a", 0, 1, Err(9)),
-        ("", 0, 1, Err(9)),
-        ("/x", 0, 1, Err(9)),
-        ("/c", 0, 5, Ok(b"b")),
-        ("/c", 1, 5, Ok(b"")),
-        ("/c", u64::MAX, 5, Ok(b"")),
-        ("/a/b", 0, 0, Ok(b"")),
-    ];
-    assert_reads(&rt, alloc, &folder, &reads);
+    assert_lists(&rt, alloc, &folder, SMALL_LISTS);
+    assert_reads(&rt, alloc, &folder, SMALL_READS);
     assert!(rt; folder.rows().len() == 3);
 }
 
@@ -129,30 +129,27 @@ fn faulty(alloc: Global) -> Option<FaultyFolder> {
     Some(FaultyFolder::new(small(alloc)?, lists, reads))
 }
 
+/// What the directories of the failing folder list.
+const FAULTY_LISTS: &[List] = &[("", Ok(b"/a:c")), ("/a", Err(10)), ("/c", Err(9))];
+
+/// What its files read as.
+const FAULTY_READS: &[Reading] = &[("/c", 0, 5, Err(8)), ("/a/b", 0, 5, Ok(b"a"))];
+
 #[test]
 fn fails_where_told(rt: HostRuntime) {
     let alloc = rt.alloc();
     let Some(folder) = faulty(alloc) else {
         panic!(rt; "no folder");
     };
-    let lists: [(&str, Result<&[u8], u8>); 3] = [
-        ("", Ok(b"/a:c")),
-        ("/a", Err(10)),
-        ("/c", Err(9)),
-    ];
-    assert_lists(&rt, alloc, &folder, &lists);
-    let reads: [(&str, u64, u32, Result<&[u8], u8>); 2] = [
-        ("/c", 0, 5, Err(8)),
-        ("/a/b", 0, 5, Ok(b"a")),
-    ];
-    assert_reads(&rt, alloc, &folder, &reads);
+    assert_lists(&rt, alloc, &folder, FAULTY_LISTS);
+    assert_reads(&rt, alloc, &folder, FAULTY_READS);
 }
 
 /// A folder of the test's own, where it runs.
 const ROOT: &str = "folder_on_disk";
 
 /// Directories of the folder on the disk, the root first.
-const DIRS: [&str; 8] = [
+const DIRS: &[&str] = &[
     "folder_on_disk",
     "folder_on_disk/d",
     "folder_on_disk/d/e",
@@ -164,7 +161,7 @@ const DIRS: [&str; 8] = [
 ];
 
 /// Its small files, each of the one byte `x`.
-const FILES: [&str; 5] = [
+const FILES: &[&str] = &[
     "folder_on_disk/d/a b",
     "folder_on_disk/d/a%",
     "folder_on_disk/d/a\n",
@@ -174,7 +171,7 @@ const FILES: [&str; 5] = [
 
 fn makes_dirs<R: Files>(files: &R) -> bool {
     for name in DIRS {
-        if fs::create_dir(files, name).is_err() {
+        if fs::create_dir(files, *name).is_err() {
             return false;
         }
     }
@@ -183,7 +180,7 @@ fn makes_dirs<R: Files>(files: &R) -> bool {
 
 fn makes_files<R: Files>(files: &R) -> bool {
     for name in FILES {
-        if fs::write(files, name, "x").is_err() {
+        if fs::write(files, *name, "x").is_err() {
             return false;
         }
     }
@@ -207,37 +204,41 @@ fn large_bytes(alloc: Global) -> Option<Vec<u8>> {
     Some(bytes)
 }
 
+/// What the directories on the disk list.
+const DISK_LISTS: &[List] = &[
+    ("", Err(10)),
+    ("/d", Ok(b":a\n:a b:a%/e:\xc3\xa4")),
+    ("/d/e/f", Ok(b"")),
+    ("/own", Err(10)),
+    ("/linked", Err(10)),
+    ("/linked/to_d", Err(10)),
+    ("/linked/to_d/e", Err(10)),
+    ("/empty", Err(9)),
+    ("/none", Err(9)),
+];
+
 /// Lists what is on the disk.
 fn assert_lists_of_disk<F: Folder>(rt: &impl Abort, alloc: Global, folder: &F) {
-    let lists: [(&str, Result<&[u8], u8>); 9] = [
-        ("", Err(10)),
-        ("/d", Ok(b":a\n:a b:a%/e:\xc3\xa4")),
-        ("/d/e/f", Ok(b"")),
-        ("/own", Err(10)),
-        ("/linked", Err(10)),
-        ("/linked/to_d", Err(10)),
-        ("/linked/to_d/e", Err(10)),
-        ("/empty", Err(9)),
-        ("/none", Err(9)),
-    ];
-    assert_lists(rt, alloc, folder, &lists);
+    assert_lists(rt, alloc, folder, DISK_LISTS);
 }
+
+/// What the small files on the disk read as.
+const DISK_READS: &[Reading] = &[
+    ("/d/a%20b", 0, 2, Ok(b"x")),
+    ("/d/a%25", 0, 2, Ok(b"x")),
+    ("/d/a%0A", 0, 2, Ok(b"x")),
+    ("/d/ä", 1, 2, Ok(b"")),
+    ("/empty", 0, 1, Ok(b"")),
+    ("/d", 0, 1, Err(9)),
+    ("/d/a%20b/c", 0, 1, Err(9)),
+    ("/linked/to_d", 0, 1, Err(10)),
+    ("/linked/to_d/ä", 0, 1, Err(10)),
+    ("/large", u64::MAX, 1, Ok(b"")),
+];
 
 /// Reads the small files on the disk.
 fn assert_reads_of_disk<F: Folder>(rt: &impl Abort, alloc: Global, folder: &F) {
-    let reads: [(&str, u64, u32, Result<&[u8], u8>); 10] = [
-        ("/d/a%20b", 0, 2, Ok(b"x")),
-        ("/d/a%25", 0, 2, Ok(b"x")),
-        ("/d/a%0A", 0, 2, Ok(b"x")),
-        ("/d/ä", 1, 2, Ok(b"")),
-        ("/empty", 0, 1, Ok(b"")),
-        ("/d", 0, 1, Err(9)),
-        ("/d/a%20b/c", 0, 1, Err(9)),
-        ("/linked/to_d", 0, 1, Err(10)),
-        ("/linked/to_d/ä", 0, 1, Err(10)),
-        ("/large", u64::MAX, 1, Ok(b"")),
-    ];
-    assert_reads(rt, alloc, folder, &reads);
+    assert_reads(rt, alloc, folder, DISK_READS);
 }
 
 /// Reads the large file.
@@ -270,8 +271,12 @@ fn lists_and_reads_on_a_disk(rt: HostRuntime) {
     };
     assert_lists_of_disk(&rt, alloc, &folder);
     assert!(rt; fs::remove_file(&rt, "folder_on_disk/z").is_ok());
-    let root: [(&str, Result<&[u8], u8>); 1] = [("", Ok(b"/d:empty:large/linked/own"))];
-    assert_lists(&rt, alloc, &folder, &root);
+    assert_lists(
+        &rt,
+        alloc,
+        &folder,
+        &[("", Ok(b"/d:empty:large/linked/own"))],
+    );
     assert_reads_of_disk(&rt, alloc, &folder);
     assert_reads_of_large(&rt, alloc, &folder, &large);
     assert!(rt; fs::remove_dir_all(&rt, ROOT).is_ok());

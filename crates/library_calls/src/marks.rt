@@ -104,26 +104,33 @@ const EIGHTS: &[u8] = b"f /a 1 0808080808080808080808080808080808080808080808080
 
 const LONGER: &[u8] = b"f /a 2 0707070707070707070707070707070707070707070707070707070707070707";
 
-/// What the marks say of `/a`, where the archive and the first replica have these lines.
+/// What the marks say of `/a`, where the second replica is like the archive.
+fn drawn_between(alloc: Global, archive: &Print, first: &Print) -> Option<[u8; 6]> {
+    let marks = detect(alloc, archive, first, archive, &Holds::none(alloc)).ok();
+    drawn_at(alloc, &marks, "/a")
+}
+
+/// The same, where the archive and the first replica have these lines.
 fn differing(alloc: Global, archive: &[&[u8]], first: &[&[u8]]) -> Option<[u8; 6]> {
     let archive = print_of(alloc, archive)?;
     let first = print_of(alloc, first)?;
-    let marks = detect(alloc, &archive, &first, &archive, &Holds::none(alloc)).ok()?;
-    Some(drawn(&marks, &path(alloc, "/a")?))
+    drawn_between(alloc, &archive, &first)
 }
+
+/// Lines of the archive and of the first replica that differ.
+const DIFFERENT: &[(&[&[u8]], &[&[u8]])] = &[
+    (&[b"d /a"], &[]),
+    (&[], &[b"d /a"]),
+    (&[SEVENS], &[b"d /a"]),
+    (&[SEVENS], &[LONGER]),
+    (&[SEVENS], &[EIGHTS]),
+];
 
 #[test]
 fn contents_differ_by_kind_size_or_digest(rt: HostRuntime) {
-    let cases: [(&[&[u8]], &[&[u8]]); 5] = [
-        (&[b"d /a"], &[]),
-        (&[], &[b"d /a"]),
-        (&[SEVENS], &[b"d /a"]),
-        (&[SEVENS], &[LONGER]),
-        (&[SEVENS], &[EIGHTS]),
-    ];
-    for (archive, first) in cases {
+    for (archive, first) in DIFFERENT {
         assert!(rt;
-            differing(rt.alloc(), archive, first) == Some(*b"1-f---"),
+            differing(rt.alloc(), *archive, *first) == Some(*b"1-f---"),
             "{archive:?} {first:?}"
         );
     }
