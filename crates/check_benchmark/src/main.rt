@@ -11,7 +11,7 @@ use std::alloc::Global;
 use std::rt::{Clock, Env, Files};
 use std::time::{Duration, Instant};
 use std::{env, fs};
-use ts_check::{CheckFault, check};
+use ts_check::{CheckFault, Checked, check};
 use ts_hold::Holds;
 use ts_model::items::Items;
 use ts_model::plan::{Action, Entry, Kind, Plan, Reason};
@@ -179,11 +179,20 @@ fn more(before: Option<u64>, after: Option<u64>) -> Option<u64>
     Some(after?.saturating_sub(before?))
 }
 
+/// How many actions a plan has, which has to be valid.
+fn actions_of(answer: Result<Checked<'_>, CheckFault>) -> Result<u32> {
+    match answer {
+        Ok(checked) => Ok(checked.action_count()),
+        Err(CheckFault::Broken { rule, place }) => bail!("{rule:?} is broken at {place}"),
+        Err(fault) => bail!("{fault}"),
+    }
+}
+
 /// Checks a plan, which has to be valid.
 fn judge<R: Clock + Files + AllocGlobal>(rt: &R, work: &Work) -> Result<Measured> {
     let alloc = rt.alloc();
-    let archive = ts_print::Print::empty(alloc);
     let holds = Holds::parse(alloc, b"path /held\nname *.part\n")?;
+    let archive = ts_print::Print::empty(alloc);
     let before = held(rt);
     let start = Instant::now(rt)?;
     let answer = check(
@@ -194,17 +203,14 @@ fn judge<R: Clock + Files + AllocGlobal>(rt: &R, work: &Work) -> Result<Measured
         &work.second,
         &holds,
     );
-    let took = start.elapsed(rt)?;
+    let took = start.elapsed(rt);
     let after = held(rt);
-    match answer {
-        Ok(checked) => Ok(Measured {
-            actions: checked.action_count(),
-            took,
-            held: more(before, after),
-        }),
-        Err(CheckFault::Broken { rule, place }) => bail!("{rule:?} is broken at {place}"),
-        Err(fault) => bail!("{fault}"),
-    }
+    let actions = actions_of(answer)?;
+    Ok(Measured {
+        actions,
+        took: took?,
+        held: more(before, after),
+    })
 }
 
 /// What is asked for.
@@ -247,22 +253,33 @@ fn tell(rt: &impl Print, title: &str, measured: &Measured, is_asked: bool) -> Re
     Ok(())
 }
 
+/// Checks files side by side, and says what came of it.
+fn judge_wide<R>(rt: &R, count: u32, is_asked: bool) -> Result<()>
+where
+    R: Clock + Files + Print + AllocGlobal,
+{
+    let work = wide(rt.alloc(), count)?;
+    let measured = judge(rt, &work)?;
+    tell(rt, "side by side", &measured, is_asked)
+}
+
+/// Checks files in a chain of directories, and says what came of it.
+fn judge_deep<R>(rt: &R, count: u32, is_asked: bool) -> Result<()>
+where
+    R: Clock + Files + Print + AllocGlobal,
+{
+    let work = deep(rt.alloc(), count)?;
+    let measured = judge(rt, &work)?;
+    tell(rt, "in a chain", &measured, is_asked)
+}
+
 fn main(rt: HostRuntime) -> Result<()> {
-    let alloc = rt.alloc();
     match wanted(&rt)? {
         Asked::Nothing => {
-            let side_by_side = judge(&rt, &wide(alloc, FEW)?)?;
-            tell(&rt, "side by side", &side_by_side, false)?;
-            let chain = judge(&rt, &deep(alloc, FEW)?)?;
-            tell(&rt, "in a chain", &chain, false)
+            judge_wide(&rt, FEW, false)?;
+            judge_deep(&rt, FEW, false)
         }
-        Asked::Wide(count) => {
-            let measured = judge(&rt, &wide(alloc, count)?)?;
-            tell(&rt, "side by side", &measured, true)
-        }
-        Asked::Deep(count) => {
-            let measured = judge(&rt, &deep(alloc, count)?)?;
-            tell(&rt, "in a chain", &measured, true)
-        }
+        Asked::Wide(count) => judge_wide(&rt, count, true),
+        Asked::Deep(count) => judge_deep(&rt, count, true),
     }
 }
