@@ -9,7 +9,6 @@ use std::rt::{Clock, Env, Files};
 use std::time::{Duration, Instant};
 use std::{env, fs};
 use ts_name::Path;
-use ts_plan::PlanReader;
 use ts_print::PrintReader;
 use ts_text::{Counted, Lines};
 
@@ -82,20 +81,37 @@ fn more(before: Option<u64>, after: Option<u64>) -> Option<u64> {
     Some(after?.saturating_sub(before?))
 }
 
+/// The text of an archive, and how long writing it took.
+fn write_archive<R>(rt: &R, print: &ts_print::Print) -> Result<(Vec<u8>, Duration)>
+where
+    R: Clock + AllocGlobal,
+{
+    let mut sink = Counted::new(Vec::new(rt.alloc()));
+    let start = Instant::now(rt)?;
+    ts_archive::encode(rt.alloc(), print, &mut sink)?;
+    let took = start.elapsed(rt)?;
+    Ok((sink.into_inner(), took))
+}
+
+/// The archive that a text spells, and how long reading it took.
+fn read_archive<R>(rt: &R, text: &[u8]) -> Result<(ts_print::Print, Duration)>
+where
+    R: Clock + AllocGlobal,
+{
+    let start = Instant::now(rt)?;
+    let mut lines = Lines::new(rt.alloc(), Counted::new(text))?;
+    let print = ts_archive::decode(rt.alloc(), &mut lines)?;
+    let took = start.elapsed(rt)?;
+    Ok((print, took))
+}
+
 /// Writes and reads the archive of so many paths.
 fn archive<R: Clock + Files + AllocGlobal>(rt: &R, paths: u32) -> Result<Measured> {
     let alloc = rt.alloc();
     let print = print_of(alloc, paths)?;
-    let mut sink = Counted::new(Vec::new(alloc));
-    let start = Instant::now(rt)?;
-    ts_archive::encode(alloc, &print, &mut sink)?;
-    let written = start.elapsed(rt)?;
-    let text = sink.into_inner();
+    let (text, written) = write_archive(rt, &print)?;
     let before = held(rt);
-    let start = Instant::now(rt)?;
-    let mut lines = Lines::new(alloc, Counted::new(text.as_slice()))?;
-    let again = ts_archive::decode(alloc, &mut lines)?;
-    let read = start.elapsed(rt)?;
+    let (again, read) = read_archive(rt, text.as_slice())?;
     Ok(Measured {
         bytes: text.len(),
         is_same: again.sub_eq(&print, &Path::root(alloc)),
@@ -105,27 +121,49 @@ fn archive<R: Clock + Files + AllocGlobal>(rt: &R, paths: u32) -> Result<Measure
     })
 }
 
-/// Reads and writes a plan of so many actions.
-fn plan<R: Clock + Files + AllocGlobal>(rt: &R, actions: u32) -> Result<Measured> {
+/// A plan read from its text and written again: the text, and how long each took.
+#[derive(Drop)]
+struct Again {
+    text: Vec<u8>,
+    read: Duration,
+    written: Duration,
+    /// How many KiB more the process held after reading, where the system tells it.
+    held: Option<u64>,
+}
+
+/// Reads a plan and writes it again.
+fn read_and_write<R: Clock + Files + AllocGlobal>(rt: &R, text: &[u8]) -> Result<Again> {
     let alloc = rt.alloc();
-    let text = plan_text(alloc, actions)?;
     let before = held(rt);
     let start = Instant::now(rt)?;
-    let mut lines = Lines::new(alloc, Counted::new(text.as_slice()))?;
-    let plan = ts_plan::decode(alloc, &mut lines)?;
+    let plan = {
+        let mut lines = Lines::new(alloc, Counted::new(text))?;
+        ts_plan::decode(alloc, &mut lines)?
+    };
     let read = start.elapsed(rt)?;
     let after = held(rt);
     let mut sink = Counted::new(Vec::new(alloc));
     let start = Instant::now(rt)?;
     ts_plan::encode(alloc, &plan, &mut sink)?;
     let written = start.elapsed(rt)?;
-    let again = sink.into_inner();
+    Ok(Again {
+        text: sink.into_inner(),
+        read,
+        written,
+        held: more(before, after),
+    })
+}
+
+/// Reads and writes a plan of so many actions.
+fn plan<R: Clock + Files + AllocGlobal>(rt: &R, actions: u32) -> Result<Measured> {
+    let text = plan_text(rt.alloc(), actions)?;
+    let again = read_and_write(rt, text.as_slice())?;
     Ok(Measured {
         bytes: text.len(),
-        is_same: again.as_slice() == text.as_slice(),
-        written,
-        read,
-        held: more(before, after),
+        is_same: again.text.as_slice() == text.as_slice(),
+        written: again.written,
+        read: again.read,
+        held: again.held,
     })
 }
 
