@@ -14,8 +14,7 @@ use Rattle.ts_exec.specs.Failures.{Setting}
 use Rattle.ts_exec.specs.Outcomes.{IsOutcome}
 use Rattle.ts_exec.specs.declared.outcome.ActionResult.{ActionResult}
 use Rattle.ts_exec.specs.declared.outcome.ActionResult.TheVariants.{Done}
-use Rattle.ts_board.proofs.Words.{few_open}
-use Rattle.ts_exec.proofs.Closing.{done_word, weight}
+use Rattle.ts_board.proofs.Words.{done_word, few_open, weight}
 
 -- so do the words
 pub words_done : {S : Type 0} {content : S → Option (Listing (List ℕ))} {x : Setting} {t : Terms} {results : List ActionResult} {words : List ℕ} {slots : List (Slot S)} (k : Checkup)
