@@ -36,8 +36,7 @@ found : (plan : Plan) (actions : List Action) → plan.actions ≡ actions → (
 unfolding IsPiece entry_in
 found plan actions h c e k commit piece =
     let same : Commit piece.entry ≡ Commit e = same_kind plan c (Commit piece.entry) (Commit e) piece.commit commit in
-    let kind = piece.piece.2 in
-    (
+    let kind = piece.piece.2 in (
       piece.piece.0,
       sym (ap (λ (l : List Action). slice_get l k) h) ∙ piece.piece.1,
       subst IsPiece (sym kind) tt,
@@ -114,4 +113,3 @@ module _ (plan : Plan) (h : plan.actions ≡ removal) where
   pub removal_commits : commit_count plan.actions ≡ 1
   unfolding removal
   removal_commits = ap commit_count h
-

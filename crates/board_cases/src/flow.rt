@@ -117,4 +117,3 @@ pub fn removal_case<R: Threads, S: Site>(
     let end = ended(alloc, checked, board, pass, 0)?;
     Ok((commit, made, end))
 }
-

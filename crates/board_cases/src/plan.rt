@@ -105,4 +105,3 @@ pub fn removal_plan(alloc: Global) -> Result<Plan>
         actions: Items::new(actions),
     })
 }
-

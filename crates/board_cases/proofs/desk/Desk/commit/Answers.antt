@@ -73,5 +73,5 @@ free-requires-clause-may g c κs within =
     let done = subst (λ (o : Option SiteFault). IfNone o ((w : Work) × (mine c.put-ended.new.pass ≡ mine c.look-taken.new.pass ++ Act held.action w ∷ Done held.action ∷ []))) c.in-None.is c.put-ended.ensures.done in
     put_may_free c.args.self.now.checked.now.plan (mine c.put-ended.new.pass) (b + 1) b (b + 2) done.0
     (put_after (mine c.args.pass.now) (mine c.claim.new.pass) (mine c.look-next.new.pass) (mine c.take-bytes.new.pass) (mine c.look-taken.new.pass) (mine c.put-ended.new.pass) (b + 1) c.in_ok-held.held.action b held.action done.0
-        c.requires.fresh won.1.2 (c.look-next.ensures.sees.1 ∙ c.look-claimed.ensures.sees.1) c.take-bytes.ensures.taken.2 c.look-taken.ensures.sees.1 done.1 won.0 same)
+    c.requires.fresh won.1.2 (c.look-next.ensures.sees.1 ∙ c.look-claimed.ensures.sees.1) c.take-bytes.ensures.taken.2 c.look-taken.ensures.sees.1 done.1 won.0 same)
     c.requires.file.mark_waits

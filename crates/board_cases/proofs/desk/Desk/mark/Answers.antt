@@ -27,4 +27,4 @@ returns-clause-won g c =
     let now = c.mark.new.self in let won = c.in_ok-held.ensures.won in
     c.look-ended.ensures.sees.1
     ∙ more_after (mine c.args.pass.now) (mine c.claim.new.pass) (mine c.look-claimed.new.pass) (mine c.done.new.pass) c.args.i now.action (work_of now) Marked
-        won.1.2 c.look-claimed.ensures.sees.1 c.done.ensures.done.2 (c.mark.ensures.action ∙ won.0) (ap work_in c.mark.ensures.slot ∙ c.in_ok-held.ensures.fresh.1)
+    won.1.2 c.look-claimed.ensures.sees.1 c.done.ensures.done.2 (c.mark.ensures.action ∙ won.0) (ap work_in c.mark.ensures.slot ∙ c.in_ok-held.ensures.fresh.1)

@@ -32,7 +32,7 @@ pub free-freed-requires-clause-may : goal.free-freed-requires-clause-may
 free-freed-requires-clause-may g c κs within =
     let d = c.args.self.now in let b = c.args.b in let now = c.stage.new.self in let won = c.in_ok-held.ensures.won in
     let own : mine c.look-ended.new.pass ≡ act_steps b (work_of now) =
-        c.look-ended.ensures.sees.1
-        ∙ acted_after (mine c.args.pass.now) (mine c.claim.new.pass) (mine c.look-next.new.pass) (mine c.done.new.pass) b now.action (work_of now)
-            c.requires.fresh won.1.2 (c.look-next.ensures.sees.1 ∙ c.look-claimed.ensures.sees.1) c.done.ensures.done.2 (c.stage.ensures.action ∙ won.0) in
+    c.look-ended.ensures.sees.1
+    ∙ acted_after (mine c.args.pass.now) (mine c.claim.new.pass) (mine c.look-next.new.pass) (mine c.done.new.pass) b now.action (work_of now)
+    c.requires.fresh won.1.2 (c.look-next.ensures.sees.1 ∙ c.look-claimed.ensures.sees.1) c.done.ensures.done.2 (c.stage.ensures.action ∙ won.0) in
     may_free d.checked.now.plan (mine c.look-ended.new.pass) b (b + 1) (work_of now) own c.requires.file.commit_waits
