@@ -31,6 +31,12 @@ use ts_tree::SubTree;
 /// The print of a replica whose one file `/a` has the byte `a`.
 const FILE: &str = "f /a 1 ca978112ca1bbdcafac231b39a23dc4da786eff8147c4e72b9807785afee48bb";
 
+/// The words after a new file was copied over memory: a piece that is taken, and a commit and a mark that are done.
+const COPIED: &[u64] = &[47_244_640_256, 12_884_901_888, 12_884_901_888];
+
+/// How often two threads race once more for each action of a new file.
+const RACES: u32 = 200;
+
 /// The number of the site's fault; 0 where it met none.
 fn fault_of(seen: &Option<Seen>) -> u8 {
     match seen {
@@ -122,6 +128,46 @@ fn faulty_case<R: Threads + Print>(rt: &R, checked: &Checked<'_>, alloc: Global)
     Ok(())
 }
 
+/// Whether a file with the byte `a` is at a site.
+fn is_first_byte(alloc: Global, site: &SubTree) -> bool {
+    match site.get(&Path::root(alloc)) {
+        Content::File(bytes) => bytes == b"a".as_slice(),
+        Content::Dir | Content::Absent => false,
+    }
+}
+
+/// Whether the words, the archive and the site are those of a file that was copied, after one more race for each action.
+fn is_copied_again<R: Threads>(rt: &R, checked: &Checked<'_>, alloc: Global) -> Result<bool>
+    requires { IsWorked checked.now.plan.actions }
+{
+    let sites = vec![in alloc; MemSite::new(SubTree::absent(alloc))]?;
+    let (_, end) = worked_case(rt, alloc, checked, sites, b'a')?;
+    let End {
+        words,
+        archive,
+        site,
+        ..
+    } = end;
+    let is_put = match site {
+        Some(site) => is_first_byte(alloc, &site.into_content()),
+        None => false,
+    };
+    Ok(is_put && words.as_slice() == COPIED && archive.rows().len() == 1)
+}
+
+/// Races again, and says whether each ended as it had to.
+fn tell_races<R: Threads + Print>(rt: &R, checked: &Checked<'_>, alloc: Global) -> Result<()>
+    requires { IsWorked checked.now.plan.actions }
+{
+    for race in 0..RACES {
+        if !is_copied_again(rt, checked, alloc)? {
+            bail!("race {race} ended otherwise");
+        }
+    }
+    println!(rt; "-- {RACES} more races over memory end alike")?;
+    Ok(())
+}
+
 /// The cases in which a new file is copied.
 fn tell_cases<R: Threads + Print>(rt: &R, checked: &Checked<'_>, alloc: Global) -> Result<()>
     requires { IsWorked checked.now.plan.actions }
@@ -133,7 +179,8 @@ fn tell_cases<R: Threads + Print>(rt: &R, checked: &Checked<'_>, alloc: Global) 
     println!(rt; "-- over a changed target")?;
     memory_case(rt, checked, file(alloc, b'c')?, b'a', alloc)?;
     println!(rt; "-- with another byte")?;
-    memory_case(rt, checked, SubTree::absent(alloc), b'b', alloc)
+    memory_case(rt, checked, SubTree::absent(alloc), b'b', alloc)?;
+    tell_races(rt, checked, alloc)
 }
 
 fn tell_copies<R: Threads + Print>(rt: &R, alloc: Global) -> Result<()> {
