@@ -71,7 +71,7 @@ impl<S: Site> Held<S> {
         ensures told { (t : Terms) → IsTold S.content t self.old.action self.old.slot → IsTold S.content t self.new.action self.new.slot }
     {
         self.slot = Slot::Bytes(bytes);
-        self.acted = true;
+        self.mark();
     }
 
     /// The act of a commit: what is at its site, which must have the print `before`, is replaced by what was staged, in one
@@ -101,7 +101,7 @@ impl<S: Site> Held<S> {
         match site.commit(alloc, before, staged) {
             Ok(()) => {
                 self.slot = Slot::Committed(site, made);
-                self.acted = true;
+                self.mark();
                 Ok(())
             }
             Err(fault) => {

@@ -126,8 +126,7 @@ impl<S: Site> Board<S> {
     {
         let Board { table } = self;
         let Pass { seat } = pass;
-        Closed {
-            row: table.close_with(seat),
-        }
+        let row = table.close_with(seat);
+        Closed { row }
     }
 }

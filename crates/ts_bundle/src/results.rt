@@ -1,6 +1,6 @@
 //! Writing what is left of a plan that was carried out.
 ghost use Rattle.std.specs.Prelude.{◌≡◌, ◌∷◌, ◌++◌, [], codes, cond, false, true, IfErr, OnOk};
-ghost use Rattle.ts_model.specs.Texts.{text, tree_lines, print_lines, reason_text};
+ghost use Rattle.ts_model.specs.Texts.{text, tree_lines, print_lines};
 ghost use Rattle.ts_model.specs.Trial.{done_count, is_skipped, report_line, result_lines, skipped_count, total_line};
 ghost use Rattle.ts_text.specs.Sources.{Writes};
 ghost use Rattle.ts_bundle.specs.Faults.{FailuresFit};
@@ -11,6 +11,7 @@ use std::alloc::Global;
 use ts_model::items::Items;
 use ts_model::plan::{Entry, Reason};
 use ts_model::row::{Row, Stamp};
+use ts_plan::reason_word;
 use ts_text::Sink;
 use ts_text::field::{push_decimal, push_word};
 use ts_text::write::write_line;
@@ -177,18 +178,4 @@ fn outcome_word(reason: Reason) -> &'static [u8]
     ensures { result.now ≡ cond (is_skipped reason) (codes "skip") (codes "done") }
 {
     if skips(reason) { b"skip" } else { b"done" }
-}
-
-/// The word for a reason.
-fn reason_word(reason: Reason) -> &'static [u8]
-    ensures { result.now ≡ reason_text reason }
-{
-    match reason {
-        Reason::Same => b"same",
-        Reason::First => b"first",
-        Reason::Second => b"second",
-        Reason::Conflict => b"conflict",
-        Reason::Held => b"held",
-        Reason::Dir => b"dir",
-    }
 }

@@ -8,8 +8,8 @@ use std::alloc::{AllocError, Global};
 use ts_model::plan::{Action, Entry, Kind, Plan, Reason};
 use ts_text::{Sink, push_decimal, push_word, write_line};
 
-/// The word of a reason.
-fn reason_word(reason: Reason) -> &'static [u8]
+/// The word by which a plan and a report name a reason.
+pub fn reason_word(reason: Reason) -> &'static [u8]
     ensures { result.now ≡ reason_text reason }
 {
     match reason {

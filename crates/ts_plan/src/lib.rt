@@ -10,7 +10,7 @@ pub mod progress;
 pub mod text;
 
 pub use decoding::decode;
-pub use encoding::encode;
+pub use encoding::{encode, reason_word};
 pub use fault::PlanFault;
 pub use line::PlanLine;
 pub use text::PlanReader;

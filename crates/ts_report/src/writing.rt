@@ -1,7 +1,7 @@
 //! Writing a report.
 ghost use Rattle.std.specs.Prelude.{◌≡◌, ◌<◌, ◌≤◌, ◌∷◌, ◌++◌, [], length, get_or, map, count_by, IfErr, IfOk, OnOk};
 ghost use Rattle.ts_model.specs.Plans.{action_limit};
-ghost use Rattle.ts_model.specs.Texts.{text, reason_text};
+ghost use Rattle.ts_model.specs.Texts.{text};
 ghost use Rattle.ts_report.specs.Fates.{first_fate, same_fate};
 ghost use Rattle.ts_report.specs.Faults.{FailuresFit};
 ghost use Rattle.ts_report.specs.Reports.{entry_of, fate_line, fate_lines, fates, fates_from, is_mark, report_text, status_of, step_from, total_line, totals_of};
@@ -11,7 +11,8 @@ use crate::fate::Fate;
 use crate::fault::ReportFault;
 use crate::results::{Ending, Results};
 use std::alloc::Global;
-use ts_model::plan::{Action, Entry, Kind, Plan, Reason};
+use ts_model::plan::{Action, Entry, Kind, Plan};
+use ts_plan::reason_word;
 use ts_text::Sink;
 use ts_text::field::{push_decimal, push_word};
 use ts_text::write::write_line;
@@ -241,18 +242,4 @@ fn push_total(entries: usize, totals: &Totals, line: &mut Vec<u8>) -> Result<(),
     line.extend_from_slice(b" blocked ")?;
     push_decimal(line, totals.blocked as u64)?;
     Ok(())
-}
-
-/// The word for a reason.
-fn reason_word(reason: Reason) -> &'static [u8]
-    ensures { result.now ≡ reason_text reason }
-{
-    match reason {
-        Reason::Same => b"same",
-        Reason::First => b"first",
-        Reason::Second => b"second",
-        Reason::Conflict => b"conflict",
-        Reason::Held => b"held",
-        Reason::Dir => b"dir",
-    }
 }
