@@ -1,5 +1,5 @@
 //! How many workers may carry a plan out, by the memory that they need.
-ghost use Rattle.std.specs.Prelude.{◌+◌, ◌*◌, ◌≤◌};
+ghost use Rattle.std.specs.Prelude.{◌≡◌, ◌⊎◌, ◌+◌, ◌*◌, ◌<◌, ◌≤◌};
 
 use ts_check::Checked;
 use ts_model::plan::Kind;
@@ -16,8 +16,12 @@ pub(crate) fn workers_with_room(largest: u64, workers: u32) -> u32
     ensures some { 1 ≤ result }
     ensures few { result ≤ workers }
     ensures room { 4 * (result * largest) ≤ 5 * largest + 209715200 }
+    ensures most { (result ≡ workers) ⊎ (5 * largest + 209715200 < 4 * ((result + 1) * largest)) }
 {
-    let more = (SPARE + largest / 4) / largest.max(1);
+    // where no commit stages anything, memory is no limit
+    let Some(more) = (SPARE + largest / 4).checked_div(largest) else {
+        return workers;
+    };
     match u32::try_from(more) {
         Ok(more) => more.saturating_add(1).min(workers),
         Err(_) => workers,
