@@ -20,7 +20,7 @@ use rand_core::utils::NextWord;
 use rand_pcg::Pcg32;
 use std::alloc::Global;
 use std::thread::Threads;
-use ts_check::{Checked, check};
+use ts_check::Checked;
 use ts_exec::{ActionResult, Gate, OpenGate, Outcome, commit_count, run};
 use ts_folder::{Failing, FaultyFolder, MemFolder, Trouble};
 use ts_model::plan::Kind;
@@ -169,14 +169,7 @@ where
     };
     let world = World::new(alloc, 20, first, second)?;
     let plan = world.plan(alloc)?;
-    let checked = check(
-        alloc,
-        &plan,
-        &world.archive,
-        &world.first_print,
-        &world.second_print,
-        &world.holds,
-    )?;
+    let checked = world.check(alloc, &plan)?;
     ensure!(checked.action_count() == 2_000, "another plan");
     let mut random = Pcg32::new(2_026, 11);
     let mut done: u64 = 0;
@@ -234,14 +227,7 @@ where
     };
     let world = World::new(alloc, 1, first, second)?;
     let plan = world.plan(alloc)?;
-    let checked = check(
-        alloc,
-        &plan,
-        &world.archive,
-        &world.first_print,
-        &world.second_print,
-        &world.holds,
-    )?;
+    let checked = world.check(alloc, &plan)?;
     let (one, other) = first_pieces(&checked)?;
     let meeting = Meeting::new(one, other);
     let mut random = Pcg32::new(2_026, 12);

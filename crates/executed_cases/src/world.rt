@@ -2,6 +2,7 @@
 
 use anyhow::Result;
 use std::alloc::Global;
+use ts_check::{Checked, check};
 use ts_hold::Holds;
 use ts_model::plan::Plan;
 use ts_print::Print;
@@ -70,5 +71,18 @@ impl World {
             &self.holds,
         )?;
         Ok(plan)
+    }
+
+    /// A plan for these replicas, checked.
+    pub fn check<'a>(&'a self, alloc: Global, plan: &'a Plan) -> Result<Checked<'a>> {
+        let checked = check(
+            alloc,
+            plan,
+            &self.archive,
+            &self.first_print,
+            &self.second_print,
+            &self.holds,
+        )?;
+        Ok(checked)
     }
 }
