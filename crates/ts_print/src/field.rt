@@ -6,7 +6,7 @@ ghost use Rattle.ts_model.specs.declared.row.Content.TheVariants.{File};
 ghost use Rattle.ts_model.specs.declared.row.Stamp.{Stamp};
 ghost use Rattle.ts_print.specs.Faults.{Refuses};
 ghost use Rattle.ts_print.specs.Fields.{IsNoRow, RowFits};
-ghost use Rattle.ts_tree.specs.Fields.{Without};
+ghost use Rattle.ts_name.specs.Buffers.{HasNo};
 
 use crate::fault::PrintFault;
 use std::alloc::Global;
@@ -17,8 +17,8 @@ use ts_tree::field::{after, field_path};
 
 /// What `<path> <size> <digest>` says: the text of the path, and the stamp.
 fn stamped(fields: &[u8]) -> Option<(&[u8], Stamp)>
-    ensures found { IfSome result (λ r. Without 32 r.0.now × StampFits (File r.1) × (fields.now ≡ r.0.now ++ 32 ∷ (decimal r.1.size ++ 32 ∷ encode_lower r.1.digest))) }
-    ensures none { IfNone result ((path : List ℕ) (stamp : Stamp) → Without 32 path → StampFits (File stamp)
+    ensures found { IfSome result (λ r. HasNo 32 r.0.now × StampFits (File r.1) × (fields.now ≡ r.0.now ++ 32 ∷ (decimal r.1.size ++ 32 ∷ encode_lower r.1.digest))) }
+    ensures none { IfNone result ((path : List ℕ) (stamp : Stamp) → HasNo 32 path → StampFits (File stamp)
         → fields.now ≢ path ++ 32 ∷ (decimal stamp.size ++ 32 ∷ encode_lower stamp.digest)) }
 {
     let (path, stamp) = split_word(fields);

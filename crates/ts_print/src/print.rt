@@ -177,6 +177,7 @@ impl Print {
         ensures ok { OnOk result (at self.new ≡ graft (at self.old) path.now (listed part)) }
         ensures paths { OnOk result (AllByRecursion (λ row. IsPath row.path) (placed path.now part)) }
         ensures too_long { IsErrOf result PrintFault.TooLong → ¬ AllByRecursion (λ row. IsPath row.path) (placed path.now part) }
+        ensures fault { IfErr result (λ e. (e ≡ PrintFault.OutOfMemory) ⊎ (e ≡ PrintFault.TooLong)) }
         ensures err { OnErr result (self.new ≡ self.old) }
     {
         self.table.replace(alloc, path, part)?;

@@ -1,6 +1,6 @@
 //! Parts of a print, lent without memory.
 ghost use Rattle.std.specs.Prelude.{◌≡◌, ◌++◌, ◌↔◌, IfErr, IfOk, IsTrue};
-ghost use Rattle.ts_model.specs.Trees.{at, listed, sub};
+ghost use Rattle.ts_model.specs.Trees.{IsSubListing, at, listed, sub};
 ghost use Rattle.ts_print.specs.Prints.{stamped_rows};
 ghost use Rattle.ts_table.specs.Tables.{relative, root_row};
 
@@ -74,6 +74,7 @@ impl SubPrint<'_> {
     /// Whether this is the print of a tree, which is given by its rows, relative to where it stands.
     pub fn is_print_of(&self, alloc: Global, rows: &[Row<Items<u8>>]) -> Result<bool, PrintFault>
         ensures answer { IfOk result (λ answer. IsTrue answer ↔ (stamped_rows rows.now ≡ self.now.rows)) }
+        ensures lawful { IfOk result (λ _. IsSubListing self.now.rows) }
         ensures fault { IfErr result (λ e. e ≡ PrintFault.OutOfMemory) }
     {
         let stamps = self.to_table(alloc)?;

@@ -2,7 +2,7 @@
 --     Replaces old new before made    it had the print before, and is now the tree
 --     Differs old before              it hasn't that print
 use Rattle.std.specs.Prelude.{◌≡◌, ◌≢◌, ℕ, List, Option, Some, None}
-use Rattle.ts_model.specs.Trees.{Listing}
+use Rattle.ts_model.specs.Trees.{Listing, listed, print_of}
 use Rattle.ts_model.specs.declared.row.Stamp.{Stamp}
 use Rattle.ts_print.specs.Prints.{stamped_rows}
 
@@ -12,4 +12,4 @@ Replaces (Some rows) new before made = (stamped_rows rows ≡ before) × (new �
 
 abbrev pub Differs : Option (Listing (List ℕ)) → Listing Stamp → Type 0
 Differs None before = Unit {0}
-Differs (Some rows) before = stamped_rows rows ≢ before
+Differs (Some rows) before = print_of (listed rows) ≢ listed before

@@ -20,7 +20,7 @@ use Rattle.ts_model.specs.declared.step.Step.TheVariants.{Take, Act}
 use Rattle.ts_model.specs.declared.step.Work.{Work}
 use Rattle.ts_model.specs.declared.step.Work.TheVariants.{Staged, Put, Marked}
 use Rattle.ts_name.specs.Paths.{Path}
-use Rattle.ts_laws.proofs.Lists.{Among, Contains-from_Among, any_cases}
+use Rattle.ts_laws.proofs.Lists.{Among, Contains-from_Among, any_cases, Among-left, Among-last}
 use Rattle.ts_laws.proofs.Plans.{commit_exists}
 use Rattle.ts_laws.proofs.Runs.{Allowed, along}
 use Rattle.ts_laws.proofs.Steps.{does_of, same_kind}
@@ -82,15 +82,6 @@ take_is : (k : ℕ) (step : Step) → takes k step ≡ true → (c : ℕ) × (st
 take_is k (Take c j) e = (c, ap (Take c) (sym (eqb-true k j e)))
 take_is k _ e = absurd (true≢false (sym e))
 
-among_left : (x : Step) (xs ys : Run) → Among x xs → Among x (xs ++ ys)
-among_left x [] ys h = absurd h
-among_left x (z ∷ xs) ys (inl e) = inl e
-among_left x (z ∷ xs) ys (inr h) = inr (among_left x xs ys h)
-
-among_last : (x : Step) (xs : Run) → Among x (xs ++ x ∷ [])
-among_last x [] = inl refl
-among_last x (z ∷ xs) = inr (among_last x xs)
-
 -- what acted did what fits it, and what was taken are pieces
 record IsWorked (s : Snapshot) (plan : Plan) (r : Run) : Type 0 where
   pub acted : (i : ℕ) → Has r (acts i) → (w : Work) × Among (Act i w) r × Fits s plan (Act i w)
@@ -99,10 +90,10 @@ record IsWorked (s : Snapshot) (plan : Plan) (r : Run) : Type 0 where
 worked_next : (s : Snapshot) (plan : Plan) (r : Run) (step : Step) → IsWorked s plan r → Allowed s plan r step → IsWorked s plan (r ++ step ∷ [])
 worked_next s plan r step b al = record {
   acted = λ i h. elim (any_cases (acts i) r step h) [
-    | inl earlier ↦ (let f = b.acted i earlier in (f.0, among_left (Act i f.0) r (step ∷ []) f.1, f.2))
+    | inl earlier ↦ (let f = b.acted i earlier in (f.0, Among-left (Act i f.0) r (step ∷ []) f.1, f.2))
     | inr now ↦ (let a = act_is i step now in (
       a.0,
-      subst (λ z. Among z (r ++ step ∷ [])) a.1 (among_last step r),
+      subst (λ z. Among z (r ++ step ∷ [])) a.1 (Among-last step r),
       subst (λ z. Fits s plan z) a.1 al.1,
     ))
   ];

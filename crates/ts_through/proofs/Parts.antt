@@ -1,13 +1,13 @@
 -- Parts at the paths of entries: they are edits, and where they may be taken out.
-use Rattle.std.proofs.Common.{◌≡◌, ◌≢◌, ℕ, Bool, true, false, cond, List, [], ◌∷◌, ◌++◌, Some, None, refl, sym, ap, ◌∙◌, subst, append_assoc, append-nil, length, drop, get_or, set, slice_get, suc, add-one, drop-cons, ◌+◌, ◌<◌, ◌≤◌, ⊎_elim, arith}
+use Rattle.std.proofs.Common.{◌≡◌, ◌≢◌, ℕ, Bool, true, false, cond, List, [], ◌∷◌, ◌++◌, Some, None, refl, sym, ap, ◌∙◌, subst, append_assoc, append-nil, length, drop, get_or, set, slice_get, suc, add-one, drop-cons, ◌+◌, ◌<◌, ◌≤◌, arith}
 use Rattle.std.proofs.lemmas.Option.{same_Some}
 use Rattle.std.proofs.Math.ListN.{drop_of_length-le}
 use Rattle.std.specs.List.{AllByRecursion}
-use Rattle.ts_name.specs.Paths.{Path, IsAbove, IsBefore, IsPath}
+use Rattle.ts_name.specs.Paths.{Name, Path, IsAbove, IsBefore, IsPath}
 use Rattle.ts_model.specs.Trees.{IsListing, IsSubListing, Listing, Tree, at, listed, sub}
 use Rattle.ts_model.specs.Plans.{Valid}
 use Rattle.ts_model.specs.Sync.{Snapshot, IsSnapshot, AreReplicas}
-use Rattle.ts_model.specs.declared.row.Content.TheVariants.{Absent}
+use Rattle.ts_model.specs.declared.row.Content.TheVariants.{Absent, Dir}
 use Rattle.ts_model.specs.declared.row.Row.{Row}
 use Rattle.ts_model.specs.declared.plan.Entry.{Entry}
 use Rattle.ts_model.specs.declared.plan.Plan.{Plan}
@@ -15,8 +15,8 @@ use Rattle.ts_model.specs.declared.plan.Reason.{Reason}
 use Rattle.ts_model.specs.declared.plan.Reason.TheVariants as reason
 use Rattle.ts_table.specs.Splits.{AreSeparate, MaySplit, edits_of}
 use Rattle.ts_table.specs.Tables.{IsPlace}
-use Rattle.ts_table.proofs.Paths.{before_itself}
-use Rattle.ts_table.proofs.Rows.{weaker, all_both, all_map, at_each}
+use Rattle.ts_name.proofs.Order.{before_itself}
+use Rattle.ts_name.proofs.Basics.{weaker, all_both, all_map, at_each}
 use Rattle.ts_tree.proofs.Parts.{lists_each}
 use Rattle.ts_laws.proofs.Listings.{IsTree-from_listing}
 use Rattle.ts_laws.specs.Carried.{same_reason}
@@ -76,8 +76,8 @@ pub all_parts : (r : Reason) (source : Tree) (entries : List Entry) (i : ℕ) (b
 all_parts r source entries i back past so_far =
     subst (λ parts. AreParts r source entries parts) (append-nil back) (so_far [] (subst (λ rest. AreParts r source rest []) (sym (drop_of_length-le entries past)) refl))
 
-from_here : (entries : List Entry) (i : ℕ) (entry : Entry) → i < length entries → entry ≡ get_or entries i entry → drop i entries ≡ entry ∷ drop (i + 1) entries
-from_here entries i entry within is = rw (add-one, drop-cons entries i entry within) (ap (λ (e : Entry). e ∷ drop (suc i) entries) (sym is))
+pub from_here : {A : Type 0} (xs : List A) (i : ℕ) (x : A) → i < length xs → x ≡ get_or xs i x → drop i xs ≡ x ∷ drop (i + 1) xs
+from_here {A} xs i x within is = rw (add-one, drop-cons xs i x within) (ap (λ (e : A). e ∷ drop (suc i) xs) (sym is))
 
 -- an entry of this reason adds its part
 pub with_part : (r : Reason) (source : Tree) (entries : List Entry) (i : ℕ) (entry : Entry) (back : List (Listing (List ℕ))) (part : Listing (List ℕ))
@@ -89,7 +89,7 @@ with_part r source entries i entry back part within is why good so_far more h =
     (subst (λ b. Leads b (IsPart entry.path (sub source entry.path)) (part ∷ more) (λ rest. AreParts r source (drop (i + 1) entries) rest)) (sym (ap (λ x. same_reason x r) why ∙ same_reason_itself r)) (good, h))))
 
 -- another one adds none
-other_reason : (x r : Reason) → x ≢ r → same_reason x r ≡ false
+pub other_reason : (x r : Reason) → x ≢ r → same_reason x r ≡ false
 other_reason x r other = go (same_reason x r) refl
   where
     go : (b : Bool) → same_reason x r ≡ b → b ≡ false
@@ -148,24 +148,22 @@ all_not_above p (later ∷ entries) ascends apart =
     ((ascends.0, not_above p later.path (λ rest. let all = apart rest in all.0)), all_not_above p entries ascends.1 (λ rest. let all = apart rest in all.1))
 
 module _ (s : Snapshot) (plan : Plan) (a b : Tree) (valid : Valid s plan) (lawful : IsSnapshot s) (are : AreReplicas s a b) where
+  -- a tree may be cut at the entries of a reason other than Dir, where each entry's parent is a directory of it
+  may_split : (t : Tree) (r : Reason) → r ≢ reason.Dir → ((before : List Entry) (entry : Entry) (after : List Entry) → plan.entries ≡ before ++ entry ∷ after
+      → (parent : Path) (name : Name) → entry.path ≡ parent ++ name ∷ [] → t parent ≡ Dir) → MaySplit t (paths_with r plan.entries)
+  may_split t r ne parents = record { separate = both.0; places = both.1 }
+    where
+      both : AreSeparate (paths_with r plan.entries) × AllByRecursion (λ p. IsPlace t p) (paths_with r plan.entries)
+      both = paths_apart t r plan.entries (λ before entry after split.
+          let here = entries_in_place s plan a b valid lawful are before entry after split in (
+            record { not_root = here.not_root; parent = parents before entry after split },
+            λ why. all_not_above entry.path after here.ascends (here.apart (λ dir. ne (sym why ∙ dir))),
+          )) plan.entries [] refl
+
   -- the first replica may be cut where the second is copied to it
   pub first_may_split : MaySplit a (paths_with reason.Second plan.entries)
-  first_may_split = record { separate = both.0; places = both.1 }
-    where
-      both : AreSeparate (paths_with reason.Second plan.entries) × AllByRecursion (λ p. IsPlace a p) (paths_with reason.Second plan.entries)
-      both = paths_apart a reason.Second plan.entries (λ before entry after split.
-          let here = entries_in_place s plan a b valid lawful are before entry after split in (
-            record { not_root = here.not_root; parent = λ parent name at. (here.parent parent name at).0 },
-            λ why. all_not_above entry.path after here.ascends (here.apart (λ dir. let clash : reason.Second ≡ reason.Dir = sym why ∙ dir in cc)),
-          )) plan.entries [] refl
+  first_may_split = may_split a reason.Second (λ e. cc) (λ before entry after split parent name at. ((entries_in_place s plan a b valid lawful are before entry after split).parent parent name at).0)
 
   -- and the other way round
   pub second_may_split : MaySplit b (paths_with reason.First plan.entries)
-  second_may_split = record { separate = both.0; places = both.1 }
-    where
-      both : AreSeparate (paths_with reason.First plan.entries) × AllByRecursion (λ p. IsPlace b p) (paths_with reason.First plan.entries)
-      both = paths_apart b reason.First plan.entries (λ before entry after split.
-          let here = entries_in_place s plan a b valid lawful are before entry after split in (
-            record { not_root = here.not_root; parent = λ parent name at. (here.parent parent name at).1 },
-            λ why. all_not_above entry.path after here.ascends (here.apart (λ dir. let clash : reason.First ≡ reason.Dir = sym why ∙ dir in cc)),
-          )) plan.entries [] refl
+  second_may_split = may_split b reason.First (λ e. cc) (λ before entry after split parent name at. ((entries_in_place s plan a b valid lawful are before entry after split).parent parent name at).1)

@@ -17,7 +17,7 @@ use Rattle.ts_board.specs.declared.law.Slot.{Slot}
 use Rattle.ts_board.specs.declared.law.Slot.TheVariants.{Empty}
 use Rattle.ts_through.specs.Parts.{AreTaken}
 
-commit_entry : (e f : ℕ) → Commit e ≡ Commit f → e ≡ f
+pub commit_entry : (e f : ℕ) → Commit e ≡ Commit f → e ≡ f
 commit_entry e f same = ap (λ k. elim k [ Piece a offset size p ↦ a | Commit a ↦ a | Mark a ↦ a ]) same
 
 -- the parts of the commits below n are what their sites have

@@ -5,6 +5,8 @@
 --     KeepsOthers r entries old new      no part of an entry of another reason changed
 --     AreDone plan words                 each action is done, by its word
 --     AreHeld plan first second slots    the site of each commit has what the entry's source has at its path
+--     ArePlaced plan parts sites         the site of each commit has the part of its entry
+--     AreBlockedByEarlier results        a blocked action waits for an earlier one that isn't done
 --     AreTaken plan slots parts          the part of each commit's entry is what its site has
 use Rattle.std.specs.Prelude.{◌≡◌, ◌≢◌, ℕ, ◌<◌, Bool, true, false, cond, List, [], ◌∷◌, Some, length, slice_get, slice_index, slice_index_or}
 use Rattle.ts_name.specs.Paths.{Path}
@@ -18,10 +20,12 @@ use Rattle.ts_model.specs.declared.plan.Reason.{Reason}
 use Rattle.ts_laws.specs.Carried.{same_reason}
 use Rattle.ts_carry.specs.Edits.{IsPart}
 use Rattle.ts_board.specs.Archives.{IsDone}
-use Rattle.ts_board.specs.Terms.{site_in}
+use Rattle.ts_board.specs.Terms.{placed, site_in}
 use Rattle.ts_board.specs.declared.law.Slot.{Slot}
 use Rattle.ts_board.specs.declared.law.Slot.TheVariants.{Empty}
 use Rattle.ts_exec.specs.Failures.{of_side}
+use Rattle.ts_exec.specs.declared.outcome.ActionResult.{ActionResult}
+use Rattle.ts_exec.specs.declared.outcome.ActionResult.TheVariants.{Done, Blocked}
 
 abbrev pub paths_with : Reason → List Entry → List Path
 paths_with r [] = []
@@ -56,3 +60,9 @@ AreHeld plan first second slots =
 
 abbrev pub AreTaken : Plan → List (Slot (Listing (List ℕ))) → List (Listing (List ℕ)) → Type 0
 AreTaken plan slots parts = (c e : ℕ) (rows : Listing (List ℕ)) → KindIs plan c (Commit e) → site_in (slice_index_or slots c Empty) ≡ Some rows → slice_get parts e ≡ Some rows
+
+abbrev pub ArePlaced : Plan → List (Listing (List ℕ)) → List (Listing (List ℕ)) → Type 0
+ArePlaced plan parts sites = (c e : ℕ) → KindIs plan c (Commit e) → site_in (slice_index_or (placed plan.actions sites) c Empty) ≡ slice_get parts e
+
+abbrev pub AreBlockedByEarlier : List ActionResult → Type 0
+AreBlockedByEarlier results = (i k : ℕ) → slice_get results i ≡ Some (Blocked k) → (k < i) × (slice_get results k ≢ Some Done)

@@ -2,7 +2,7 @@
 ghost use Rattle.std.specs.Prelude.{◌≡◌, ◌≤◌, IfOk, length};
 ghost use Rattle.std.specs.Mem.Slots.{slots_items, slots_len};
 ghost use Rattle.ts_board.specs.Archives.{HasEnded};
-ghost use Rattle.ts_board.specs.Terms.{commit_count};
+ghost use Rattle.ts_board.specs.Terms.{commit_count, placed};
 ghost use Rattle.ts_check.specs.Checkup.{snapshot_of};
 ghost use Rattle.ts_laws.specs.Carried.{copied, marked_all};
 ghost use Rattle.ts_model.specs.Texts.{IsTreeBody};
@@ -13,7 +13,7 @@ ghost use Rattle.ts_through.specs.Parts.{AreDone, AreHeld};
 use crate::cut::{cut, no_parts, sites};
 use crate::fault::ThroughFault;
 use crate::join::joined;
-use crate::put::{is_done, take_parts};
+use crate::put::{all_done, take_parts};
 use std::alloc::Global;
 use std::thread::Threads;
 use ts_check::Checked;
@@ -37,7 +37,7 @@ pub struct Carried {
 ///
 /// # Errors
 ///
-/// `OutOfMemory` alone, and then nothing comes of the plan: a call found no memory, or an action isn't done.
+/// `OutOfMemory` alone, where a call or an action found no memory, and then nothing comes of the plan.
 pub fn carry_through<R: Threads + Sync>(
     rt: &R,
     alloc: Global,
@@ -88,7 +88,8 @@ pub fn carry_through<R: Threads + Sync>(
     })
 }
 
-/// What comes of the plan, where each action is done.
+/// What comes of the plan, where each action is done. The site of each commit has what its target has at the entry's path and
+/// below it, so that an action can only fail for want of memory.
 fn ran<R: Threads + Sync>(
     rt: &R,
     alloc: Global,
@@ -103,6 +104,7 @@ fn ran<R: Threads + Sync>(
     requires first { at checked.now.first ≡ print_of (at first.now) }
     requires second { at checked.now.second ≡ print_of (at second.now) }
     requires sites { length sites.items ≡ commit_count checked.now.plan.actions }
+    requires targets { AreHeld checked.now.plan second.now first.now (placed checked.now.plan.actions sites.items) }
     ensures words { IfOk result (λ o. length checked.now.plan.actions ≤ slots_len o.closed.row.words) }
     ensures slots { IfOk result (λ o. length checked.now.plan.actions ≤ slots_len o.closed.row.slots) }
     ensures ended { IfOk result (λ o. HasEnded checked.now (slots_items o.closed.row.words)) }
@@ -116,11 +118,8 @@ fn ran<R: Threads + Sync>(
         rt, alloc, &*checked, &first, &second, sites, workers, &OpenGate,
     ) {
         Ok(outcome) => {
-            if is_done(&outcome) {
-                Ok(outcome)
-            } else {
-                Err(ThroughFault::OutOfMemory)
-            }
+            all_done(outcome.results())?;
+            Ok(outcome)
         }
         Err(_) => Err(ThroughFault::OutOfMemory),
     }

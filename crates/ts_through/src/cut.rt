@@ -2,10 +2,10 @@
 ghost use Rattle.std.specs.Prelude.{◌≡◌, ◌<◌, ℕ, IfOk, length};
 ghost use Rattle.ts_board.specs.Terms.{commit_count};
 ghost use Rattle.ts_model.specs.Plans.{KindIs};
-ghost use Rattle.ts_model.specs.Trees.{at};
+ghost use Rattle.ts_model.specs.Trees.{Tree as TreeOf, at};
 ghost use Rattle.ts_model.specs.declared.plan.Kind.TheVariants.{Commit};
-ghost use Rattle.ts_table.specs.Splits.{MaySplit, without};
-ghost use Rattle.ts_through.specs.Parts.{paths_with};
+ghost use Rattle.ts_table.specs.Splits.{ArePartsAt, MaySplit, without};
+ghost use Rattle.ts_through.specs.Parts.{AreLaid, ArePlaced, KeepsOthers, paths_with};
 
 use crate::fault::ThroughFault;
 use std::alloc::Global;
@@ -38,6 +38,8 @@ pub(crate) fn cut(
     requires apart { MaySplit (at tree.now) (paths_with reason entries.now) }
     ensures paths { IfOk result (λ frame. frame.paths ≡ paths_with reason entries.now) }
     ensures rows { IfOk result (λ frame. at frame.rows ≡ without (at tree.now) (paths_with reason entries.now)) }
+    ensures laid { IfOk result (λ _. AreLaid reason (at tree.now) entries.now parts.new.items) }
+    ensures others { IfOk result (λ _. KeepsOthers reason entries.now parts.old.items parts.new.items) }
     ensures count { length parts.new.items ≡ length parts.old.items }
 {
     let paths = paths_of(alloc, entries, reason)?;
@@ -70,12 +72,14 @@ fn paths_of(alloc: Global, entries: &[Entry], reason: Reason) -> Result<Vec<Path
 /// Lays what was taken out at the paths of the entries of this reason, in their order, at the entries' places.
 fn lay(taken: Vec<SubTree>, entries: &[Entry], reason: Reason, parts: &mut Vec<SubTree>)
     requires { length parts.old.items ≡ length entries.now }
-    ensures { length parts.new.items ≡ length parts.old.items }
+    ensures laid { (t : TreeOf) → ArePartsAt t (paths_with reason entries.now) taken.items → AreLaid reason t entries.now parts.new.items }
+    ensures others { KeepsOthers reason entries.now parts.old.items parts.new.items }
+    ensures count { length parts.new.items ≡ length parts.old.items }
 {
-    let mut taken = taken.into_iter();
+    let mut rest = taken.into_iter();
     for (index, entry) in entries.iter().enumerate() {
         if entry.reason == reason {
-            if let Some(part) = taken.next() {
+            if let Some(part) = rest.next() {
                 parts[index] = part;
             }
         }
@@ -90,7 +94,9 @@ pub(crate) fn sites(
 ) -> Result<Vec<MemSite>, ThroughFault>
     requires parts { length parts.old.items ≡ length plan.now.entries }
     requires within { (i e : ℕ) → KindIs plan.now i (Commit e) → e < length plan.now.entries }
+    requires one { (i j e : ℕ) → KindIs plan.now i (Commit e) → KindIs plan.now j (Commit e) → i ≡ j }
     ensures sites { IfOk result (λ sites. length sites.items ≡ commit_count plan.now.actions) }
+    ensures laid { IfOk result (λ sites. ArePlaced plan.now parts.old.items sites.items) }
     ensures count { length parts.new.items ≡ length parts.old.items }
 {
     let mut sites = Vec::new(alloc);

@@ -1,28 +1,39 @@
 //! What the commits have put in place.
-ghost use Rattle.std.specs.Prelude.{◌≡◌, ◌<◌, ◌≤◌, ℕ, IsTrue, Some, length, slice_get};
+ghost use Rattle.std.specs.Prelude.{◌≡◌, ◌<◌, ◌≤◌, ℕ, IfErr, IfOk, Some, length, slice_get};
 ghost use Rattle.std.specs.Mem.Slots.{slots_items, slots_len};
-ghost use Rattle.ts_exec.specs.declared.outcome.ActionResult.TheVariants.{Done};
+ghost use Rattle.ts_exec.specs.Outcomes.{WantMemoryAlone};
+ghost use Rattle.ts_exec.specs.declared.fault.ActFault.TheVariants.{OutOfMemory};
+ghost use Rattle.ts_exec.specs.declared.outcome.ActionResult.TheVariants.{Done, Failed};
 ghost use Rattle.ts_model.specs.Plans.{KindIs};
 ghost use Rattle.ts_model.specs.declared.plan.Kind.TheVariants.{Commit};
-ghost use Rattle.ts_through.specs.Parts.{AreTaken};
+ghost use Rattle.ts_through.specs.Parts.{AreBlockedByEarlier, AreTaken};
 
+use crate::fault::ThroughFault;
 use ts_check::Checked;
-use ts_exec::{ActionResult, Outcome};
+use ts_exec::{ActFault, ActionResult, Outcome};
 use ts_model::plan::Kind;
 use ts_site::MemSite;
 use ts_tree::SubTree;
 
-/// Whether each action is done.
-pub(crate) fn is_done(outcome: &Outcome<MemSite>) -> bool
-    ensures { IsTrue result → (i : ℕ) → i < length outcome.now.results.items → slice_get outcome.now.results.items i ≡ Some Done }
+/// Each action is done, or want of memory kept one from it. Nothing else can: the first that isn't done waits for none that
+/// isn't, so it isn't blocked, and where folders and sites don't fail, it failed for want of memory.
+pub(crate) fn all_done(results: &[ActionResult]) -> Result<(), ThroughFault>
+    requires memory { WantMemoryAlone results.now }
+    requires blocked { AreBlockedByEarlier results.now }
+    ensures done { IfOk result (λ _. (i : ℕ) → i < length results.now → slice_get results.now i ≡ Some Done) }
+    ensures want { IfErr result (λ _. (i : ℕ) × (slice_get results.now i ≡ Some (Failed OutOfMemory))) }
 {
-    for result in outcome.results() {
+    for result in results {
         match result {
             ActionResult::Done => {}
-            ActionResult::Failed(_) | ActionResult::Blocked(_) => return false,
+            ActionResult::Failed(fault) => match fault {
+                ActFault::OutOfMemory => return Err(ThroughFault::OutOfMemory),
+                _ => unreachable!(),
+            },
+            ActionResult::Blocked(_) => unreachable!(),
         }
     }
-    true
+    Ok(())
 }
 
 /// Takes what is at the site of each commit to the part of its entry.

@@ -1,4 +1,4 @@
-use Rattle.std.proofs.Common.{◌<◌, ℕ, length, refl, sym, ap, ◌∙◌, subst}
+use Rattle.std.proofs.Common.{◌≡◌, ◌<◌, ℕ, length, refl, sym, ap, ◌∙◌, subst}
 use Rattle.ts_model.specs.Plans.{KindIs}
 use Rattle.ts_model.specs.Trees.{IsListing, Listing, at}
 use Rattle.ts_model.specs.declared.plan.Kind.TheVariants.{Commit}
@@ -11,10 +11,12 @@ use Rattle.ts_carry.proofs.Edits.{are_replicas, are_trees}
 use Rattle.ts_check.specs.Checkup.{snapshot_of}
 use Rattle.std.specs.Mem.Slots.{slots_items}
 use Rattle.ts_model.specs.declared.plan.Side.TheVariants as side
-use Rattle.ts_through.specs.Parts.{AreLaid, paths_with}
+use Rattle.ts_through.specs.Parts.{AreLaid, ArePlaced, paths_with}
 use Rattle.ts_through.proofs.Held.{laid, still_laid}
 use Rattle.ts_laws.proofs.Bounds.{entry_within}
+use Rattle.ts_laws.proofs.Plans.{one_commit}
 use Rattle.ts_through.proofs.Parts.{first_may_split, second_may_split}
+use Rattle.ts_through.proofs.Placing.{targets_placed}
 use Rattle.ts_through.proofs.carry.carry_through.Goals as goal
 
 pub cut-requires-clause-apart : goal.cut-requires-clause-apart
@@ -37,6 +39,21 @@ pub sites-requires-clause-within : goal.sites-requires-clause-within
 sites-requires-clause-within g c =
     subst (λ (p : Plan). (i e : ℕ) → KindIs p i (Commit e) → e < length p.entries) (sym c.plan-plan.ensures.plan)
     (entry_within (snapshot_of c.args.checked.now) c.args.checked.now.plan c.plan-plan.ensures.valid)
+
+pub sites-requires-clause-one : goal.sites-requires-clause-one
+sites-requires-clause-one g c =
+    subst (λ (p : Plan). (i j e : ℕ) → KindIs p i (Commit e) → KindIs p j (Commit e) → i ≡ j) (sym c.plan-plan.ensures.plan)
+    (one_commit (snapshot_of c.args.checked.now) c.args.checked.now.plan c.plan-plan.ensures.valid)
+
+pub ran-requires-clause-targets : goal.ran-requires-clause-targets
+ran-requires-clause-targets g c =
+    let k = c.args.checked.now in let parts = c.cut-2.new.parts.items in let sites = c.in_ok-sites.sites.items in
+    let same : c.as_slice-entries.result.now ≡ k.plan.entries = c.as_slice-entries.ensures ∙ ap (λ (p : Plan). p.entries) c.plan-plan.ensures.plan in
+    λ _ _. targets_placed k.plan c.args.first.now c.args.second.now parts sites
+    (subst (λ entries. AreLaid reason.Second (at c.args.first.now) entries parts) same
+    (still_laid reason.Second reason.First (λ same. cc) (at c.args.first.now) c.as_slice-entries.result.now c.cut.new.parts.items parts c.in_ok-first_frame.ensures.laid c.in_ok-second_frame.ensures.others))
+    (subst (λ entries. AreLaid reason.First (at c.args.second.now) entries parts) same c.in_ok-second_frame.ensures.laid)
+    (subst (λ (p : Plan). ArePlaced p parts sites) c.plan-plan.ensures.plan c.in_ok-sites.ensures.laid)
 
 pub take_parts-requires-clause-within : goal.take_parts-requires-clause-within
 take_parts-requires-clause-within g c = entry_within (snapshot_of c.args.checked.now) c.args.checked.now.plan c.plan-plan.ensures.valid
