@@ -1,20 +1,19 @@
 -- What the end line of an archive file says of the lines before it.
 use Rattle.std.proofs.Common.{◌≡◌, ◌≢◌, ◌⊎◌, ℕ, ◌+◌, List, [], ◌∷◌, ◌++◌, length, sym, ap, ◌∙◌, inl, inr, append_assoc, arith, length-append}
-use Rattle.std.proofs.lemmas.List.{append-nil}
 use Rattle.std.specs.Prelude.{IfSome}
 use Rattle.sha2.specs.Sha256.{sha256}
 use Rattle.ts_text.specs.Lines.{Reading, HasEnded}
 use Rattle.ts_model.specs.Trees.{Listing}
 use Rattle.ts_model.specs.Texts.{Line, text, print_lines, archive_front, IsPrintBody, IsArchiveText, HasWrongEnd}
 use Rattle.ts_model.specs.declared.row.Stamp.{Stamp}
-use Rattle.ts_tree.proofs.Lines.{text_append, text_push}
+use Rattle.ts_model.proofs.Lines.{text_append, text_push}
 use Rattle.ts_tree.proofs.NoTree.{known_weaker}
 use Rattle.ts_tree.proofs.Taken.{Taken, taken_all}
 use Rattle.ts_archive.specs.Endings.{header, end_line, EndFits, DecodesArchive}
 
 -- one more line of the text that is hashed
 pub hashed_more : (fed : List Line) (line : Line) → (text (header ∷ fed) ++ line) ++ 10 ∷ [] ≡ text (header ∷ (fed ++ line ∷ []))
-hashed_more fed line = append_assoc (text (header ∷ fed)) line (10 ∷ []) ∙ sym (text_push (header ∷ fed) line []) ∙ append-nil (text (header ∷ (fed ++ line ∷ [])))
+hashed_more fed line = append_assoc (text (header ∷ fed)) line (10 ∷ []) ∙ sym (text_push (header ∷ fed) line)
 
 -- and one more line of the count
 pub counted_more : (fed : List Line) (line : Line) (n : ℕ) → n ≡ length fed → n + 1 ≡ length (fed ++ line ∷ [])

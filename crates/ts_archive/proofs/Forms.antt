@@ -1,24 +1,27 @@
 -- Bytes in the form of an archive file, and the lines that were taken of them.
 --     Formed bytes             a print's lines and an end line, which may tell a wrong count or digest
 --     Stands f fed left        how far these lines go, and what is left behind them
-use Rattle.std.proofs.Common.{◌≡◌, ◌≢◌, ◌⊎◌, ℕ, ◌+◌, ◌^◌, ◌<◌, ◌≤◌, List, [], ◌∷◌, ◌++◌, length, decimal, refl, sym, ap, ◌∙◌, subst, inl, inr, append_assoc, arith, length-append}
+use Rattle.std.proofs.Common.{◌≡◌, ◌≢◌, ◌⊎◌, ℕ, ◌^◌, ◌<◌, List, [], ◌∷◌, ◌++◌, length, decimal, refl, sym, ap, ◌∙◌, subst, inl, inr, append_assoc, arith, length-append, codes}
 use Rattle.std.specs.List.{AllByRecursion}
 use Rattle.hex.specs.Hex.{encode_lower}
 use Rattle.sha2.specs.Sha256.{sha256}
 use Rattle.sha2.proofs.Facts256.{length-sha256}
 use Rattle.ts_name.specs.Paths.{Path, path_text}
+use Rattle.ts_name.specs.Buffers.{HasNo}
+use Rattle.ts_name.proofs.Spelling.{clean_decimal, clean_from_test, cut_at, length_number, no_feed}
+use Rattle.ts_name.proofs.Utf8.{all_append, all_parts}
 use Rattle.ts_text.specs.Lines.{IsLine}
 use Rattle.ts_model.specs.Trees.{Listing}
 use Rattle.ts_model.specs.Texts.{Line, text, IsBytes, print_lines, print_row_lines, archive_front, IsPrintBody, IsArchiveText, HasWrongEnd}
+use Rattle.ts_model.proofs.Lines.{Fronts, fronts, longer, shorter, text_cons}
+use Rattle.ts_model.proofs.Rows.{bytes-sha256, each_line}
+use Rattle.ts_model.proofs.Spelling.{clean_hex, length_hex}
 use Rattle.ts_model.specs.declared.row.Content.{Content}
 use Rattle.ts_model.specs.declared.row.Content.TheVariants.{Absent, Dir, File}
 use Rattle.ts_model.specs.declared.row.Stamp.{Stamp}
-use Rattle.ts_tree.specs.Fields.{Without}
-use Rattle.ts_tree.proofs.Lines.{AreTextLines, length_hex, length_number, text_cons}
-use Rattle.ts_tree.proofs.Words.{clean_decimal, clean_hex, clean_without, cut_at, without_append}
-use Rattle.ts_print.proofs.PrintTexts.{RowFits, RowsFit, rows_fit, print_text_lines}
+use Rattle.ts_tree.proofs.Lines.{AreTextLines}
+use Rattle.ts_print.proofs.PrintTexts.{RowFits, rows_fit, print_text_lines}
 use Rattle.ts_archive.specs.Endings.{header, end_line, EndFits, IsNoArchive}
-use Rattle.ts_archive.proofs.Digests.{bytes-sha256}
 
 -- a print's lines, and an end line that may tell a wrong count or digest
 pub record Formed (bytes : List ℕ) : Type 0 where
@@ -67,52 +70,18 @@ row_no_end p Dir fits = (λ u v e. let k : 100 ∷ ((32 ∷ path_text p) ++ u) �
 row_no_end p (File x) fits =
     (λ u v e. let k : 102 ∷ ((32 ∷ (path_text p ++ 32 ∷ (decimal x.size ++ 32 ∷ encode_lower x.digest))) ++ u) ≡ 101 ∷ v = e in let first : ◌≡◌ {A = ℕ} 102 101 = cc in omega arith, tt)
 
-pub all_no_end : (xs ys : List Line) → AllByRecursion IsNoEnd xs → AllByRecursion IsNoEnd ys → AllByRecursion IsNoEnd (xs ++ ys)
-all_no_end [] ys no_x no_y = no_y
-all_no_end (x ∷ xs) ys no_x no_y = (no_x.0, all_no_end xs ys no_x.1 no_y)
-
-rows_no_end : (rows : Listing Stamp) → RowsFit rows → AllByRecursion IsNoEnd (print_lines rows)
-rows_no_end [] fit = tt
-rows_no_end (row ∷ rows) fit = all_no_end (print_row_lines row.path row.content) (print_lines rows) (row_no_end row.path row.content fit.0) (rows_no_end rows fit.1)
-
 pub print_no_end : (rows : Listing Stamp) → IsPrintBody rows → AllByRecursion IsNoEnd (print_lines rows)
-print_no_end rows is = rows_no_end rows (rows_fit rows is)
+print_no_end rows is = each_line print_row_lines RowFits IsNoEnd row_no_end rows (rows_fit rows is)
 
 pub are_lines : (rows : Listing Stamp) → IsPrintBody rows → AreTextLines (print_lines rows)
 are_lines rows is = print_text_lines rows (rows_fit rows is)
 
 -- ---- the header and the end line are lines
 
-letters_header : Without 10 header
+letters_header : HasNo 10 header
 letters_header =
-    let far : (b : ℕ) → 10 < b → b ≢ 10 = λ b less e. omega arith in (
-      far _ (omega arith),
-      (
-        far _ (omega arith),
-        (
-          far _ (omega arith),
-          (
-            far _ (omega arith),
-            (
-              far _ (omega arith),
-              (
-                far _ (omega arith),
-                (
-                  far _ (omega arith),
-                  (
-                    far _ (omega arith),
-                    (
-                      far _ (omega arith),
-                      (far _ (omega arith), (far _ (omega arith), (far _ (omega arith), (far _ (omega arith), (far _ (omega arith), (far _ (omega arith), (far _ (omega arith), (far _ (omega arith), tt)))))))),
-                    ),
-                  ),
-                ),
-              ),
-            ),
-          ),
-        ),
-      ),
-    )
+    all_append (λ b. b ≢ 10) (codes "twosync-archive") (32 ∷ codes "1") (no_feed (codes "twosync-archive") (clean_from_test (codes "twosync-archive") refl))
+    (λ e. omega arith, no_feed (codes "1") (clean_from_test (codes "1") refl))
 
 pub header_is_line : IsLine header
 header_is_line = record { short = omega arith; one = letters_header }
@@ -127,8 +96,8 @@ end_is_line count digest fits = record {
         λ e. omega arith,
         (
           λ e. omega arith,
-          without_append 10 (decimal count) (32 ∷ encode_lower digest) (clean_without 10 (omega arith) (decimal count) (clean_decimal count fits.0))
-              (λ e. omega arith, clean_without 10 (omega arith) (encode_lower digest) (clean_hex digest fits.1)),
+          all_append (λ b. b ≢ 10) (decimal count) (32 ∷ encode_lower digest) (no_feed (decimal count) (clean_decimal count fits.0))
+              (λ e. omega arith, no_feed (encode_lower digest) (clean_hex digest fits.1)),
         ),
       ),
     ),
@@ -138,30 +107,10 @@ end_is_line count digest fits = record {
 
 -- ---- how far lines go
 
-data Meets (xs ys : List Line) (t rest : List ℕ) : Type 0 where
-  within : (more : List Line) → xs ≡ ys ++ more → rest ≡ text more ++ t → Meets xs ys t rest
-  past : (y : Line) (before more : List Line) → ys ≡ before ++ y ∷ more → t ≡ y ++ 10 ∷ (text more ++ rest) → Meets xs ys t rest
-
-meets : (xs ys : List Line) (t rest : List ℕ) → AreTextLines xs → AreTextLines ys → text xs ++ t ≡ text ys ++ rest → Meets xs ys t rest
-meets xs [] t rest are_x are_y e = within xs refl (sym e)
-meets [] (y ∷ ys) t rest are_x are_y e = past y [] ys refl (e ∙ ap (λ z. z ++ rest) (text_cons y ys) ∙ append_assoc y (10 ∷ text ys) rest)
-meets (x ∷ xs) (y ∷ ys) t rest are_x are_y e =
-    let cut = cut_at 10 x y (text xs ++ t) (text ys ++ rest) are_x.0.one are_y.0.one
-    (sym (append_assoc x (10 ∷ text xs) t) ∙ ap (λ z. z ++ t) (sym (text_cons x xs)) ∙ e ∙ ap (λ z. z ++ rest) (text_cons y ys) ∙ append_assoc y (10 ∷ text ys) rest) in
-    go cut.0 (meets xs ys t rest are_x.1 are_y.1 cut.1)
-  where
-    go : x ≡ y → Meets xs ys t rest → Meets (x ∷ xs) (y ∷ ys) t rest
-    go same (within more e left) = within more (λ i. same i ∷ e i) left
-    go same (past z before more e left) = past z (y ∷ before) more (ap (λ w. y ∷ w) e) left
-
 pub record Stands (bytes : List ℕ) (f : Formed bytes) (fed : List Line) (left : List ℕ) : Type 0 where
   pub more : List Line
   pub lines : print_lines f.rows ≡ fed ++ more
   pub left_is : left ≡ text more ++ (end_line f.count f.digest ++ 10 ∷ [])
-
-no_end_among : (before : List Line) (y : Line) (more : List Line) → AllByRecursion IsNoEnd (before ++ y ∷ more) → IsNoEnd y
-no_end_among [] y more all = all.0
-no_end_among (x ∷ before) y more all = no_end_among before y more all.1
 
 -- lines of a print that were taken are first among those of the file
 pub stands : (bytes : List ℕ) (f : Formed bytes) (fed : List Line) (left : List ℕ) → AreTextLines fed → AllByRecursion IsNoEnd fed → bytes ≡ text (header ∷ fed) ++ left → Stands bytes f fed left
@@ -171,8 +120,8 @@ stands bytes f fed left are no_end e =
     let cut = cut_at 10 header header (text (print_lines f.rows) ++ ends) (text fed ++ left) letters_header letters_header
     (sym (append_assoc header (10 ∷ text (print_lines f.rows)) ends) ∙ ap (λ z. z ++ ends) (sym (text_cons header (print_lines f.rows))) ∙ first
     ∙ ap (λ z. z ++ left) (text_cons header fed) ∙ append_assoc header (10 ∷ text fed) left) in
-    go (meets (print_lines f.rows) fed ends left (are_lines f.rows f.print) are cut.1)
+    go (fronts IsLine (λ x is. is.one) (print_lines f.rows) fed ends left (are_lines f.rows f.print) are cut.1)
   where
-    go : Meets (print_lines f.rows) fed (end_line f.count f.digest ++ 10 ∷ []) left → Stands bytes f fed left
-    go (within more lines rest) = record { more = more; lines = lines; left_is = rest }
-    go (past y before more lines rest) = absurd (no_end_among before y more (subst (λ z. AllByRecursion IsNoEnd z) lines no_end) (10 ∷ (text more ++ left)) (110 ∷ 100 ∷ 32 ∷ ((decimal f.count ++ 32 ∷ encode_lower f.digest) ++ 10 ∷ [])) (sym rest))
+    go : Fronts (print_lines f.rows) fed (end_line f.count f.digest ++ 10 ∷ []) left → Stands bytes f fed left
+    go (longer more lines rest) = record { more = more; lines = lines; left_is = rest }
+    go (shorter y more lines rest) = absurd ((all_parts IsNoEnd (print_lines f.rows) (y ∷ more) (subst (λ z. AllByRecursion IsNoEnd z) lines no_end)).1.0 (10 ∷ (text more ++ left)) (110 ∷ 100 ∷ 32 ∷ ((decimal f.count ++ 32 ∷ encode_lower f.digest) ++ 10 ∷ [])) (sym rest))

@@ -1,5 +1,5 @@
 -- Why a decoder answers no print.
-use Rattle.std.proofs.Common.{◌≡◌, ◌≢◌, ◌⊎◌, ℕ, ◌+◌, ◌^◌, ◌<◌, List, [], ◌∷◌, ◌++◌, length, decimal, Option, Some, None, Err, sym, ap, ◌∙◌, subst, inl, inr, append_assoc, arith}
+use Rattle.std.proofs.Common.{◌≡◌, ◌≢◌, ◌⊎◌, ℕ, ◌^◌, ◌<◌, List, [], ◌∷◌, ◌++◌, length, decimal, Option, Some, None, Err, sym, ap, ◌∙◌, subst, inl, inr, append_assoc, arith}
 use Rattle.std.specs.Prelude.{IfSome}
 use Rattle.std.specs.List.{AllByRecursion}
 use Rattle.std.specs.Io.KnownBytes.{Keeps, Consumes, IsAtEnd}
@@ -12,32 +12,26 @@ use Rattle.ts_text.specs.declared.fault.TextFault.{TextFault}
 use Rattle.ts_text.specs.declared.fault.TextFault.TheVariants as text_fault
 use Rattle.ts_model.specs.Trees.{Listing}
 use Rattle.ts_model.specs.Texts.{Line, text, print_lines, archive_front, IsPrintBody, IsArchiveText, HasWrongEnd}
+use Rattle.ts_name.proofs.Spelling.{clean_decimal, cut_at, no_space}
+use Rattle.ts_name.proofs.Utf8.{all_parts}
+use Rattle.ts_model.proofs.Lines.{no_text, text_cons}
+use Rattle.ts_model.proofs.Spelling.{one_hex}
 use Rattle.ts_model.specs.declared.row.Stamp.{Stamp}
-use Rattle.ts_tree.proofs.Lines.{text_cons}
-use Rattle.ts_tree.proofs.Taken.{Taken, taken_failed}
-use Rattle.ts_tree.proofs.Words.{clean_decimal, clean_without, cut_at, one_hex}
+use Rattle.ts_tree.proofs.Taken.{Taken, taken_failed, taken_more}
 use Rattle.ts_print.specs.Faults.{Refuses}
 use Rattle.ts_print.specs.Readers.{BeginsNoPrint}
 use Rattle.ts_print.specs.declared.fault.PrintFault.{PrintFault}
 use Rattle.ts_print.specs.declared.fault.PrintFault.TheVariants as print_fault
 use Rattle.ts_archive.specs.Endings.{header, end_line, EndFits, IsNoArchive, EndsWrong, FindsNoArchive}
 use Rattle.ts_archive.specs.Faults.{fault_of_reader, fault_of_text}
+use Rattle.ts_archive.proofs.Archives.{wrong_end}
 use Rattle.ts_archive.proofs.Forms.{Formed, IsNoEnd, Stands, are_lines, end_is_line, formed_right, header_is_line, no_archive, print_no_end, stands}
 
 -- ---- at the end line
 
-some_bytes : (x : List ℕ) (rest : List ℕ) → x ++ 10 ∷ rest ≢ []
-some_bytes [] rest e = cc
-some_bytes (b ∷ x) rest e = cc
-
 some_after : (more : List Line) (x : List ℕ) (rest : List ℕ) → text more ++ (x ++ 10 ∷ rest) ≢ []
-some_after [] x rest e = some_bytes x rest e
-some_after (m ∷ more) x rest e = some_bytes m (text more ++ (x ++ 10 ∷ rest)) (sym (append_assoc m (10 ∷ text more) (x ++ 10 ∷ rest)) ∙ ap (λ z. z ++ (x ++ 10 ∷ rest)) (sym (text_cons m more)) ∙ e)
-
--- what holds of all lines holds of the later ones
-later : (P : Line → Type 0) (xs ys : List Line) → AllByRecursion P (xs ++ ys) → AllByRecursion P ys
-later P [] ys all = all
-later P (x ∷ xs) ys all = later P xs ys all.1
+some_after [] x rest e = no_text x rest e
+some_after (m ∷ more) x rest e = no_text m (text more ++ (x ++ 10 ∷ rest)) (sym (append_assoc m (10 ∷ text more) (x ++ 10 ∷ rest)) ∙ ap (λ z. z ++ (x ++ 10 ∷ rest)) (sym (text_cons m more)) ∙ e)
 
 -- its count is a number, where the lines before it were counted
 fits_here : (bytes : List ℕ) (f : Formed bytes) (fed : List Line) (n : ℕ) → n ≡ length fed → n < 2 ^ 64 → print_lines f.rows ≡ fed → EndFits f.count f.digest
@@ -67,7 +61,7 @@ unlined bytes left fed n r none f = let s = standing bytes left fed n f r in go 
     go : (more : List Line) → print_lines f.rows ≡ fed ++ more → left ≡ text more ++ (end_line f.count f.digest ++ 10 ∷ []) → ⊥
     go [] lines is = none.none (end_line f.count f.digest) [] (end_is_line f.count f.digest (fits_here bytes f fed n r.number r.small (lines ∙ append-nil fed))) is
     go (m ∷ more) lines is =
-        none.none m (text more ++ (end_line f.count f.digest ++ 10 ∷ [])) (later IsLine fed (m ∷ more) (subst (λ z. AllByRecursion IsLine z) lines (are_lines f.rows f.print))).0
+        none.none m (text more ++ (end_line f.count f.digest ++ 10 ∷ [])) (all_parts IsLine fed (m ∷ more) (subst (λ z. AllByRecursion IsLine z) lines (are_lines f.rows f.print))).1.0
         (is ∙ ap (λ z. z ++ (end_line f.count f.digest ++ 10 ∷ [])) (text_cons m more) ∙ append_assoc m (10 ∷ text more) (end_line f.count f.digest ++ 10 ∷ []))
 
 -- the next line is the end line, with nothing behind it; or that of the next row
@@ -84,8 +78,8 @@ next_line bytes left fed n line rest f r is begins = let s = standing bytes left
         let cut = cut_at 10 line (end_line f.count f.digest) rest [] is.one (end_is_line f.count f.digest fits).one (sym begins ∙ ends) in
         last (lines ∙ append-nil fed) cut.0 cut.1
     go (m ∷ more) lines ends =
-        let m_is = (later IsLine fed (m ∷ more) (subst (λ z. AllByRecursion IsLine z) lines (are_lines f.rows f.print))).0 in
-        let m_other = (later IsNoEnd fed (m ∷ more) (subst (λ z. AllByRecursion IsNoEnd z) lines (print_no_end f.rows f.print))).0 in
+        let m_is = (all_parts IsLine fed (m ∷ more) (subst (λ z. AllByRecursion IsLine z) lines (are_lines f.rows f.print))).1.0 in
+        let m_other = (all_parts IsNoEnd fed (m ∷ more) (subst (λ z. AllByRecursion IsNoEnd z) lines (print_no_end f.rows f.print))).1.0 in
         let cut = cut_at 10 line m rest (text more ++ (end_line f.count f.digest ++ 10 ∷ [])) is.one m_is.one
         (sym begins ∙ ends ∙ ap (λ z. z ++ (end_line f.count f.digest ++ 10 ∷ [])) (text_cons m more) ∙ append_assoc m (10 ∷ text more) (end_line f.count f.digest ++ 10 ∷ [])) in
         row more (lines ∙ ap (λ z. fed ++ z ∷ more) (sym cut.0) ∙ sym (append_assoc fed (line ∷ []) more)) (subst (λ z. IsNoEnd z) (sym cut.0) m_other)
@@ -122,7 +116,7 @@ not_right bytes left fed n line rest count digest r is begins told fits wrong ro
         let k : 101 ∷ 110 ∷ 100 ∷ 32 ∷ (decimal count ++ 32 ∷ encode_lower digest) ≡ 101 ∷ 110 ∷ 100 ∷ 32 ∷ (decimal number ++ 32 ∷ encode_lower sum) = sym told ∙ same in
         let tails : decimal count ++ 32 ∷ encode_lower digest ≡ decimal number ++ 32 ∷ encode_lower sum = cc in
         let cut = cut_at 32 (decimal count) (decimal number) (encode_lower digest) (encode_lower sum)
-        (clean_without 32 (omega arith) (decimal count) (clean_decimal count fits.0)) (clean_without 32 (omega arith) (decimal number) (clean_decimal number right.0)) tails in
+        (no_space (decimal count) (clean_decimal count fits.0)) (no_space (decimal number) (clean_decimal number right.0)) tails in
         let counts : count ≡ number = decimal_injective count number fits.0 right.0 cut.0 in
         let sums : digest ≡ sum = one_hex digest sum fits.1 right.1 cut.1 in
         elim wrong [
@@ -228,7 +222,7 @@ pub at_more : (old now next new : Reading) (fed : List Line) (n : ℕ) (count : 
 at_more old now next new fed n count digest r gives told more =
     reading old now fed n (λ y. (rest : List ℕ) × (y ≡ next.line ++ 10 ∷ rest) × (rest ≢ [])) IsNoArchive r
     (gave now.left next.left next.line (λ rest. rest ≢ []) gives.bytes
-    (weaker next.left (λ x. (rest : List ℕ) × (x ≡ new.line ++ 10 ∷ rest) × Unit {0}) (λ rest. rest ≢ []) (λ x found e. some_bytes new.line found.0 (sym found.1 ∙ e))
+    (weaker next.left (λ x. (rest : List ℕ) × (x ≡ new.line ++ 10 ∷ rest) × Unit {0}) (λ rest. rest ≢ []) (λ x found e. no_text new.line found.0 (sym found.1 ∙ e))
     (gave next.left new.left new.line (λ _. Unit {0}) more.bytes (anything new.left))))
     (λ x y read found. no_archive x (not_last x y fed n next.line found.0 count digest read gives.line found.1 told found.2))
 
@@ -244,7 +238,7 @@ at_more_fault old now next new fed n count digest text_fault.NotCanonical r give
     (λ x y read found. no_archive x (not_last x y fed n next.line found.0 count digest read gives.line found.1 told found.2))
 
 -- a wrong end line is that of no archive file
-pub at_wrong_end : (old now next new : Reading) (fed : List Line) (n : ℕ) (count : ℕ) (digest : List ℕ) → Rows old now fed n → GivesLine now next → next.line ≡ end_line count digest → EndFits count digest
+at_wrong_end : (old now next new : Reading) (fed : List Line) (n : ℕ) (count : ℕ) (digest : List ℕ) → Rows old now fed n → GivesLine now next → next.line ≡ end_line count digest → EndFits count digest
     → (count ≢ length fed) ⊎ (digest ≢ sha256 (text (header ∷ fed))) → IfSome old.left (λ bytes. (rows : Listing Stamp) → ¬ IsArchiveText bytes rows)
 at_wrong_end old now next new fed n count digest r gives told fits wrong =
     reading old now fed n (λ y. (rest : List ℕ) × (y ≡ next.line ++ 10 ∷ rest) × Unit {0}) (λ bytes. (rows : Listing Stamp) → ¬ IsArchiveText bytes rows) r
@@ -252,6 +246,14 @@ at_wrong_end old now next new fed n count digest r gives told fits wrong =
     (λ x y read found rows. not_right x y fed n next.line found.0 count digest read gives.line found.1 told fits wrong rows)
 
 -- both said of the bytes
-pub both_wrong : (known : Option (List ℕ)) → IfSome known HasWrongEnd → IfSome known (λ bytes. (rows : Listing Stamp) → ¬ IsArchiveText bytes rows) → IfSome known EndsWrong
+both_wrong : (known : Option (List ℕ)) → IfSome known HasWrongEnd → IfSome known (λ bytes. (rows : Listing Stamp) → ¬ IsArchiveText bytes rows) → IfSome known EndsWrong
 both_wrong None wrong none = tt
 both_wrong (Some x) wrong none = record { wrong = wrong; none = none }
+
+-- such a line that isn't right, with nothing behind it
+pub ends_wrong : (old now next final : Reading) (fed : List Line) (n : ℕ) (line : Line) (count : ℕ) (digest : List ℕ) → Rows old now fed n → GivesLine now next → line ≡ next.line → HasEnded next final
+    → line ≡ end_line count digest → EndFits count digest → (count ≢ length fed) ⊎ (digest ≢ sha256 (text (header ∷ fed))) → IfSome old.left EndsWrong
+ends_wrong old now next final fed n line count digest r gives is ends told fits wrong =
+    let taken = subst (λ z. Taken old next (header ∷ (fed ++ z ∷ []))) (sym is) (taken_more old now next (header ∷ fed) r.taken gives) in
+    both_wrong old.left (wrong_end old next final fed line r.rows count digest taken ends told fits wrong r.print r.lines)
+    (at_wrong_end old now next final fed n count digest r gives (sym is ∙ told) fits wrong)

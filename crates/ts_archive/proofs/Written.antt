@@ -1,17 +1,14 @@
 -- What was written of an archive file.
-use Rattle.std.proofs.Common.{◌≡◌, ◌≢◌, ℕ, ◌+◌, List, [], ◌∷◌, ◌++◌, length, Option, refl, sym, ap, ◌∙◌, append_assoc, arith, length-append}
+use Rattle.std.proofs.Common.{◌≡◌, ◌≢◌, ℕ, List, [], ◌∷◌, ◌++◌, length, refl, sym, ap, ◌∙◌, arith, length-append}
 use Rattle.std.specs.List.{AllByRecursion}
-use Rattle.std.specs.Io.KnownBytes.{Appends}
-use Rattle.std.proofs.KnownBytes.{Appends-trans}
 use Rattle.sha2.specs.Sha256.{sha256}
-use Rattle.ts_text.specs.Sources.{AppendsFront}
 use Rattle.ts_name.specs.Paths.{Path, IsPath}
 use Rattle.ts_model.specs.Trees.{Listing, IsListing}
 use Rattle.ts_model.specs.Texts.{archive_front, archive_text, print_lines, print_row_lines}
 use Rattle.ts_model.specs.declared.row.Content.{Content}
 use Rattle.ts_model.specs.declared.row.Content.TheVariants.{Absent, Dir, File}
 use Rattle.ts_model.specs.declared.row.Stamp.{Stamp}
-use Rattle.ts_tree.proofs.Lines.{text_cons}
+use Rattle.ts_model.proofs.Lines.{text_cons}
 use Rattle.ts_archive.specs.Endings.{end_line}
 
 one_line_each : (p : Path) (x : Content Stamp) → x ≢ Absent → length (print_row_lines p x) ≡ 1
@@ -35,16 +32,3 @@ whole_text rows front line count is number begins ends =
     let its_line : line ≡ end_line (length (print_lines rows)) (sha256 (archive_front rows)) = ends ∙ ap (λ n. end_line n (sha256 front)) counted ∙ ap (λ z. end_line (length (print_lines rows)) (sha256 z)) begins in
     sym (ap (λ z. z ++ (line ++ 10 ∷ [])) begins ∙ ap (λ z. archive_front rows ++ (z ++ 10 ∷ [])) its_line
     ∙ ap (λ z. archive_front rows ++ z) (sym (text_cons (end_line (length (print_lines rows)) (sha256 (archive_front rows))) [])))
-
--- a beginning of the first part
-pub begun_first : (old new : Option (List ℕ)) (x y : List ℕ) → AppendsFront old new x → AppendsFront old new (x ++ y)
-begun_first old new x y begun = record { front = begun.front; rest = begun.rest ++ y; split = ap (λ z. z ++ y) begun.split ∙ append_assoc begun.front begun.rest y; added = begun.added }
-
--- the first part, and a beginning of the second
-pub begun_second : (old mid new : Option (List ℕ)) (x y : List ℕ) → Appends old mid x → AppendsFront mid new y → AppendsFront old new (x ++ y)
-begun_second old mid new x y added begun = record {
-  front = x ++ begun.front;
-  rest = begun.rest;
-  split = ap (λ z. x ++ z) begun.split ∙ sym (append_assoc x begun.front begun.rest);
-  added = Appends-trans old mid new x begun.front added begun.added;
-}

@@ -1,13 +1,13 @@
 -- What the marks that are done leave of the archive: what the run that did them left.
-use Rattle.std.proofs.Common.{◌≡◌, ◌≢◌, ◌⊎◌, ℕ, suc, ◌+◌, ◌*◌, ◌<◌, ◌≤◌, ◌/◌, ◌%◌, Bool, true, false, List, [], ◌∷◌, ◌++◌, length, sym, refl, ap, ◌∙◌, subst, inl, inr, append-nil, arith}
+use Rattle.std.proofs.Common.{◌≡◌, ◌≢◌, ℕ, suc, ◌+◌, ◌<◌, Bool, true, false, List, [], ◌∷◌, ◌++◌, length, sym, refl, ap, ◌∙◌, subst, inl, inr, append-nil, arith}
 use Rattle.std.specs.Prelude.{slice_index, slice_index_or, Result, Ok, Err, IfOk}
 use Rattle.std.specs.List.{AllByRecursion, list_any}
 use Rattle.std.specs.Int.{bit_at}
-use Rattle.std.proofs.lemmas.Bool.{true≢false, cases_Bool, cases_eq, cases_order}
+use Rattle.std.proofs.lemmas.Bool.{true≢false, cases_eq}
 use Rattle.std.proofs.lemmas.Option.{slice_get_within}
 use Rattle.ts_name.specs.Paths.{Name, Path, IsBefore}
 use Rattle.ts_model.specs.Trees.{Listing, Tree, Print, IsListing, at}
-use Rattle.ts_model.specs.Sync.{Snapshot, IsSnapshot, AreBothDirs, IsBelowDirs, HasReason, IsSkipped}
+use Rattle.ts_model.specs.Sync.{Snapshot, IsSnapshot, AreBothDirs, IsSkipped}
 use Rattle.ts_model.specs.Plans.{ActionIs, EntryIs, KindIs, Valid}
 use Rattle.ts_model.specs.Runs.{Run, Legal, Has, acts, finishes, graft, marked, after, start, word_after}
 use Rattle.ts_model.specs.declared.row.Content.TheVariants.{Absent, Dir}
@@ -20,15 +20,17 @@ use Rattle.ts_model.specs.declared.plan.Kind.TheVariants.{Mark}
 use Rattle.ts_model.specs.declared.plan.Plan.{Plan}
 use Rattle.ts_table.specs.Tables.{IsPlace}
 use Rattle.ts_laws.proofs.Settings.{Setting}
-use Rattle.ts_laws.proofs.Basics.{by_each, stable, same_stamp_at, same_names}
-use Rattle.ts_laws.proofs.Paths.{last_name, snoc_not_empty, same_parent, before_itself, before_trans, before_below, below_before, graft_at}
-use Rattle.ts_laws.proofs.Lists.{find_index}
-use Rattle.ts_laws.proofs.Reasons.{IsWhole, IsWhole-from_snapshot, dirs_above, edge_not_above_dirs, Below-from, Place, inside, outside, place_of, IsEdge, Dir-dirs, Dir-new, decide_reason, decide_skipped, still_not_Dir}
-use Rattle.ts_laws.proofs.Steps.{same_entry, reason_holds, mark_is_marked}
-use Rattle.ts_laws.proofs.Plans.{in_order, one_place, one_mark, mark_exists, mark_waits_for_dir}
+use Rattle.ts_laws.proofs.Basics.{same_stamp_at}
+use Rattle.ts_name.proofs.Order.{before_itself, before_trans, before_below}
+use Rattle.ts_laws.proofs.Grafts.{graft_at}
+use Rattle.ts_laws.proofs.Reasons.{still_not_Dir, new_dir_reason}
+use Rattle.ts_laws.proofs.Steps.{same_entry, mark_is_marked}
+use Rattle.ts_laws.proofs.Plans.{in_order, mark_exists, mark_waits_for_dir}
 use Rattle.ts_laws.proofs.Entries.{reason_has_entry, parent_is_nearest}
 use Rattle.ts_laws.proofs.Runs.{IsRun, IsRun-from_legal, waited_for}
-use Rattle.ts_laws.proofs.Marks.{entry_edge, over_is_Dir, mark_kept, mark_over, mark_over_mark, archive_kept, marked_after}
+use Rattle.ts_laws.specs.Laws.{IsEntryOf}
+use Rattle.ts_laws.proofs.Marks.{mark_kept, mark_over_mark, archive_from_marks}
+use Rattle.ts_laws.proofs.Places.{over_old_dir, not_root, parent_dirs, dir_before, ascends_to, apart_from}
 use Rattle.ts_laws.proofs.Carried.{AreFrom, first_from, rest_from}
 use Rattle.ts_carry.specs.Edits.{marks, left_by, with_put, ComesFirst, MayFollow}
 use Rattle.ts_carry.proofs.Edits.{first_marks, are_trees}
@@ -37,7 +39,8 @@ use Rattle.ts_board.specs.declared.law.Terms.{Terms}
 use Rattle.ts_board.specs.Checks.{IsFromCheck}
 use Rattle.ts_board.specs.Kept.{HasLeft}
 use Rattle.ts_board.specs.Archives.{AreMarked, picked}
-use Rattle.ts_board.proofs.Words.{done_word, few_open, weight, weight_one}
+use Rattle.ts_board.proofs.Words.{done_word, few_open, true_from_bit}
+use Rattle.ts_board.specs.Runs.{bit}
 
 -- the mark of the entry at this place has acted
 abbrev pub IsMarkedIn : Plan → Run → ℕ → Type 0
@@ -63,9 +66,6 @@ put_mark s t p reason.Held h = absurd (h (inr refl))
 
 module _ (given : Setting) (r : Run) (legal : Legal given.s given.plan r) where
   open given use {s, plan, valid, lawful, a, b}
-
-  whole : IsWhole s
-  whole = IsWhole-from_snapshot s lawful
 
   run : IsRun plan r
   run = IsRun-from_legal s plan valid (start s a b) r legal
@@ -117,85 +117,34 @@ module _ (given : Setting) (r : Run) (legal : Legal given.s given.plan r) where
   -- ---- where a marked entry stands
 
   module _ (k : ℕ) (x : Entry) (is : EntryIs plan k x) (chosen : Chosen k) where
-    is_below : IsBelowDirs s.first s.second x.path
-    is_below = Below-from s x.path x.reason (reason_holds s plan valid k x is)
-
-    -- only new directories are above a directory of both
-    above_is_Dir : (q : Path) → AreBothDirs s.first s.second q → (e : ℕ) (y : Entry) → EntryIs plan e y → (more : Path) → q ≡ y.path ++ more → y.reason ≡ reason.Dir
-    above_is_Dir q dirs e y is_y more at = stable (decide_reason y.reason reason.Dir) (λ ne. edge_not_above_dirs s whole y.path q (entry_edge given e y is_y ne) dirs more at)
-
-    -- the new directory that it is in stands before it
-    dir_before : (parent : Path) (name : Name) → x.path ≡ parent ++ name ∷ [] → (e : ℕ) (y : Entry) → EntryIs plan e y → y.path ≡ parent → e < k
-    dir_before parent name at e y is_y same = elim (cases_order e k) [
-      | inl e_is ↦ absurd (before_itself x.path (subst (λ z. IsBefore z.path x.path) (same_entry plan k y x (subst (λ z. EntryIs plan z y) e_is is_y) is) over))
-      | inr (inl less) ↦ less
-      | inr (inr more) ↦ absurd (before_itself y.path (before_trans y.path x.path y.path over (in_order s plan valid k e x y is is_y more)))
-    ]
-      where
-        over : IsBefore y.path x.path
-        over = subst (λ z. IsBefore y.path z) (ap (λ z. z ++ name ∷ []) same ∙ sym at) (before_below y.path name [])
-
-    -- and its mark has acted, so there is a directory by then
+    -- the mark of the new directory that it is in has acted, so there is a directory by then
     stands : (t : Print) → IsMarkedTo k t → IsPlace t x.path
-    stands t before = record { not_root = λ root. snoc_not_empty is_below.0 is_below.1 (sym is_below.2 ∙ root); parent = at_parent }
+    stands t before = record { not_root = not_root given k x is; parent = at_parent }
       where
         at_parent : (parent : Path) (name : Name) → x.path ≡ parent ++ name ∷ [] → t parent ≡ Dir
         at_parent parent name at = elim (same_stamp_at (s.archive parent) Dir) [
-          | yes old ↦ before.kept parent (λ e y less is_y chosen_y more over. kept old e y is_y more over) ∙ old
-          | no new ↦ by_mark new (last_name parent)
+          | yes old ↦ before.kept parent (λ e y less is_y chosen_y more over. over_old_dir given parent dirs old e y is_y more over) ∙ old
+          | no new ↦ by_mark (reason_has_entry s plan valid parent reason.Dir (new_dir_reason s lawful parent dirs new))
         ]
           where
             dirs : AreBothDirs s.first s.second parent
-            dirs = subst (λ z. AreBothDirs s.first s.second z) (same_parent is_below.0 parent is_below.1 name (sym is_below.2 ∙ at)) is_below.3
+            dirs = parent_dirs given k x is parent name at
 
-            kept : s.archive parent ≡ Dir → (e : ℕ) (y : Entry) → EntryIs plan e y → (more : Path) → parent ≡ y.path ++ more → (y.reason ≡ reason.Dir) × (more ≢ [])
-            kept old e y is_y more over =
-                let why = above_is_Dir parent dirs e y is_y more over in (
-                  why,
-                  λ empty. Dir-new s y.path (subst (λ z. ¬ (¬ HasReason s y.path z)) why (reason_holds s plan valid e y is_y))
-                      (ap s.archive (sym (over ∙ ap (λ z. y.path ++ z) empty ∙ append-nil y.path)) ∙ old),
-                )
-
-            by_mark : s.archive parent ≢ Dir → (parent ≡ []) ⊎ ((above : Path) × (last : Name) × (parent ≡ above ++ last ∷ [])) → t parent ≡ Dir
-            by_mark new (inl root) = absurd (new (ap s.archive root ∙ lawful.archive.root))
-            by_mark new (inr (above, last, e)) =
-                let found = reason_has_entry s plan valid parent reason.Dir ((above, last, e, dirs_above s whole above parent last [] e dirs), (dirs, new)) in
+            by_mark : IsEntryOf plan parent reason.Dir → t parent ≡ Dir
+            by_mark found =
                 let dir = found.1 in
                 let near = parent_is_nearest plan k found.0 x dir name is found.2 found.4 (at ∙ ap (λ z. z ++ name ∷ []) (sym found.3)) in
                 let mark = mark_exists s plan valid found.0 dir found.2 (λ skip. still_not_Dir dir.reason skip found.4) in
                 let waits = mark_waits_for_dir s plan valid chosen.0 k found.0 mark.0 chosen.1 near mark.1 in
                 let acted = waited_for plan r chosen.0 mark.0 run (run.ordered.acted chosen.0 chosen.2) waits in
                 ap t (sym found.3 ∙ sym (append-nil dir.path))
-                ∙ before.written found.0 dir [] (dir_before parent name at found.0 dir found.2 found.3) found.2 (mark.0, mark.1, acted) (λ _. refl)
+                ∙ before.written found.0 dir [] (dir_before given k x is parent name at found.0 dir found.2 found.3) found.2 (mark.0, mark.1, acted) (λ _. refl)
                 ∙ ap (λ z. marked s z dir.path []) found.4
-
-    -- later entries come after it
-    ascends_to : (l : ℕ) (xs : List Entry) → k < l → AreFrom plan l xs → AllByRecursion (λ later. IsBefore x.path later.path) xs
-    ascends_to l [] less from = tt
-    ascends_to l (y ∷ ys) less from = (
-      in_order s plan valid k l x y is (first_from plan l y ys from) less,
-      ascends_to (suc l) ys (omega (arith, less)) (rest_from plan l y ys from),
-    )
-
-    -- and after what is below it, unless it is a new directory
-    apart_from : x.reason ≢ reason.Dir → (rest : Path) → (l : ℕ) (xs : List Entry) → k < l → AreFrom plan l xs → AllByRecursion (λ later. IsBefore (x.path ++ rest) later.path) xs
-    apart_from ne rest l [] less from = tt
-    apart_from ne rest l (y ∷ ys) less from = (
-      below_before x.path rest y.path first (λ above. not_above above.0 above.1),
-      apart_from ne rest (suc l) ys (omega (arith, less)) (rest_from plan l y ys from),
-    )
-      where
-        first : IsBefore x.path y.path
-        first = in_order s plan valid k l x y is (first_from plan l y ys from) less
-
-        not_above : (more : Path) → y.path ≡ x.path ++ more → ⊥
-        not_above [] at = before_itself y.path (subst (λ z. IsBefore z y.path) (sym (at ∙ append-nil x.path)) first)
-        not_above (name ∷ more) at = ne (over_is_Dir given k l x y is (first_from plan l y ys from) name more at)
 
     comes_first : (xs : List Entry) (flags : List Bool) → AreFrom plan (suc k) xs → ComesFirst x.path (marks s.first s.second x.reason x.path) (picked xs flags)
     comes_first xs flags from = first_marks s.first s.second x (picked xs flags)
-        (picked_all (λ later. IsBefore x.path later.path) xs flags (ascends_to (suc k) xs (omega arith) from))
-        (λ ne rest. picked_all (λ later. IsBefore (x.path ++ rest) later.path) xs flags (apart_from ne rest (suc k) xs (omega arith) from))
+        (picked_all (λ later. IsBefore x.path later.path) xs flags (ascends_to given k x is (suc k) xs (omega arith) from))
+        (λ ne rest. picked_all (λ later. IsBefore (x.path ++ rest) later.path) xs flags (apart_from given k x is ne rest (suc k) xs (omega arith) from))
 
   -- ---- all marked entries
 
@@ -240,50 +189,11 @@ module _ (given : Setting) (r : Run) (legal : Legal given.s given.plan r) where
 
   -- ---- that is the archive after the run
 
-  -- no mark that acted is of the entry at p, or one is
-  marked_or_not : (p : Path) → ((e : ℕ) (x : Entry) → EntryIs plan e x → Chosen e → x.path ≢ p) ⊎ ((e : ℕ) × (x : Entry) × EntryIs plan e x × (x.path ≡ p) × Chosen e)
-  marked_or_not p = go (find_index (λ x. x.path ≡ p) (λ x. same_names x.path p) plan.entries)
-    where
-      go : ((k : ℕ) × (x : Entry) × EntryIs plan k x × (x.path ≡ p)) ⊎ ((k : ℕ) (x : Entry) → EntryIs plan k x → x.path ≢ p)
-          → ((e : ℕ) (x : Entry) → EntryIs plan e x → Chosen e → x.path ≢ p) ⊎ ((e : ℕ) × (x : Entry) × EntryIs plan e x × (x.path ≡ p) × Chosen e)
-      go (inr none) = inl (λ e x is chosen. none e x is)
-      go (inl (k, x, is, at)) = elim (decide_skipped x.reason) [
-        | yes skip ↦ inl (λ e y is_y chosen same. markable k x is (here e y is_y chosen same) skip)
-        | no unskipped ↦ by_mark (mark_exists s plan valid k x is unskipped)
-      ]
-        where
-          here : (e : ℕ) (y : Entry) → EntryIs plan e y → Chosen e → y.path ≡ p → Chosen k
-          here e y is_y chosen same = subst (λ z. Chosen z) (one_place s plan valid e k y x is_y is (same ∙ sym at)) chosen
-
-          by_mark : (m : ℕ) × KindIs plan m (Mark k) → ((e : ℕ) (x : Entry) → EntryIs plan e x → Chosen e → x.path ≢ p) ⊎ ((e : ℕ) × (x : Entry) × EntryIs plan e x × (x.path ≡ p) × Chosen e)
-          by_mark (m, kind) = elim (cases_Bool (list_any (acts m) r)) [
-            | inl acted ↦ inr (k, x, is, at, (m, kind, acted))
-            | inr idle ↦ inl (λ e y is_y chosen same.
-                let this = here e y is_y chosen same in
-                true≢false (sym (subst (λ z. Has r (acts z)) (one_mark s plan valid this.0 m k this.1 kind) this.2) ∙ idle))
-          ]
-
   pub archive_is : (t : Print) → IsMarkedTo (length plan.entries) t → t ≡ (after s plan (start s a b) r).archive
-  archive_is t before = by_each t (after s plan (start s a b) r).archive (λ q. at_place q (place_of s whole q))
-    where
-      at_path : (p rest : Path) → IsEdge s p ⊎ (AreBothDirs s.first s.second p × (rest ≡ [])) → t (p ++ rest) ≡ (after s plan (start s a b) r).archive (p ++ rest)
-      at_path p rest kind_of_p = elim (marked_or_not p) [
-        | inl others ↦ before.kept (p ++ rest) (λ e x less is chosen more at. mark_over given p rest kind_of_p e x is (others e x is chosen) more at)
-            ∙ sym (archive_kept given (p ++ rest) r legal (record { each = λ i e x acted kind is more at. mark_over given p rest kind_of_p e x is (others e x is (i, kind, acted)) more at }))
-        | inr found ↦ subst (λ z. t (z ++ rest) ≡ (after s plan (start s a b) r).archive (z ++ rest)) found.3
-            (before.written found.0 found.1 rest (slice_get_within plan.entries found.0 found.1 found.2) found.2 found.4 (only_root found.0 found.1 found.2 found.3)
-            ∙ sym (marked_after given found.4.0 found.0 found.1 rest found.4.1 found.2 (only_root found.0 found.1 found.2 found.3) r legal found.4.2))
-      ]
-        where
-          only_root : (e : ℕ) (x : Entry) → EntryIs plan e x → x.path ≡ p → x.reason ≡ reason.Dir → rest ≡ []
-          only_root e x is at new = elim kind_of_p [
-            | inr dirs ↦ dirs.1
-            | inl edge ↦ absurd (edge.no_dirs (Dir-dirs s p (subst (λ z. ¬ (¬ HasReason s z reason.Dir)) at (subst (λ z. ¬ (¬ HasReason s x.path z)) new (reason_holds s plan valid e x is)))))
-          ]
-
-      at_place : (q : Path) → Place s q → t q ≡ (after s plan (start s a b) r).archive q
-      at_place q (inside dirs) = subst (λ z. t z ≡ (after s plan (start s a b) r).archive z) (append-nil q) (at_path q [] (inr (dirs, refl)))
-      at_place q (outside p rest e edge) = subst (λ z. t z ≡ (after s plan (start s a b) r).archive z) (sym e) (at_path p rest (inl edge))
+  archive_is t before = archive_from_marks given r legal t
+      (λ q none. before.kept q (λ e x less is chosen more at. none.each chosen.0 e x chosen.2 chosen.1 is more at))
+      (λ p rest found only. subst (λ z. t (z ++ rest) ≡ marked s found.entry.reason z rest) found.at
+      (before.written found.place found.entry rest (slice_get_within plan.entries found.place found.entry found.is) found.is (found.mark, found.kind, found.chosen) only))
 
 -- ---- what is left
 
@@ -317,7 +227,7 @@ module _ (k : Checkup) (words : List ℕ) (flags : List Bool) (archive : IsListi
   ran = IsRun-from_legal (snapshot_of k) k.plan valid (start (snapshot_of k) nowhere nowhere) run legal_run
 
   -- the word of an action says whether it has acted
-  word_is : (i : ℕ) (action : Action) → ActionIs k.plan i action → bit_at (slice_index words i) 33 ≡ weight (list_any (finishes i) run)
+  word_is : (i : ℕ) (action : Action) → ActionIs k.plan i action → bit_at (slice_index words i) 33 ≡ bit (list_any (finishes i) run)
   word_is i action is =
       let within = slice_get_within k.plan.actions i action is in
       let size_is : length t.plan.actions ≡ length k.plan.actions = ap (λ p. length p.actions) from.0 in
@@ -328,9 +238,9 @@ module _ (k : Checkup) (words : List ℕ) (flags : List Bool) (archive : IsListi
     (λ set. let found = marked.only e set in (
       found.0,
       found.1,
-      ran.ordered.finished found.0 (weight_one (list_any (finishes found.0) run) (sym (word_is found.0 found.1.0 found.1.1) ∙ found.2)),
+      ran.ordered.finished found.0 (true_from_bit (list_any (finishes found.0) run) (sym (word_is found.0 found.1.0 found.1.1) ∙ found.2)),
     )),
-    λ (i, kind, acted). marked.all i e (slice_get_within k.plan.actions i kind.0 kind.1) kind (word_is i kind.0 kind.1 ∙ ap weight (left.settled i acted)) within,
+    λ (i, kind, acted). marked.all i e (slice_get_within k.plan.actions i kind.0 kind.1) kind (word_is i kind.0 kind.1 ∙ ap bit (left.settled i acted)) within,
   )
 
   flags_right : (a b : Tree) → FlagsAre (setting a b) run legal_run 0 k.plan.entries flags

@@ -16,7 +16,7 @@ use Rattle.ts_model.specs.declared.plan.Kind.TheVariants.{Piece}
 use Rattle.ts_name.specs.Paths.{Path}
 use Rattle.ts_model.specs.Trees.{at}
 use Rattle.ts_laws.proofs.Steps.{does_of}
-use Rattle.ts_laws.proofs.Lists.{element_at, weight, Contains-from_Among, Among}
+use Rattle.ts_laws.proofs.Lists.{element_at, weight, Contains-from_Among, Among, Among-push_cases}
 use Rattle.ts_laws.proofs.Runs.{count_push}
 use Rattle.ts_board.specs.declared.law.Terms.{Terms}
 use Rattle.ts_board.specs.Terms.{IsLegalRun, Suits, IsOrderly, preds}
@@ -60,44 +60,28 @@ claims_tally i h = tally_same (Claim i) (model.claims i) at h
   where
     at : (y : Step) → bit (same (Claim i) y) ≡ bit (model.claims i y)
     at (Claim j) = refl
-    at (Take c k) = refl
-    at (Act j w) = refl
-    at (Done j) = refl
-    at (Fail j) = refl
-    at (Release j k) = refl
+    at _ = refl
 
 pub acts_tally : (i : ℕ) (h : List Step) → times (Act i Marked) h ≡ tally (acts i) h
 acts_tally i h = tally_same (Act i Marked) (acts i) at h
   where
     at : (y : Step) → bit (same (Act i Marked) y) ≡ bit (acts i y)
     at (Claim j) = refl
-    at (Take c k) = refl
-    at (Act j w) = refl
-    at (Done j) = refl
-    at (Fail j) = refl
-    at (Release j k) = refl
+    at _ = refl
 
 pub finishes_tally : (i : ℕ) (h : List Step) → times (Done i) h ≡ tally (finishes i) h
 finishes_tally i h = tally_same (Done i) (finishes i) at h
   where
     at : (y : Step) → bit (same (Done i) y) ≡ bit (finishes i y)
     at (Claim j) = refl
-    at (Take c k) = refl
-    at (Act j w) = refl
-    at (Done j) = refl
-    at (Fail j) = refl
-    at (Release j k) = refl
+    at _ = refl
 
 pub fails_tally : (i : ℕ) (h : List Step) → times (Fail i) h ≡ tally (fails i) h
 fails_tally i h = tally_same (Fail i) (fails i) at h
   where
     at : (y : Step) → bit (same (Fail i) y) ≡ bit (fails i y)
     at (Claim j) = refl
-    at (Take c k) = refl
-    at (Act j w) = refl
-    at (Done j) = refl
-    at (Fail j) = refl
-    at (Release j k) = refl
+    at _ = refl
 
 and_turned : (a b : Bool) → (a && b) ≡ (b && a)
 and_turned true true = refl
@@ -109,12 +93,8 @@ pub releases_tally : (i j : ℕ) (h : List Step) → times (Release i j) h ≡ t
 releases_tally i j h = tally_same (Release i j) (releases i j) at h
   where
     at : (y : Step) → bit (same (Release i j) y) ≡ bit (releases i j y)
-    at (Claim k) = refl
-    at (Take c k) = refl
-    at (Act k w) = refl
-    at (Done k) = refl
-    at (Fail k) = refl
     at (Release k l) = ap bit (and_turned (eqb j l) (eqb i k))
+    at _ = refl
 
 pub taken_tally : (k : ℕ) (h : List Step) → taken k h ≡ tally (takes k) h
 taken_tally k [] = refl
@@ -142,11 +122,6 @@ counted_quiet t h x j c quiet away =
     let n = count_push (releases_to j) h x in let w : weight (releases_to j x) ≡ 0 = ap weight quiet in let o = open_still (preds t.plan j) h x j away in let b = c j in omega arith
 
 counted_step : (t : Terms) (h : List Step) (x : Step) → Counted t h → Allowed t h x → Counted t (h ++ x ∷ [])
-counted_step t h (Claim i) c al j = counted_quiet t h (Claim i) j c refl (λ p. refl)
-counted_step t h (Take i k) c al j = counted_quiet t h (Take i k) j c refl (λ p. refl)
-counted_step t h (Act i w) c al j = counted_quiet t h (Act i w) j c refl (λ p. refl)
-counted_step t h (Done i) c al j = counted_quiet t h (Done i) j c refl (λ p. refl)
-counted_step t h (Fail i) c al j = counted_quiet t h (Fail i) j c refl (λ p. refl)
 counted_step t h (Release i l) c al j = ⊎_elim
     (λ (e : (j ≡ l) × (bit (eqb j l) ≡ 1)).
     let one : weight (releases_to j (Release i l)) ≡ 1 = weight_bit (eqb j l) ∙ e.1 in
@@ -156,6 +131,7 @@ counted_step t h (Release i l) c al j = ⊎_elim
     let b = c j in omega arith)
     (λ (e : (j ≢ l) × (bit (eqb j l) ≡ 0)). counted_quiet t h (Release i l) j c (ne_eqb j l e.0) (λ p. bit_other p i j l e.0))
     (bump j l)
+counted_step t h x c al j = counted_quiet t h x j c refl (λ p. refl)
 
 pub counted : (t : Terms) (log : List Step) → IsLegal t log → Counted t log
 counted t log l = legal_each t (Counted t) (λ h x c al. counted_step t h x c al) [] log (λ j. (let w = word_start (preds t.plan j) j in omega arith)) l
@@ -204,8 +180,9 @@ waits_counted plan i j h = go (slice_get plan.actions j) refl h
     go None e h = absurd (omega arith)
     go (Some a) e h = (a, e, Contains-from_Among a.preds i (among_counted i a.preds h))
 
-pending_from : (h : List Step) (i : ℕ) → 0 < times (Claim i) h → times (Act i Marked) h ≡ 0 → times (Fail i) h ≡ 0 → IsPending h i
-pending_from h i c a f = (has_from (model.claims i) h (let e = claims_tally i h in omega arith), hasnot_from (acts i) h (let e = acts_tally i h in omega arith), hasnot_from (fails i) h (let e = fails_tally i h in omega arith))
+-- claimed, and neither acted nor failed
+pub pending_now : (h : List Step) (i : ℕ) → 0 < times (Claim i) h → times (Act i Marked) h ≡ 0 → times (Fail i) h ≡ 0 → IsPending h i
+pending_now h i c a f = (has_from (model.claims i) h (let e = claims_tally i h in omega arith), hasnot_from (acts i) h (let e = acts_tally i h in omega arith), hasnot_from (fails i) h (let e = fails_tally i h in omega arith))
 
 words_allow : (t : Terms) (h : List Step) (x : Step) → IsLegal t h → Allowed t h x → WordsAllow t.plan h x
 words_allow t h (Claim i) l al =
@@ -215,29 +192,22 @@ words_allow t h (Take c k) l al =
     let claimed = al.0 in let done = al.2 in let fresh = al.3 in
     (has_from (model.claims c) h (let e = claims_tally c h in omega arith), al.1, has_from (finishes k) h (let e = finishes_tally k h in omega arith), hasnot_from (takes k) h (let e = taken_tally k h in omega arith))
 words_allow t h (Act i w) l al =
-    let c = al.0 in (pending_from h i (omega arith) al.1 al.2, λ k piece. has_from (takes k) h (let e = taken_tally k h in let g = al.3 k piece in omega arith))
+    let c = al.0 in (pending_now h i (omega arith) al.1 al.2, λ k piece. has_from (takes k) h (let e = taken_tally k h in let g = al.3 k piece in omega arith))
 words_allow t h (Done i) l al =
     let a = al.0 in let d = al.1 in (has_from (acts i) h (let e = acts_tally i h in omega arith), hasnot_from (finishes i) h (let e = finishes_tally i h in omega arith))
-words_allow t h (Fail i) l al = let c = al.0 in pending_from h i (omega arith) al.1 al.2
+words_allow t h (Fail i) l al = let c = al.0 in pending_now h i (omega arith) al.1 al.2
 words_allow t h (Release i j) l al =
     let d = al.0 in let o = al.1 in let r = al.2 in
     (has_from (finishes i) h (let e = finishes_tally i h in omega arith), waits_counted t.plan i j (omega arith), hasnot_from (releases i j) h (let e = releases_tally i j h in omega arith))
 
 suits : (t : Terms) (h : List Step) (x : Step) → Allowed t h x → Suits t x
-suits t h (Claim i) al s f = tt
-suits t h (Take c k) al s f = tt
 suits t h (Act i w) al s f = al.4 s f
-suits t h (Done i) al s f = tt
-suits t h (Fail i) al s f = tt
-suits t h (Release i j) al s f = tt
+suits t h _ al s f = tt
 
 -- what is legal by counts is legal
 pub legal_run : (t : Terms) (log : List Step) → IsLegal t log → IsLegalRun t log
 legal_run t log l s f = (legal_each t (λ h. IsLegal t h × Legal s t.plan h)
     (λ h x p al. (legal_push t [] h x p.0 al, model_push s t.plan [] h x p.1 (words_allow t h x p.0 al) (suits t h x al s f))) [] log (tt, tt) l).1
-
-pub pending_now : (h : List Step) (i : ℕ) → 0 < times (Claim i) h → times (Act i Marked) h ≡ 0 → times (Fail i) h ≡ 0 → IsPending h i
-pending_now h i c a f = pending_from h i c a f
 
 -- ---- pieces
 
@@ -249,15 +219,11 @@ taken_by t ord log l c k piece = legal_each t (λ h. taken k h ≡ times (Take c
     push h x e p = omega (arith, taken_push k x h, times_push (Take c k) x h)
 
     next : (h : List Step) (x : Step) → taken k h ≡ times (Take c k) h → Allowed t h x → taken k (h ++ x ∷ []) ≡ times (Take c k) (h ++ x ∷ [])
-    next h (Claim i) p al = push h (Claim i) refl p
-    next h (Act i w) p al = push h (Act i w) refl p
-    next h (Done i) p al = push h (Done i) refl p
-    next h (Fail i) p al = push h (Fail i) refl p
-    next h (Release i j) p al = push h (Release i j) refl p
     next h (Take d l) p al = push h (Take d l) (⊎_elim
         (λ (e : (k ≡ l) × (bit (eqb k l) ≡ 1)). let one : c ≡ d = ord.one_commit c d k piece (subst (λ (z : ℕ). IsPieceOf t.plan d z) (sym e.0) al.1) in ap (λ (b : Bool). bit b) (eq-eqb k l e.0) ∙ sym (λ i. bit (eq-eqb k l e.0 i && eq-eqb c d one i)))
         (λ (e : (k ≢ l) × (bit (eqb k l) ≡ 0)). e.1 ∙ sym (ap (λ (b : Bool). bit (b && eqb c d)) (ne_eqb k l e.0)))
         (bump k l)) p
+    next h x p al = push h x refl p
 
 -- a closed action has each predecessor released
 pub closed_released : (ps : List ℕ) (h : List Step) (i p : ℕ) → open_of ps h i ≡ 0 → 0 < count p ps → 0 < times (Release p i) h
@@ -268,20 +234,6 @@ closed_released (q ∷ ps) h i p z some = ⊎_elim
     (bump p q)
 
 -- ---- what an act left
-
-among_front : {A : Type 0} (z : A) (h r : List A) → Among z h → Among z (h ++ r)
-among_front z [] r m = absurd m
-among_front z (x ∷ xs) r (inl e) = inl e
-among_front z (x ∷ xs) r (inr m) = inr (among_front z xs r m)
-
-pub among_earlier : {A : Type 0} (z : A) (h r : List A) → Among z h → Among z (h ++ r)
-among_earlier z h r m = among_front z h r m
-
-among_snoc : {A : Type 0} (z : A) (h : List A) (x : A) → Among z (h ++ x ∷ []) → Among z h ⊎ (x ≡ z)
-among_snoc z [] x (inl e) = inr e
-among_snoc z [] x (inr m) = absurd m
-among_snoc z (y ∷ ys) x (inl e) = inl (inl e)
-among_snoc z (y ∷ ys) x (inr m) = ⊎_elim (λ a. inl (inr a)) (λ e. inr e) (among_snoc z ys x m)
 
 act_counts : (i : ℕ) (w : Work) (h : List Step) → Among (Act i w) h → 0 < times (Act i Marked) h
 act_counts i w [] m = absurd m
@@ -295,23 +247,15 @@ act_found i (Act j w ∷ ys) some = ⊎_elim
     (λ (e : (i ≡ j) × (bit (eqb i j) ≡ 1)). (w, inl (ap (λ (z : ℕ). Act z w) (sym e.0))))
     (λ (e : (i ≢ j) × (bit (eqb i j) ≡ 0)). let z = e.1 in let f = act_found i ys (omega arith) in (f.0, inr f.1))
     (bump i j)
-act_found i (Claim j ∷ ys) some = let f = act_found i ys (omega arith) in (f.0, inr f.1)
-act_found i (Take c k ∷ ys) some = let f = act_found i ys (omega arith) in (f.0, inr f.1)
-act_found i (Done j ∷ ys) some = let f = act_found i ys (omega arith) in (f.0, inr f.1)
-act_found i (Fail j ∷ ys) some = let f = act_found i ys (omega arith) in (f.0, inr f.1)
-act_found i (Release j k ∷ ys) some = let f = act_found i ys (omega arith) in (f.0, inr f.1)
+act_found i (_ ∷ ys) some = let f = act_found i ys (omega arith) in (f.0, inr f.1)
 
 -- after an act no other step changes what it left
 no_other_act : (t : Terms) (h : List Step) (x : Step) (i : ℕ) → 0 < times (Act i Marked) h → Allowed t h x → bit (same (Act i Marked) x) ≡ 0
-no_other_act t h (Claim j) i some al = refl
-no_other_act t h (Take c k) i some al = refl
-no_other_act t h (Done j) i some al = refl
-no_other_act t h (Fail j) i some al = refl
-no_other_act t h (Release j k) i some al = refl
 no_other_act t h (Act j w) i some al = ⊎_elim
     (λ (e : (i ≡ j) × (bit (eqb i j) ≡ 1)). absurd (let z : times (Act i Marked) h ≡ 0 = subst (λ (x : ℕ). times (Act x Marked) h ≡ 0) (sym e.0) al.1 in omega arith))
     (λ (e : (i ≢ j) × (bit (eqb i j) ≡ 0)). e.1)
     (bump i j)
+no_other_act t h _ i some al = refl
 
 pub act_left : (t : Terms) (log : List Step) → IsLegal t log → (c : Work) (i : ℕ) (w : Work) → Among (Act i w) log → work_after c log i ≡ w
 act_left t log l c i w m = legal_each t (λ h. (w : Work) → Among (Act i w) h → work_after c h i ≡ w) next [] log (λ w m. absurd m) l w m
@@ -320,13 +264,13 @@ act_left t log l c i w m = legal_each t (λ h. (w : Work) → Among (Act i w) h 
     next h x p al w m = ⊎_elim
         (λ (a : Among (Act i w) h). content_push c h x i ∙ still x i (work_after c h i) (no_other_act t h x i (act_counts i w h a) al) ∙ p w a)
         (λ (e : x ≡ Act i w). subst (λ (z : Step). work_after c (h ++ z ∷ []) i ≡ w) (sym e) (content_act c h i w))
-        (among_snoc (Act i w) h x m)
+        (Among-push_cases (Act i w) h x m)
 
 pub suits_of : (t : Terms) (log : List Step) → IsLegal t log → (x : Step) → Among x log → Suits t x
 suits_of t log l x m = legal_each t (λ h. (x : Step) → Among x h → Suits t x) next [] log (λ x m. absurd m) l x m
   where
     next : (h : List Step) (y : Step) → ((x : Step) → Among x h → Suits t x) → Allowed t h y → (x : Step) → Among x (h ++ y ∷ []) → Suits t x
-    next h y p al x m = ⊎_elim (λ (a : Among x h). p x a) (λ (e : y ≡ x). subst (Suits t) e (suits t h y al)) (among_snoc x h y m)
+    next h y p al x m = ⊎_elim (λ (a : Among x h). p x a) (λ (e : y ≡ x). subst (Suits t) e (suits t h y al)) (Among-push_cases x h y m)
 
 -- a snapshot with these prints
 abbrev pub some_snapshot : Terms → Snapshot

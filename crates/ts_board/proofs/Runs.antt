@@ -38,6 +38,40 @@ pub by_push : (i : ℕ) (s : Step) (h : List Step) → by_actor i (h ++ s ∷ []
 by_push i s [] = omega arith
 by_push i s (y ∷ ys) = omega (arith, by_push i s ys)
 
+and_false : (b : Bool) → (b && false) ≡ false
+and_false true = refl
+and_false false = refl
+
+-- steps of two actions are two
+bit_apart : (x y : Step) → actor x ≢ actor y → bit (same x y) ≡ 0
+bit_apart x y ne =
+    ap (λ (b : Bool). bit (eqb (kind x) (kind y) && (eqb (target x) (target y) && b))) (ne_eqb (actor x) (actor y) ne)
+    ∙ ap (λ (b : Bool). bit (eqb (kind x) (kind y) && b)) (and_false (eqb (target x) (target y)))
+    ∙ ap bit (and_false (eqb (kind x) (kind y)))
+
+-- the counts of an action after a step of another
+pub times_else : (x y : Step) (h : List Step) → actor x ≢ actor y → times x (h ++ y ∷ []) ≡ times x h
+times_else x y h ne = let t = times_push x y h in let z = bit_apart x y ne in omega arith
+
+-- the counts of the action i after any step
+record Pushed (x : Step) (i : ℕ) (h : List Step) : Type 0 where
+  claims : times (Claim i) (h ++ x ∷ []) ≡ times (Claim i) h + bit (same (Claim i) x)
+  acts : times (Act i Marked) (h ++ x ∷ []) ≡ times (Act i Marked) h + bit (same (Act i Marked) x)
+  dones : times (Done i) (h ++ x ∷ []) ≡ times (Done i) h + bit (same (Done i) x)
+  fails : times (Fail i) (h ++ x ∷ []) ≡ times (Fail i) h + bit (same (Fail i) x)
+  takings : taken i (h ++ x ∷ []) ≡ taken i h + bit (takes i x)
+
+pushed : (x : Step) (i : ℕ) (h : List Step) → Pushed x i h
+pushed x i h = record { claims = times_push (Claim i) x h; acts = times_push (Act i Marked) x h; dones = times_push (Done i) x h; fails = times_push (Fail i) x h; takings = taken_push i x h }
+
+-- the bit of a number against itself
+bit_self : (i : ℕ) → bit (eqb i i) ≡ 1
+bit_self i = ap bit (eq-eqb i i refl)
+
+-- and against another
+bit_differ : (i k : ℕ) → i ≢ k → bit (eqb i k) ≡ 0
+bit_differ i k ne = ap bit (ne_eqb i k ne)
+
 -- ---- legal runs
 
 pub legal_push : (plan : Terms) (past xs : List Step) (s : Step) → IsLegalFrom plan past xs → Allowed plan (past ++ xs) s → IsLegalFrom plan past (xs ++ s ∷ [])
@@ -63,13 +97,9 @@ pub open_still : (ps : List ℕ) (h : List Step) (s : Step) (i : ℕ) → ((p : 
 open_still [] h s i away = refl
 open_still (p ∷ ps) h s i away = omega (arith, open_still ps h s i away, times_push (Release p i) s h, away p)
 
-bit_one : (b : Bool) → bit b ≤ 1
+pub bit_one : (b : Bool) → bit b ≤ 1
 bit_one true = omega arith
 bit_one false = omega arith
-
-and_false : (b : Bool) → (b && false) ≡ false
-and_false true = refl
-and_false false = refl
 
 bit_release : (p k j : ℕ) → bit (same (Release p j) (Release k j)) ≡ bit (eqb p k)
 bit_release p k j = ap (λ (b : Bool). bit (b && eqb p k)) (eq-eqb j j refl)
@@ -112,15 +142,28 @@ pub record Sound (plan : Terms) (h : List Step) (i : ℕ) : Type 0 where
   pub freed : (j : ℕ) → times (Release i j) h ≤ times (Done i) h
   pub emptied : taken i h ≤ times (Done i) h
 
-other_release : (i k j l : ℕ) → i ≢ k → bit (same (Release i j) (Release k l)) ≡ 0
-other_release i k j l ne = ap (λ (b : Bool). bit (eqb j l && b)) (ne_eqb i k ne) ∙ ap bit (and_false (eqb j l))
+-- a step of another action, that takes nothing of i
+sound_else : (plan : Terms) (h : List Step) (x : Step) (i : ℕ) → i ≢ actor x → bit (takes i x) ≡ 0 → Sound plan h i → Sound plan (h ++ x ∷ []) i
+sound_else plan h x i ne untaken q =
+    let c = times_else (Claim i) x h ne in let a = times_else (Act i Marked) x h ne in let d = times_else (Done i) x h ne in let e = times_else (Fail i) x h ne in
+    let t = taken_push i x h in let o = open_le (preds plan.plan i) h x i in let b = by_push i x h in let w = q.emptied in
+    let y : bit (eqb (actor x) i) ≡ 0 = bit_differ (actor x) i (λ s. ne (sym s)) in
+    record { once = omega arith; acts = omega arith; dones = omega arith; no_open = λ n. (let g = q.no_open (omega arith) in omega arith); none = λ n. (let g = q.none (omega arith) in omega arith); inside = λ n. q.inside (omega arith); freed = λ j. (let g = q.freed j in let r = times_else (Release i j) x h ne in omega arith); emptied = omega arith }
 
-release_freed : (plan : Terms) (h : List Step) (i k l j : ℕ) → Allowed plan h (Release i l) → times (Release i j) h ≤ times (Done i) h → times (Release i j) (h ++ Release k l ∷ []) ≤ times (Done i) (h ++ Release k l ∷ [])
-release_freed plan h i k l j al g =
-    let r = times_push (Release i j) (Release k l) h in let d = times_push (Done i) (Release k l) h in let x = al.0 in let y = al.2 in
+-- so a step that takes nothing is looked at for its own action
+sound_at : (plan : Terms) (h : List Step) (x : Step) (i : ℕ) → ((k : ℕ) → Sound plan h k) → bit (takes i x) ≡ 0 → Sound plan (h ++ x ∷ []) (actor x) → Sound plan (h ++ x ∷ []) i
+sound_at plan h x i f untaken own = ⊎_elim
+    (λ (t : (i ≡ actor x) × (bit (eqb i (actor x)) ≡ 1)). subst (λ (z : ℕ). Sound plan (h ++ x ∷ []) z) (sym t.0) own)
+    (λ (t : (i ≢ actor x) × (bit (eqb i (actor x)) ≡ 0)). sound_else plan h x i t.0 untaken (f i))
+    (bump i (actor x))
+
+-- a release comes after the action is done
+release_freed : (plan : Terms) (h : List Step) (i l j : ℕ) → Allowed plan h (Release i l) → times (Release i j) h ≤ times (Done i) h → times (Release i j) (h ++ Release i l ∷ []) ≤ times (Done i) (h ++ Release i l ∷ [])
+release_freed plan h i l j al g =
+    let r = times_push (Release i j) (Release i l) h in let d = times_push (Done i) (Release i l) h in let x = al.0 in let y = al.2 in
     ⊎_elim
-    (λ (t : (j ≡ l) × (bit (eqb j l) ≡ 1)). let none_yet : times (Release i j) h ≡ 0 = subst (λ (z : ℕ). times (Release i z) h ≡ 0) (sym t.0) y in let one = bit_one (same (Release i j) (Release k l)) in omega arith)
-    (λ (t : (j ≢ l) × (bit (eqb j l) ≡ 0)). let off : bit (same (Release i j) (Release k l)) ≡ 0 = ap (λ (b : Bool). bit (b && eqb i k)) (ne_eqb j l t.0) in omega arith)
+    (λ (t : (j ≡ l) × (bit (eqb j l) ≡ 1)). let none_yet : times (Release i j) h ≡ 0 = subst (λ (z : ℕ). times (Release i z) h ≡ 0) (sym t.0) y in let one = bit_one (same (Release i j) (Release i l)) in omega arith)
+    (λ (t : (j ≢ l) × (bit (eqb j l) ≡ 0)). let off : bit (same (Release i j) (Release i l)) ≡ 0 = ap (λ (b : Bool). bit (b && eqb i i)) (ne_eqb j l t.0) in omega arith)
     (bump j l)
 
 take_none : (i k : ℕ) (h : List Step) → times (Claim i) h ≡ 0 → 0 < times (Claim k) h → by_actor i h ≡ 0 → by_actor i h + bit (eqb k i) ≡ by_actor i h
@@ -141,68 +184,27 @@ take_emptied i c k h done fresh w =
 
 sound_step : (plan : Terms) (h : List Step) (s : Step) (i : ℕ) → ((k : ℕ) → Sound plan h k) → Allowed plan h s → Sound plan (h ++ s ∷ []) i
 sound_step plan h (Claim k) i f al =
-    let q = f i in let c = times_push (Claim i) (Claim k) h in let a = times_push (Act i Marked) (Claim k) h in let d = times_push (Done i) (Claim k) h in let e = times_push (Fail i) (Claim k) h in let tk = taken_push i (Claim k) h in
-    let o = open_le (preds plan.plan i) h (Claim k) i in let b = by_push i (Claim k) h in let u = taken_push i (Claim k) h in let w = q.emptied in
-    ⊎_elim
-    (λ (t : (i ≡ k) × (bit (eqb i k) ≡ 1)).
-    let al' : Allowed plan h (Claim i) = subst (λ (z : ℕ). Allowed plan h (Claim z)) (sym t.0) al in let z = t.1 in
-    let wd = al'.1 in let l = al'.0 in
-    record { once = omega arith; acts = omega arith; dones = omega arith; no_open = λ _. omega arith; none = λ n. omega arith; inside = λ _. l; freed = λ j. (let g = q.freed j in let r = times_push (Release i j) (Claim k) h in omega arith); emptied = omega arith })
-    (λ (t : (i ≢ k) × (bit (eqb i k) ≡ 0)).
-    let z = t.1 in let y : bit (eqb k i) ≡ 0 = ap bit (ne_eqb k i (λ e. t.0 (sym e))) in
-    record { once = omega arith; acts = omega arith; dones = omega arith; no_open = λ n. (let g = q.no_open (omega arith) in omega arith); none = λ n. (let g = q.none (omega arith) in omega arith); inside = λ n. q.inside (omega arith); freed = λ j. (let g = q.freed j in let r = times_push (Release i j) (Claim k) h in omega arith); emptied = omega arith })
-    (bump i k)
-sound_step plan h (Act k w) i f al =
-    let q = f i in let c = times_push (Claim i) (Act k w) h in let a = times_push (Act i Marked) (Act k w) h in let d = times_push (Done i) (Act k w) h in let e = times_push (Fail i) (Act k w) h in let tk = taken_push i (Act k w) h in
-    let o = open_le (preds plan.plan i) h (Act k w) i in let b = by_push i (Act k w) h in let u = taken_push i (Act k w) h in let em = q.emptied in
-    ⊎_elim
-    (λ (t : (i ≡ k) × (bit (eqb i k) ≡ 1)).
-    let al' : Allowed plan h (Act i w) = subst (λ (z : ℕ). Allowed plan h (Act z w)) (sym t.0) al in let z = t.1 in
-    let x = al'.0 in let x1 = al'.1 in let x2 = al'.2 in
-    record { once = omega arith; acts = omega arith; dones = omega arith; no_open = λ n. (let g = q.no_open (omega arith) in omega arith); none = λ n. absurd (omega arith); inside = λ n. q.inside (omega arith); freed = λ j. (let g = q.freed j in let r = times_push (Release i j) (Act k w) h in omega arith); emptied = omega arith })
-    (λ (t : (i ≢ k) × (bit (eqb i k) ≡ 0)).
-    let z = t.1 in let y : bit (eqb k i) ≡ 0 = ap bit (ne_eqb k i (λ e. t.0 (sym e))) in
-    record { once = omega arith; acts = omega arith; dones = omega arith; no_open = λ n. (let g = q.no_open (omega arith) in omega arith); none = λ n. (let g = q.none (omega arith) in omega arith); inside = λ n. q.inside (omega arith); freed = λ j. (let g = q.freed j in let r = times_push (Release i j) (Act k w) h in omega arith); emptied = omega arith })
-    (bump i k)
+    let q = f k in let p = pushed (Claim k) k h in let z = bit_self k in let o = open_le (preds plan.plan k) h (Claim k) k in let w = q.emptied in let l = al.0 in let x = al.1 in
+    sound_at plan h (Claim k) i f refl
+    record { once = omega arith; acts = omega arith; dones = omega arith; no_open = λ _. omega arith; none = λ n. omega arith; inside = λ _. l; freed = λ j. (let g = q.freed j in let r = times_push (Release k j) (Claim k) h in omega arith); emptied = omega arith }
+sound_step plan h (Act k v) i f al =
+    let q = f k in let p = pushed (Act k v) k h in let z = bit_self k in let o = open_le (preds plan.plan k) h (Act k v) k in let w = q.emptied in let x = al.0 in let x1 = al.1 in let x2 = al.2 in
+    sound_at plan h (Act k v) i f refl
+    record { once = omega arith; acts = omega arith; dones = omega arith; no_open = λ n. (let g = q.no_open (omega arith) in omega arith); none = λ n. absurd (omega arith); inside = λ n. q.inside (omega arith); freed = λ j. (let g = q.freed j in let r = times_push (Release k j) (Act k v) h in omega arith); emptied = omega arith }
 sound_step plan h (Done k) i f al =
-    let q = f i in let c = times_push (Claim i) (Done k) h in let a = times_push (Act i Marked) (Done k) h in let d = times_push (Done i) (Done k) h in let e = times_push (Fail i) (Done k) h in let tk = taken_push i (Done k) h in
-    let o = open_le (preds plan.plan i) h (Done k) i in let b = by_push i (Done k) h in let u = taken_push i (Done k) h in let w = q.emptied in
-    ⊎_elim
-    (λ (t : (i ≡ k) × (bit (eqb i k) ≡ 1)).
-    let al' : Allowed plan h (Done i) = subst (λ (z : ℕ). Allowed plan h (Done z)) (sym t.0) al in let z = t.1 in
-    let x = al'.0 in let x1 = al'.1 in
-    record { once = omega arith; acts = omega arith; dones = omega arith; no_open = λ n. (let g = q.no_open (omega arith) in omega arith); none = λ n. absurd (omega arith); inside = λ n. q.inside (omega arith); freed = λ j. (let g = q.freed j in let r = times_push (Release i j) (Done k) h in omega arith); emptied = omega arith })
-    (λ (t : (i ≢ k) × (bit (eqb i k) ≡ 0)).
-    let z = t.1 in let y : bit (eqb k i) ≡ 0 = ap bit (ne_eqb k i (λ e. t.0 (sym e))) in
-    record { once = omega arith; acts = omega arith; dones = omega arith; no_open = λ n. (let g = q.no_open (omega arith) in omega arith); none = λ n. (let g = q.none (omega arith) in omega arith); inside = λ n. q.inside (omega arith); freed = λ j. (let g = q.freed j in let r = times_push (Release i j) (Done k) h in omega arith); emptied = omega arith })
-    (bump i k)
+    let q = f k in let p = pushed (Done k) k h in let z = bit_self k in let o = open_le (preds plan.plan k) h (Done k) k in let w = q.emptied in let x = al.0 in let x1 = al.1 in
+    sound_at plan h (Done k) i f refl
+    record { once = omega arith; acts = omega arith; dones = omega arith; no_open = λ n. (let g = q.no_open (omega arith) in omega arith); none = λ n. absurd (omega arith); inside = λ n. q.inside (omega arith); freed = λ j. (let g = q.freed j in let r = times_push (Release k j) (Done k) h in omega arith); emptied = omega arith }
 sound_step plan h (Fail k) i f al =
-    let q = f i in let c = times_push (Claim i) (Fail k) h in let a = times_push (Act i Marked) (Fail k) h in let d = times_push (Done i) (Fail k) h in let e = times_push (Fail i) (Fail k) h in let tk = taken_push i (Fail k) h in
-    let o = open_le (preds plan.plan i) h (Fail k) i in let b = by_push i (Fail k) h in let u = taken_push i (Fail k) h in let w = q.emptied in
-    ⊎_elim
-    (λ (t : (i ≡ k) × (bit (eqb i k) ≡ 1)).
-    let al' : Allowed plan h (Fail i) = subst (λ (z : ℕ). Allowed plan h (Fail z)) (sym t.0) al in let z = t.1 in
-    let x = al'.0 in let x1 = al'.1 in let x2 = al'.2 in
-    record { once = omega arith; acts = omega arith; dones = omega arith; no_open = λ n. (let g = q.no_open (omega arith) in omega arith); none = λ n. absurd (omega arith); inside = λ n. q.inside (omega arith); freed = λ j. (let g = q.freed j in let r = times_push (Release i j) (Fail k) h in omega arith); emptied = omega arith })
-    (λ (t : (i ≢ k) × (bit (eqb i k) ≡ 0)).
-    let z = t.1 in let y : bit (eqb k i) ≡ 0 = ap bit (ne_eqb k i (λ e. t.0 (sym e))) in
-    record { once = omega arith; acts = omega arith; dones = omega arith; no_open = λ n. (let g = q.no_open (omega arith) in omega arith); none = λ n. (let g = q.none (omega arith) in omega arith); inside = λ n. q.inside (omega arith); freed = λ j. (let g = q.freed j in let r = times_push (Release i j) (Fail k) h in omega arith); emptied = omega arith })
-    (bump i k)
+    let q = f k in let p = pushed (Fail k) k h in let z = bit_self k in let o = open_le (preds plan.plan k) h (Fail k) k in let w = q.emptied in let x = al.0 in let x1 = al.1 in let x2 = al.2 in
+    sound_at plan h (Fail k) i f refl
+    record { once = omega arith; acts = omega arith; dones = omega arith; no_open = λ n. (let g = q.no_open (omega arith) in omega arith); none = λ n. absurd (omega arith); inside = λ n. q.inside (omega arith); freed = λ j. (let g = q.freed j in let r = times_push (Release k j) (Fail k) h in omega arith); emptied = omega arith }
 sound_step plan h (Release k l) i f al =
-    let q = f i in let c = times_push (Claim i) (Release k l) h in let a = times_push (Act i Marked) (Release k l) h in let d = times_push (Done i) (Release k l) h in let e = times_push (Fail i) (Release k l) h in let tk = taken_push i (Release k l) h in
-    let o = open_le (preds plan.plan i) h (Release k l) i in let b = by_push i (Release k l) h in let u = taken_push i (Release k l) h in let w = q.emptied in
-    ⊎_elim
-    (λ (t : (i ≡ k) × (bit (eqb i k) ≡ 1)).
-    let al' : Allowed plan h (Release i l) = subst (λ (z : ℕ). Allowed plan h (Release z l)) (sym t.0) al in let z = t.1 in
-    let x = al'.0 in
-    record { once = omega arith; acts = omega arith; dones = omega arith; no_open = λ n. (let g = q.no_open (omega arith) in omega arith); none = λ n. absurd (omega arith); inside = λ n. q.inside (omega arith); freed = λ j. release_freed plan h i k l j al' (q.freed j); emptied = omega arith })
-    (λ (t : (i ≢ k) × (bit (eqb i k) ≡ 0)).
-    let z = t.1 in let y : bit (eqb k i) ≡ 0 = ap bit (ne_eqb k i (λ e. t.0 (sym e))) in
-    record { once = omega arith; acts = omega arith; dones = omega arith; no_open = λ n. (let g = q.no_open (omega arith) in omega arith); none = λ n. (let g = q.none (omega arith) in omega arith); inside = λ n. q.inside (omega arith); freed = λ j. (let g = q.freed j in let r = times_push (Release i j) (Release k l) h in let n0 = other_release i k j l t.0 in omega arith); emptied = omega arith })
-    (bump i k)
+    let q = f k in let p = pushed (Release k l) k h in let z = bit_self k in let o = open_le (preds plan.plan k) h (Release k l) k in let w = q.emptied in let x = al.0 in
+    sound_at plan h (Release k l) i f refl
+    record { once = omega arith; acts = omega arith; dones = omega arith; no_open = λ n. (let g = q.no_open (omega arith) in omega arith); none = λ n. absurd (omega arith); inside = λ n. q.inside (omega arith); freed = λ j. release_freed plan h k l j al (q.freed j); emptied = omega arith }
 sound_step plan h (Take k l) i f al =
-    let q = f i in let c = times_push (Claim i) (Take k l) h in let a = times_push (Act i Marked) (Take k l) h in let d = times_push (Done i) (Take k l) h in let e = times_push (Fail i) (Take k l) h in let tk = taken_push i (Take k l) h in
-    let o = open_le (preds plan.plan i) h (Take k l) i in let b = by_push i (Take k l) h in let w = q.emptied in
+    let q = f i in let p = pushed (Take k l) i h in let o = open_le (preds plan.plan i) h (Take k l) i in let b = by_push i (Take k l) h in let w = q.emptied in
     record {
       once = omega arith;
       acts = omega arith;
@@ -224,56 +226,42 @@ word_start [] i = refl
 word_start (p ∷ ps) i = omega (arith, word_start ps i)
 
 pub word_claim : (plan : Terms) (h : List Step) (i : ℕ) → word_of plan h i ≡ 0 → word_of plan (h ++ Claim i ∷ []) i ≡ 4294967296
-word_claim plan h i z =
-    let o = open_le (preds plan.plan i) h (Claim i) i in let c = times_push (Claim i) (Claim i) h in let d = times_push (Done i) (Claim i) h in let e = times_push (Fail i) (Claim i) h in let tk = taken_push i (Claim i) h in
-    let b : bit (eqb i i) ≡ 1 = ap bit (eq-eqb i i refl) in omega arith
-
-pub word_else-claim : (plan : Terms) (h : List Step) (i k : ℕ) → k ≢ i → word_of plan (h ++ Claim i ∷ []) k ≡ word_of plan h k
-word_else-claim plan h i k ne =
-    let o = open_still (preds plan.plan k) h (Claim i) k (λ p. refl) in let c = times_push (Claim k) (Claim i) h in let d = times_push (Done k) (Claim i) h in let e = times_push (Fail k) (Claim i) h in let tk = taken_push k (Claim i) h in
-    let b : bit (eqb k i) ≡ 0 = ap bit (ne_eqb k i ne) in omega arith
-
-pub word_act : (plan : Terms) (h : List Step) (i : ℕ) (w : Work) (k : ℕ) → word_of plan (h ++ Act i w ∷ []) k ≡ word_of plan h k
-word_act plan h i w k =
-    let o = open_still (preds plan.plan k) h (Act i w) k (λ p. refl) in let c = times_push (Claim k) (Act i w) h in let d = times_push (Done k) (Act i w) h in let e = times_push (Fail k) (Act i w) h in let tk = taken_push k (Act i w) h in omega arith
+word_claim plan h i z = let o = open_le (preds plan.plan i) h (Claim i) i in let p = pushed (Claim i) i h in let b = bit_self i in omega arith
 
 pub word_done : (plan : Terms) (h : List Step) (i : ℕ) → word_of plan (h ++ Done i ∷ []) i ≡ word_of plan h i + 8589934592
-word_done plan h i =
-    let o = open_still (preds plan.plan i) h (Done i) i (λ p. refl) in let c = times_push (Claim i) (Done i) h in let d = times_push (Done i) (Done i) h in let e = times_push (Fail i) (Done i) h in let tk = taken_push i (Done i) h in
-    let b : bit (eqb i i) ≡ 1 = ap bit (eq-eqb i i refl) in omega arith
-
-pub word_else-done : (plan : Terms) (h : List Step) (i k : ℕ) → k ≢ i → word_of plan (h ++ Done i ∷ []) k ≡ word_of plan h k
-word_else-done plan h i k ne =
-    let o = open_still (preds plan.plan k) h (Done i) k (λ p. refl) in let c = times_push (Claim k) (Done i) h in let d = times_push (Done k) (Done i) h in let e = times_push (Fail k) (Done i) h in let tk = taken_push k (Done i) h in
-    let b : bit (eqb k i) ≡ 0 = ap bit (ne_eqb k i ne) in omega arith
+word_done plan h i = let o = open_still (preds plan.plan i) h (Done i) i (λ p. refl) in let p = pushed (Done i) i h in let b = bit_self i in omega arith
 
 pub word_fail : (plan : Terms) (h : List Step) (i : ℕ) → word_of plan (h ++ Fail i ∷ []) i ≡ word_of plan h i + 17179869184
-word_fail plan h i =
-    let o = open_still (preds plan.plan i) h (Fail i) i (λ p. refl) in let c = times_push (Claim i) (Fail i) h in let d = times_push (Done i) (Fail i) h in let e = times_push (Fail i) (Fail i) h in let tk = taken_push i (Fail i) h in
-    let b : bit (eqb i i) ≡ 1 = ap bit (eq-eqb i i refl) in omega arith
-
-pub word_else-fail : (plan : Terms) (h : List Step) (i k : ℕ) → k ≢ i → word_of plan (h ++ Fail i ∷ []) k ≡ word_of plan h k
-word_else-fail plan h i k ne =
-    let o = open_still (preds plan.plan k) h (Fail i) k (λ p. refl) in let c = times_push (Claim k) (Fail i) h in let d = times_push (Done k) (Fail i) h in let e = times_push (Fail k) (Fail i) h in let tk = taken_push k (Fail i) h in
-    let b : bit (eqb k i) ≡ 0 = ap bit (ne_eqb k i ne) in omega arith
+word_fail plan h i = let o = open_still (preds plan.plan i) h (Fail i) i (λ p. refl) in let p = pushed (Fail i) i h in let b = bit_self i in omega arith
 
 pub word_release : (plan : Terms) (h : List Step) (i j : ℕ) → count i (preds plan.plan j) ≡ 1 → times (Release i j) h ≡ 0 → word_of plan (h ++ Release i j ∷ []) j + 1 ≡ word_of plan h j
-word_release plan h i j one away =
-    let o = open_less (preds plan.plan j) h i j one away in let c = times_push (Claim j) (Release i j) h in let d = times_push (Done j) (Release i j) h in let e = times_push (Fail j) (Release i j) h in let tk = taken_push j (Release i j) h in omega arith
-
-pub word_else-release : (plan : Terms) (h : List Step) (i j k : ℕ) → k ≢ j → word_of plan (h ++ Release i j ∷ []) k ≡ word_of plan h k
-word_else-release plan h i j k ne =
-    let o = open_still (preds plan.plan k) h (Release i j) k (λ p. bit_other p i k j ne) in let c = times_push (Claim k) (Release i j) h in let d = times_push (Done k) (Release i j) h in let e = times_push (Fail k) (Release i j) h in let tk = taken_push k (Release i j) h in omega arith
+word_release plan h i j one away = let o = open_less (preds plan.plan j) h i j one away in let p = pushed (Release i j) j h in omega arith
 
 pub word_take : (plan : Terms) (h : List Step) (c k : ℕ) → word_of plan (h ++ Take c k ∷ []) k ≡ word_of plan h k + 34359738368
-word_take plan h c k =
-    let o = open_still (preds plan.plan k) h (Take c k) k (λ p. refl) in let cl = times_push (Claim k) (Take c k) h in let d = times_push (Done k) (Take c k) h in let e = times_push (Fail k) (Take c k) h in let tk = taken_push k (Take c k) h in
-    let b : bit (eqb k k) ≡ 1 = ap bit (eq-eqb k k refl) in omega arith
+word_take plan h c k = let o = open_still (preds plan.plan k) h (Take c k) k (λ p. refl) in let p = pushed (Take c k) k h in let b = bit_self k in omega arith
+
+-- a step that neither releases nor sets a bit leaves the word
+word_still : (plan : Terms) (h : List Step) (x : Step) (k : ℕ) → ((p : ℕ) → bit (same (Release p k) x) ≡ 0) → bit (same (Claim k) x) + (bit (same (Done k) x) + (bit (same (Fail k) x) + bit (takes k x))) ≡ 0
+    → word_of plan (h ++ x ∷ []) k ≡ word_of plan h k
+word_still plan h x k away unset = let o = open_still (preds plan.plan k) h x k away in let p = pushed x k h in omega arith
+
+pub word_act : (plan : Terms) (h : List Step) (i : ℕ) (w : Work) (k : ℕ) → word_of plan (h ++ Act i w ∷ []) k ≡ word_of plan h k
+word_act plan h i w k = word_still plan h (Act i w) k (λ p. refl) refl
+
+pub word_else-claim : (plan : Terms) (h : List Step) (i k : ℕ) → k ≢ i → word_of plan (h ++ Claim i ∷ []) k ≡ word_of plan h k
+word_else-claim plan h i k ne = word_still plan h (Claim i) k (λ p. refl) (let b = bit_differ k i ne in omega arith)
+
+pub word_else-done : (plan : Terms) (h : List Step) (i k : ℕ) → k ≢ i → word_of plan (h ++ Done i ∷ []) k ≡ word_of plan h k
+word_else-done plan h i k ne = word_still plan h (Done i) k (λ p. refl) (let b = bit_differ k i ne in omega arith)
+
+pub word_else-fail : (plan : Terms) (h : List Step) (i k : ℕ) → k ≢ i → word_of plan (h ++ Fail i ∷ []) k ≡ word_of plan h k
+word_else-fail plan h i k ne = word_still plan h (Fail i) k (λ p. refl) (let b = bit_differ k i ne in omega arith)
+
+pub word_else-release : (plan : Terms) (h : List Step) (i j k : ℕ) → k ≢ j → word_of plan (h ++ Release i j ∷ []) k ≡ word_of plan h k
+word_else-release plan h i j k ne = word_still plan h (Release i j) k (λ p. bit_other p i k j ne) refl
 
 pub word_else-take : (plan : Terms) (h : List Step) (c k j : ℕ) → j ≢ k → word_of plan (h ++ Take c k ∷ []) j ≡ word_of plan h j
-word_else-take plan h c k j ne =
-    let o = open_still (preds plan.plan j) h (Take c k) j (λ p. refl) in let cl = times_push (Claim j) (Take c k) h in let d = times_push (Done j) (Take c k) h in let e = times_push (Fail j) (Take c k) h in let tk = taken_push j (Take c k) h in
-    let b : bit (eqb j k) ≡ 0 = ap bit (ne_eqb j k ne) in omega arith
+word_else-take plan h c k j ne = word_still plan h (Take c k) j (λ p. refl) (let b = bit_differ j k ne in omega arith)
 
 -- ---- the steps of some actions
 
@@ -304,12 +292,6 @@ steps_by-one_more i c [] h = refl
 steps_by-one_more i c (x ∷ xs) h =
     let n : bit (eqb (actor x) i) + count (actor x) c ≡ count (actor x) c = omega arith in
     ap (λ (k : ℕ). keep k x (steps_by (i ∷ c) xs)) n ∙ ap (keep (count (actor x) c) x) (steps_by-one_more i c xs (omega arith))
-
-bit_apart : (x y : Step) → actor x ≢ actor y → bit (same x y) ≡ 0
-bit_apart x y ne =
-    ap (λ (b : Bool). bit (eqb (kind x) (kind y) && (eqb (target x) (target y) && b))) (ne_eqb (actor x) (actor y) ne)
-    ∙ ap (λ (b : Bool). bit (eqb (kind x) (kind y) && b)) (and_false (eqb (target x) (target y)))
-    ∙ ap bit (and_false (eqb (kind x) (kind y)))
 
 times_keep : (c : List ℕ) (x y : Step) (ys : List Step) (n : ℕ) → count (actor y) c ≡ n → 0 < count (actor x) c → times x (keep n y ys) ≡ bit (same x y) + times x ys
 times_keep c x y ys zero e h = let z = bit_apart x y (λ same. (let k : count (actor x) c ≡ 0 = ap (λ (a : ℕ). count a c) same ∙ e in omega arith)) in omega arith
@@ -344,10 +326,7 @@ still (Act k w) i c h = ⊎_elim
     (λ (t : (i ≡ k) × (bit (eqb i k) ≡ 1)). absurd (let z = t.1 in omega arith))
     (λ (t : (i ≢ k) × (bit (eqb i k) ≡ 0)). ap (λ (b : Bool). pick b w c) (ne_eqb k i (λ e. t.0 (sym e))))
     (bump i k)
-still (Done k) i c h = refl
-still (Fail k) i c h = refl
-still (Release k j) i c h = refl
-still (Take k j) i c h = refl
+still _ i c h = refl
 
 pub content_unacted : (c : Work) (h : List Step) (i : ℕ) → times (Act i Marked) h ≡ 0 → work_after c h i ≡ c
 content_unacted c [] i z = refl
@@ -359,7 +338,3 @@ content_else c h x i ne = content_push c h x i ∙ still x i (work_after c h i) 
 
 pub content_act : (c : Work) (h : List Step) (i : ℕ) (w : Work) → work_after c (h ++ Act i w ∷ []) i ≡ w
 content_act c h i w = content_push c h (Act i w) i ∙ ap (λ (b : Bool). pick b w (work_after c h i)) (eq-eqb i i refl)
-
--- the counts of an action after a step of another
-pub times_else : (x y : Step) (h : List Step) → actor x ≢ actor y → times x (h ++ y ∷ []) ≡ times x h
-times_else x y h ne = let t = times_push x y h in let z = bit_apart x y ne in omega arith

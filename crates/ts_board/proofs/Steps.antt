@@ -20,7 +20,7 @@ use Rattle.ts_model.specs.declared.step.Step.{Step}
 use Rattle.ts_model.specs.declared.step.Step.TheVariants.{Claim, Take, Act, Done, Fail, Release}
 use Rattle.ts_model.specs.declared.step.Work.{Work}
 use Rattle.ts_model.specs.declared.step.Work.TheVariants.{Staged, Marked}
-use Rattle.ts_laws.proofs.Lists.{Among, Among-from_Contains, Contains-from_Among}
+use Rattle.ts_laws.proofs.Lists.{Among, Among-left, Among-from_Contains, Contains-from_Among}
 use Rattle.ts_board.specs.declared.law.Terms.{Terms}
 use Rattle.ts_board.specs.declared.law.Slot.{Slot}
 use Rattle.ts_board.specs.declared.law.Slot.TheVariants.{Empty}
@@ -30,8 +30,8 @@ use Rattle.ts_board.specs.Terms.{IsLegalRun, Suits, IsOrderly, preds, opening_wo
 use Rattle.ts_board.specs.Runs.{actor, same, bit, times, taken, count, size, open_of, word_of, Allowed, IsLegal, keep, steps_by, work_after}
 use Rattle.ts_board.specs.Kept.{sight, nothing, total, claimed, share, Behind, Fits, Keeps, Kept, moved, mine, Seat, Looks, looks, Makes, claims, gives_back, fetches, does, fails, releases, takes_out, carrying, carries, SlotOk, Shelf, bare}
 use Rattle.ts_board.proofs.Runs.{bump, taken_le, taken_push, times_push, legal_push, sound, word_claim, word_else-claim, word_act, word_done, word_else-done, word_fail, word_else-fail, word_release, word_else-release, word_take, word_else-take, open_less, steps_by-append, steps_by-nobody, steps_by-other, steps_by-own, steps_by-one_more, times_by, times_by_none, times_else, content_unacted, content_else, content_act, content_push}
-use Rattle.ts_board.proofs.Model.{legal_run, word_same, open_same, claims_tally, acts_tally, finishes_tally, fails_tally, releases_tally, taken_tally, some_tally, no_tally, pending_now, taken_by, closed_released, piece_left, times_taken, among_earlier}
-use Rattle.ts_board.proofs.Totals.{total_set, total_at, total_two}
+use Rattle.ts_board.proofs.Model.{legal_run, word_same, open_same, claims_tally, acts_tally, finishes_tally, fails_tally, releases_tally, taken_tally, some_tally, no_tally, pending_now, taken_by, closed_released, piece_left, times_taken}
+use Rattle.ts_board.proofs.Totals.{total_set, total_same, total_at, total_two}
 
 abbrev pub Board : Type 0
 Board = State (Unit {0}) View
@@ -89,20 +89,23 @@ each_set P views id w here else j u at =
     (λ (t : (j ≢ id) × (get_elem? views j ≡ some u)). else j u t.0 t.1)
     (at_set views id j w u at)
 
+-- a pass that has the claims and the share that it had
+pub reseen : (plan : Terms) (log : Run) (depth : ℕ) (s : Board) (r : Keeps plan log depth s) (id : ℕ) (v w : View) → get_elem? s.views id ≡ some v → Fits depth log w → w.sight.claims ≡ v.sight.claims → share depth w ≡ share depth v
+    → Keeps plan log depth (table s s.words id w)
+reseen plan log depth s r id v w at fits same_claims same_share = record {
+  orderly = r.orderly;
+  legal = r.legal;
+  words = r.words;
+  wide = r.wide;
+  each_pass = each_set (Fits depth log) s.views id w fits (λ j u ne to. r.each_pass j u to);
+  each_claim = λ i. total_same (claimed i) s.views id v w at (ap (count i) same_claims) ∙ r.each_claim i;
+  whole = total_same (share depth) s.views id v w at same_share ∙ r.whole;
+}
+
 -- a pass sees all
 pub sees : (plan : Terms) (log : Run) (depth : ℕ) (s : Board) (r : Keeps plan log depth s) (id : ℕ) (v : View) → get_elem? s.views id ≡ some v → Keeps plan log depth (table s s.words id (moved v log v.sight.claims))
 sees plan log depth s r id v at =
-    let w = moved v log v.sight.claims in
-    let f = r.each_pass id v at in
-    record {
-      orderly = r.orderly;
-      legal = r.legal;
-      words = r.words;
-      wide = r.wide;
-      each_pass = each_set (Fits depth log) s.views id w (fits_own depth log v v.sight.claims f.deep f.idle) (λ j u ne to. r.each_pass j u to);
-      each_claim = λ i. (let t = total_set (claimed i) s.views id v w at in let c = r.each_claim i in omega arith);
-      whole = (let t = total_set (share depth) s.views id v w at in let c = r.whole in omega arith);
-    }
+    let f = r.each_pass id v at in reseen plan log depth s r id v (moved v log v.sight.claims) at (fits_own depth log v v.sight.claims f.deep f.idle) refl refl
 
 -- a pass makes a step
 pub makes : (plan : Terms) (log : Run) (depth : ℕ) (s : Board) (r : Keeps plan log depth s) (id : ℕ) (v : View) (x : Step) (claims ws : List ℕ) → get_elem? s.views id ≡ some v → 0 < v.part → Allowed plan log x
@@ -121,7 +124,7 @@ makes plan log depth s r id v x claims ws at part al long words others grows =
       wide = subst (λ (n : ℕ). size plan ≤ n) (sym long) r.wide;
       each_pass = each_set (Fits depth after) s.views id w (fits_own depth after v claims f.deep (λ z. absurd (omega arith))) (λ j u ne to. fits_more depth log x u (r.each_pass j u to) (others j u ne to));
       each_claim = λ i. (let t = total_set (claimed i) s.views id v w at in let c = r.each_claim i in let g = grows i in omega arith);
-      whole = (let t = total_set (share depth) s.views id v w at in let c = r.whole in omega arith);
+      whole = total_same (share depth) s.views id v w at refl ∙ r.whole;
     }
 
 -- the pass that claimed an action makes another step of it
@@ -251,15 +254,7 @@ less_one n m e h =
 pub recarry : (plan : Terms) (log : Run) (depth : ℕ) (s : Board) (r : Keeps plan log depth s) (id : ℕ) (w : View) (k : ℕ) → get_elem? s.views id ≡ some w → Keeps plan log depth (table s s.words id (carrying k w))
 recarry plan log depth s r id w k at =
     let f = r.each_pass id w at in
-    record {
-      orderly = r.orderly;
-      legal = r.legal;
-      words = r.words;
-      wide = r.wide;
-      each_pass = each_set (Fits depth log) s.views id (carrying k w) record { behind = f.behind; left = f.left; right = f.right; within = f.within; idle = f.idle; deep = f.deep } (λ j u ne to. r.each_pass j u to);
-      each_claim = λ i. (let t = total_set (claimed i) s.views id w (carrying k w) at in let c = r.each_claim i in omega arith);
-      whole = (let t = total_set (share depth) s.views id w (carrying k w) at in let c = r.whole in omega arith);
-    }
+    reseen plan log depth s r id w (carrying k w) at record { behind = f.behind; left = f.left; right = f.right; within = f.within; idle = f.idle; deep = f.deep } refl refl
 
 pub recarry_new : (plan : Terms) (log : Run) (depth : ℕ) (s : Board) (ws : List ℕ) (id : ℕ) (v w : View) (k : ℕ) → get_elem? s.views id ≡ some v → Keeps plan log depth (table s ws id w) → Keeps plan log depth (table s ws id (carrying k w))
 recarry_new plan log depth s ws id v w k at r =
@@ -297,7 +292,7 @@ module _ {S : Type 0} (content : Slot S → Work) (good : Terms → ℕ → Slot
 
   -- how many carry a slot, after a pass's view changed
   pub carry_same : (s : St) (id : ℕ) (v w : View) (i : ℕ) → get_elem? s.views id ≡ some v → carries i w ≡ carries i v → total (carries i) (set s.views id w) ≡ total (carries i) s.views
-  carry_same s id v w i at e = let t = total_set (carries i) s.views id v w at in omega arith
+  carry_same s id v w i at e = total_same (carries i) s.views id v w at e
 
   pub carries_none : (v : View) (i : ℕ) → v.carry ≡ 0 → carries i v ≡ 0
   carries_none v i e = ap bit (ne_eqb v.carry (suc i) (λ h. (let z : 0 ≡ suc i = sym e ∙ h in absurd (omega arith))))
@@ -662,5 +657,5 @@ module _ {S : Type 0} (content : Slot S → Work) (good : Terms → ℕ → Slot
           takes k y,
           lies.1,
           subst (λ (m : ℕ). Holds (record { words = set s.words k m; homes = hs; views = views })) (sym (ap (λ (m : ℕ). bit_or m 34359738368) is)) record { log = after; depth = r.depth; keeps = recarry_new plan after r.depth (bare s) ws id v w0 (suc k) at g.0; shelf = shelf; settled = λ j. (let a = times_push (Act j Marked) (Take c k) log in let d = times_push (Done j) (Take c k) log in let z = r.settled j in omega arith) },
-          (w0, refl, g.1, (y, left.0, refl, lies.2 ∙ left.2, Contains-from_Among after (Act k (Staged left.0)) (among_earlier (Act k (Staged left.0)) log (Take c k ∷ []) left.1))),
+          (w0, refl, g.1, (y, left.0, refl, lies.2 ∙ left.2, Contains-from_Among after (Act k (Staged left.0)) (Among-left (Act k (Staged left.0)) log (Take c k ∷ []) left.1))),
         )

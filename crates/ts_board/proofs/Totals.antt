@@ -10,6 +10,10 @@ total_set f [] id v w at = absurd (some-ne-none v (sym at))
 total_set f (u ∷ us) zero v w at = let e : f u ≡ f v = ap f (some-injective u v at) in omega arith
 total_set f (u ∷ us) (suc id) v w at = omega (arith, total_set f us id v w at)
 
+-- a view that counts as the one before
+pub total_same : (f : View → ℕ) (views : List View) (id : ℕ) (v w : View) → get_elem? views id ≡ some v → f w ≡ f v → total f (set views id w) ≡ total f views
+total_same f views id v w at e = omega (arith, total_set f views id v w at)
+
 pub total_at : (f : View → ℕ) (views : List View) (id : ℕ) (v : View) → get_elem? views id ≡ some v → f v ≤ total f views
 total_at f [] id v at = absurd (some-ne-none v (sym at))
 total_at f (u ∷ us) zero v at = let e : f u ≡ f v = ap f (some-injective u v at) in omega arith

@@ -1,8 +1,8 @@
 -- The words of a plan's actions: how many predecessors they count, and what their bits say.
-use Rattle.std.proofs.Common.{◌≡◌, ◌≢◌, ◌⊎◌, ℕ, ◌+◌, ◌*◌, ◌^◌, ◌<◌, ◌≤◌, ◌/◌, ◌%◌, Bool, true, false, List, [], ◌∷◌, length, Option, Some, None, slice_get, refl, ap, ◌∙◌, ⊎_elim, arith}
+use Rattle.std.proofs.Common.{◌≡◌, ◌≢◌, ℕ, ◌+◌, ◌*◌, ◌^◌, ◌<◌, ◌≤◌, ◌/◌, ◌%◌, Bool, true, false, List, [], ◌∷◌, length, Option, Some, None, slice_get, refl, ap, ◌∙◌, arith}
 use Rattle.std.specs.List.{list_any}
 use Rattle.std.specs.Int.{bit_at}
-use Rattle.ts_check.specs.Checkup.{preds}
+use Rattle.std.proofs.Math.Nat.{add-mul-mod_self_left}
 use Rattle.std.proofs.lemmas.Nat.{div-mul-add}
 use Rattle.std.proofs.lemmas.Option.{slice_get_within}
 use Rattle.ts_model.specs.Sync.{Snapshot}
@@ -13,6 +13,8 @@ use Rattle.ts_model.specs.declared.plan.Action.{Action}
 use Rattle.ts_model.specs.declared.plan.Plan.{Plan}
 use Rattle.ts_laws.proofs.Runs.{preds_ascend, pred_count_is}
 use Rattle.ts_laws.proofs.Bounds.{few_actions}
+use Rattle.ts_board.specs.Runs.{bit}
+use Rattle.ts_board.proofs.Runs.{bit_one}
 
 -- ---- few predecessors
 
@@ -38,62 +40,47 @@ few_open s plan valid r i = go (slice_get plan.actions i) refl
 
 -- ---- the bits of a word
 
-abbrev pub weight : Bool → ℕ
-weight true = 1
-weight false = 0
+-- a bit of the model's words, as a number
+bit_number : (k m : ℕ) → 2 ^ k ≡ m → (b : Bool) → model.bit k b ≡ m * bit b
+bit_number k m e true = e ∙ (let one : m ≡ m * 1 = omega arith in one)
+bit_number k m e false = (let none : 0 ≡ m * 0 = omega arith in none)
 
-bit_in : (n k low : ℕ) → n ≡ k * 8589934592 + low → low < 8589934592 → bit_at n 33 ≡ k % 2
-bit_in n k low e less = ap (λ z. z / 8589934592 % 2) e ∙ ap (λ z. z % 2) (div-mul-add k 8589934592 low less)
+-- the bit k of a number in parts: what is above it, itself, and what is below it
+bit_part : (n k m high low : ℕ) (b : Bool) → 2 ^ k ≡ m → n ≡ (bit b + 2 * high) * m + low → low < m → bit_at n k ≡ bit b
+bit_part n k m high low b is e less =
+    ap (λ z. z / 2 ^ k % 2) e ∙ ap (λ z. ((bit b + 2 * high) * m + low) / z % 2) is
+    ∙ ap (λ z. z % 2) (div-mul-add (bit b + 2 * high) m low less) ∙ add-mul-mod_self_left (bit b) 2 high ∙ small b
+  where
+    small : (b : Bool) → bit b % 2 ≡ bit b
+    small true = refl
+    small false = refl
 
-bit_above : (n k low : ℕ) → n ≡ k * 17179869184 + low → low < 17179869184 → bit_at n 34 ≡ k % 2
-bit_above n k low e less = ap (λ z. z / 17179869184 % 2) e ∙ ap (λ z. z % 2) (div-mul-add k 17179869184 low less)
+module _ (n : ℕ) (c d f t : Bool) where
+  word_is : n + model.bit 32 c + model.bit 33 d + model.bit 34 f + model.bit 35 t ≡ n + 4294967296 * bit c + 8589934592 * bit d + 17179869184 * bit f + 34359738368 * bit t
+  word_is =
+      let x = bit_number 32 4294967296 refl c in let y = bit_number 33 8589934592 refl d in let z = bit_number 34 17179869184 refl f in let w = bit_number 35 34359738368 refl t in
+      omega arith
 
-pub done_bit : (n : ℕ) (c d f t : Bool) → n < 4294967296 → bit_at (n + model.bit 32 c + model.bit 33 d + model.bit 34 f + model.bit 35 t) 33 ≡ weight d
-done_bit n true true true true less = bit_in _ 7 (n + 4294967296) (omega arith) (omega arith)
-done_bit n true true true false less = bit_in _ 3 (n + 4294967296) (omega arith) (omega arith)
-done_bit n true true false true less = bit_in _ 5 (n + 4294967296) (omega arith) (omega arith)
-done_bit n true true false false less = bit_in _ 1 (n + 4294967296) (omega arith) (omega arith)
-done_bit n true false true true less = bit_in _ 6 (n + 4294967296) (omega arith) (omega arith)
-done_bit n true false true false less = bit_in _ 2 (n + 4294967296) (omega arith) (omega arith)
-done_bit n true false false true less = bit_in _ 4 (n + 4294967296) (omega arith) (omega arith)
-done_bit n true false false false less = bit_in _ 0 (n + 4294967296) (omega arith) (omega arith)
-done_bit n false true true true less = bit_in _ 7 n (omega arith) (omega arith)
-done_bit n false true true false less = bit_in _ 3 n (omega arith) (omega arith)
-done_bit n false true false true less = bit_in _ 5 n (omega arith) (omega arith)
-done_bit n false true false false less = bit_in _ 1 n (omega arith) (omega arith)
-done_bit n false false true true less = bit_in _ 6 n (omega arith) (omega arith)
-done_bit n false false true false less = bit_in _ 2 n (omega arith) (omega arith)
-done_bit n false false false true less = bit_in _ 4 n (omega arith) (omega arith)
-done_bit n false false false false less = bit_in _ 0 n (omega arith) (omega arith)
+  done_bit : n < 4294967296 → bit_at (n + model.bit 32 c + model.bit 33 d + model.bit 34 f + model.bit 35 t) 33 ≡ bit d
+  done_bit less =
+      let e = word_is in let s = bit_one c in
+      bit_part _ 33 8589934592 (bit f + 2 * bit t) (n + 4294967296 * bit c) d refl (omega arith) (omega arith)
 
-pub failed_bit : (n : ℕ) (c d f t : Bool) → n < 4294967296 → bit_at (n + model.bit 32 c + model.bit 33 d + model.bit 34 f + model.bit 35 t) 34 ≡ weight f
-failed_bit n true true true true less = bit_above _ 3 (n + 12884901888) (omega arith) (omega arith)
-failed_bit n true true true false less = bit_above _ 1 (n + 12884901888) (omega arith) (omega arith)
-failed_bit n true true false true less = bit_above _ 2 (n + 12884901888) (omega arith) (omega arith)
-failed_bit n true true false false less = bit_above _ 0 (n + 12884901888) (omega arith) (omega arith)
-failed_bit n true false true true less = bit_above _ 3 (n + 4294967296) (omega arith) (omega arith)
-failed_bit n true false true false less = bit_above _ 1 (n + 4294967296) (omega arith) (omega arith)
-failed_bit n true false false true less = bit_above _ 2 (n + 4294967296) (omega arith) (omega arith)
-failed_bit n true false false false less = bit_above _ 0 (n + 4294967296) (omega arith) (omega arith)
-failed_bit n false true true true less = bit_above _ 3 (n + 8589934592) (omega arith) (omega arith)
-failed_bit n false true true false less = bit_above _ 1 (n + 8589934592) (omega arith) (omega arith)
-failed_bit n false true false true less = bit_above _ 2 (n + 8589934592) (omega arith) (omega arith)
-failed_bit n false true false false less = bit_above _ 0 (n + 8589934592) (omega arith) (omega arith)
-failed_bit n false false true true less = bit_above _ 3 n (omega arith) (omega arith)
-failed_bit n false false true false less = bit_above _ 1 n (omega arith) (omega arith)
-failed_bit n false false false true less = bit_above _ 2 n (omega arith) (omega arith)
-failed_bit n false false false false less = bit_above _ 0 n (omega arith) (omega arith)
+  failed_bit : n < 4294967296 → bit_at (n + model.bit 32 c + model.bit 33 d + model.bit 34 f + model.bit 35 t) 34 ≡ bit f
+  failed_bit less =
+      let e = word_is in let s = bit_one c in let u = bit_one d in
+      bit_part _ 34 17179869184 (bit t) (n + 4294967296 * bit c + 8589934592 * bit d) f refl (omega arith) (omega arith)
 
-pub done_word : (plan : Plan) (r : Run) (i : ℕ) → open_count plan r i < 4294967296 → bit_at (word_after plan r i) 33 ≡ weight (list_any (finishes i) r)
+pub done_word : (plan : Plan) (r : Run) (i : ℕ) → open_count plan r i < 4294967296 → bit_at (word_after plan r i) 33 ≡ bit (list_any (finishes i) r)
 done_word plan r i small = done_bit (open_count plan r i) (list_any (claims i) r) (list_any (finishes i) r) (list_any (fails i) r) (list_any (takes i) r) small
 
-pub failed_word : (plan : Plan) (r : Run) (i : ℕ) → open_count plan r i < 4294967296 → bit_at (word_after plan r i) 34 ≡ weight (list_any (fails i) r)
+pub failed_word : (plan : Plan) (r : Run) (i : ℕ) → open_count plan r i < 4294967296 → bit_at (word_after plan r i) 34 ≡ bit (list_any (fails i) r)
 failed_word plan r i small = failed_bit (open_count plan r i) (list_any (claims i) r) (list_any (finishes i) r) (list_any (fails i) r) (list_any (takes i) r) small
 
-pub weight_one : (b : Bool) → weight b ≡ 1 → b ≡ true
-weight_one true e = refl
-weight_one false e = absurd (omega arith)
+pub true_from_bit : (b : Bool) → bit b ≡ 1 → b ≡ true
+true_from_bit true e = refl
+true_from_bit false e = absurd (omega arith)
 
-pub weight_else : (b : Bool) → weight b ≢ 1 → b ≡ false
-weight_else true n = absurd (n refl)
-weight_else false n = refl
+pub false_from_bit : (b : Bool) → bit b ≢ 1 → b ≡ false
+false_from_bit true n = absurd (n refl)
+false_from_bit false n = refl

@@ -11,7 +11,7 @@ use Rattle.ts_model.specs.declared.hold.Rule.{Rule}
 use Rattle.ts_hold.specs.Rules.{AddsRule}
 use Rattle.ts_plan.specs.Progress as progress
 use Rattle.ts_bundle.specs.Parts.{archive_lines, first_lines, second_lines, holds_lines, plan_part_lines, Without}
-use Rattle.ts_bundle.proofs.Titles.{without_push}
+use Rattle.ts_name.proofs.Utf8.{all_append}
 
 -- a part grows by a line
 pub grown : (front : List Line) (t : Line) (r : List Line) (l : Line) (next : List Line) → next ≡ r ++ l ∷ [] → front ++ t ∷ next ≡ (front ++ t ∷ r) ++ l ∷ []
@@ -37,7 +37,7 @@ rules_grown a f s r l next adds =
 
 -- a part without the title grows by another line
 pub without_more : (t : Line) (r : List Line) (l : Line) (next : List Line) → Without t r → l ≢ t → next ≡ r ++ l ∷ [] → Without t next
-without_more t r l next are other e = subst (λ z. Without t z) (sym e) (without_push t r l are other)
+without_more t r l next are other e = subst (λ z. Without t z) (sym e) (all_append (λ x. x ≢ t) r (l ∷ []) are (other, tt))
 
 -- what `==` says where it holds
 pub same_line : (line text title : Line) (r : Bool) → r ≡ pointwise eqb line text → text ≡ title → r ≡ true → line ≡ title

@@ -3,4 +3,3 @@ pub mod Refusals
 pub mod Growth
 pub mod Lines
 pub mod NoBundle
-pub mod Sent

@@ -1,5 +1,5 @@
 -- What a decoder answers after some lines.
-use Rattle.std.proofs.Common.{◌≡◌, ◌≢◌, ℕ, List, [], ◌∷◌, ◌++◌, Err, sym, ap, ◌∙◌}
+use Rattle.std.proofs.Common.{◌≡◌, ◌≢◌, List, ◌++◌, Err, sym, ap, ◌∙◌}
 use Rattle.ts_text.specs.Lines.{Reading, HasEnded, Answers}
 use Rattle.ts_text.specs.declared.fault.TextFault.{TextFault}
 use Rattle.ts_text.specs.declared.fault.TextFault.TheVariants as text_fault

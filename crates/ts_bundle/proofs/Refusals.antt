@@ -1,5 +1,5 @@
 -- Where no bundle's lines begin so.
-use Rattle.std.proofs.Common.{◌≡◌, ◌≢◌, ◌⊎◌, ℕ, ◌+◌, ◌<◌, ◌≤◌, List, [], ◌∷◌, ◌++◌, length, map, codes, Err, refl, sym, ap, ◌∙◌, subst, inl, inr, append_assoc, arith}
+use Rattle.std.proofs.Common.{◌≡◌, ◌≢◌, ℕ, ◌<◌, ◌≤◌, List, [], ◌∷◌, ◌++◌, length, map, codes, Err, refl, sym, ap, ◌∙◌, subst, inl, inr, append_assoc, arith}
 use Rattle.std.specs.List.{AllByRecursion}
 use Rattle.ts_model.specs.Trees.{Listing}
 use Rattle.ts_model.specs.Texts.{Line, Bundle, bundle_lines, tree_lines, print_lines, rule_line, plan_lines, RuleFits}
@@ -21,13 +21,14 @@ use Rattle.ts_plan.specs.Progress as progress
 use Rattle.ts_plan.specs.Reading.{ReadsNext, Finishes}
 use Rattle.ts_plan.specs.declared.fault.PlanFault.{PlanFault}
 use Rattle.ts_plan.specs.declared.fault.PlanFault.TheVariants as plan
-use Rattle.ts_plan.proofs.Grammar.{cons_parts, large}
+use Rattle.ts_name.proofs.Spelling.{cons_parts, cut_at, no_cut}
+use Rattle.ts_plan.proofs.Grammar.{large}
 use Rattle.ts_bundle.specs.Bundles.{BeginsNoBundle, SpellsNoBundle}
 use Rattle.ts_bundle.specs.Faults.{Refuses, fault_of_tree, fault_of_print, fault_of_rules, fault_of_plan}
 use Rattle.ts_bundle.specs.Parts.{archive_lines, first_lines, second_lines, holds_lines, plan_part_lines, PartFits, Without, fed}
 use Rattle.ts_bundle.specs.declared.reader.Part.{Part}
 use Rattle.ts_bundle.specs.declared.reader.Part.TheVariants as part
-use Rattle.ts_bundle.proofs.Titles.{before_title, first_title, holds_title, no_title, past_title, print_without, rules_without, second_title, tree_without}
+use Rattle.ts_bundle.proofs.Titles.{before_title, first_title, holds_title, print_without, rules_without, second_title, tree_without}
 
 -- ---- what a bundle's lines go on with
 
@@ -58,22 +59,22 @@ in_archive b lines e =
 
 in_first : (b : Bundle) (a : Listing Stamp) (lines : List Line) → bundle_lines b ≡ first_lines a lines → from_first b ≡ lines
 in_first b a lines e =
-    (past_title (codes "first") (print_lines b.archive) (print_lines a) (from_first b) lines (print_without (codes "first") first_title b.archive) (print_without (codes "first") first_title a)
+    (cut_at (codes "first") (print_lines b.archive) (print_lines a) (from_first b) lines (print_without (codes "first") first_title b.archive) (print_without (codes "first") first_title a)
     (in_archive b (print_lines a ++ codes "first" ∷ lines) e)).1
 
 in_second : (b : Bundle) (a : Listing Stamp) (f : Listing (List ℕ)) (lines : List Line) → bundle_lines b ≡ second_lines a f lines → from_second b ≡ lines
 in_second b a f lines e =
-    (past_title (codes "second") (tree_lines b.first) (tree_lines f) (from_second b) lines (tree_without (codes "second") second_title b.first) (tree_without (codes "second") second_title f)
+    (cut_at (codes "second") (tree_lines b.first) (tree_lines f) (from_second b) lines (tree_without (codes "second") second_title b.first) (tree_without (codes "second") second_title f)
     (in_first b a (tree_lines f ++ codes "second" ∷ lines) (e ∙ append_assoc (archive_lines (print_lines a)) (codes "first" ∷ tree_lines f) (codes "second" ∷ lines)))).1
 
 in_holds : (b : Bundle) (a : Listing Stamp) (f s : Listing (List ℕ)) (lines : List Line) → bundle_lines b ≡ holds_lines a f s lines → from_holds b ≡ lines
 in_holds b a f s lines e =
-    (past_title (codes "holds") (tree_lines b.second) (tree_lines s) (from_holds b) lines (tree_without (codes "holds") holds_title b.second) (tree_without (codes "holds") holds_title s)
+    (cut_at (codes "holds") (tree_lines b.second) (tree_lines s) (from_holds b) lines (tree_without (codes "holds") holds_title b.second) (tree_without (codes "holds") holds_title s)
     (in_second b a f (tree_lines s ++ codes "holds" ∷ lines) (e ∙ append_assoc (first_lines a (tree_lines f)) (codes "second" ∷ tree_lines s) (codes "holds" ∷ lines)))).1
 
 in_plan : (b : Bundle) (a : Listing Stamp) (f s : Listing (List ℕ)) (h : List Rule) (lines : List Line) → bundle_lines b ≡ plan_part_lines a f s h lines → plan_lines b.plan ≡ lines
 in_plan b a f s h lines e =
-    (past_title (codes "plan") (map rule_line b.rules) (map rule_line h) (plan_lines b.plan) lines (rules_without b.rules) (rules_without h)
+    (cut_at (codes "plan") (map rule_line b.rules) (map rule_line h) (plan_lines b.plan) lines (rules_without b.rules) (rules_without h)
     (in_holds b a f s (map rule_line h ++ codes "plan" ∷ lines) (e ∙ append_assoc (second_lines a f (tree_lines s)) (codes "holds" ∷ map rule_line h) (codes "plan" ∷ lines)))).1
 
 -- ---- lines that are refused
@@ -118,7 +119,7 @@ no_first_line a r l without other none b rest is e =
 
 no_first_end : (a : Listing Stamp) (r : List Line) → Without (codes "second") r → SpellsNoTree r → BeginsNoBundle (first_lines a r ++ codes "second" ∷ [])
 no_first_end a r without none b rest is e =
-    none b.first is.first (past_title (codes "second") (tree_lines b.first) r (from_second b) rest (tree_without (codes "second") second_title b.first) without
+    none b.first is.first (cut_at (codes "second") (tree_lines b.first) r (from_second b) rest (tree_without (codes "second") second_title b.first) without
     (in_first b a (r ++ codes "second" ∷ rest) (e ∙ pushed (archive_lines (print_lines a)) (codes "first") r (codes "second") rest))).0
 
 no_second_line : (a : Listing Stamp) (f : Listing (List ℕ)) (r : List Line) (l : Line) → Without (codes "holds") r → l ≢ codes "holds" → BeginsNoTree (r ++ l ∷ []) → BeginsNoBundle (second_lines a f r ++ l ∷ [])
@@ -128,7 +129,7 @@ no_second_line a f r l without other none b rest is e =
 
 no_second_end : (a : Listing Stamp) (f : Listing (List ℕ)) (r : List Line) → Without (codes "holds") r → SpellsNoTree r → BeginsNoBundle (second_lines a f r ++ codes "holds" ∷ [])
 no_second_end a f r without none b rest is e =
-    none b.second is.second (past_title (codes "holds") (tree_lines b.second) r (from_holds b) rest (tree_without (codes "holds") holds_title b.second) without
+    none b.second is.second (cut_at (codes "holds") (tree_lines b.second) r (from_holds b) rest (tree_without (codes "holds") holds_title b.second) without
     (in_second b a f (r ++ codes "holds" ∷ rest) (e ∙ pushed (first_lines a (tree_lines f)) (codes "second") r (codes "holds") rest))).0
 
 pub archive_refused : (r : List Line) (l : Line) (e : PrintFault) → Without (codes "first") r → l ≢ codes "first" → print_faults.Refuses (BeginsNoPrint (r ++ l ∷ [])) e → Refuses (BeginsNoBundle (archive_lines r ++ l ∷ [])) (fault_of_print e)
@@ -188,10 +189,10 @@ pub unfinished : (p : Part) → PartFits p → ((a : Listing Stamp) (f s : Listi
 unfinished part.Start fits other b is e = absurd (let k : codes "twosync-bundle 1" ∷ codes "archive" ∷ from_archive b ≡ [] = sym (parted b) ∙ e in cc)
 unfinished part.Title fits other b is e =
     absurd (let k : ◌≡◌ {A = List Line} (codes "archive" ∷ from_archive b) [] = (cons_parts (codes "twosync-bundle 1") (codes "twosync-bundle 1") (codes "archive" ∷ from_archive b) [] (sym (parted b) ∙ e)).1 in cc)
-unfinished (part.Archive r) fits other b is e = no_title (codes "first") (print_lines b.archive) r (from_first b) fits (in_archive b r e)
-unfinished (part.First a r) fits other b is e = no_title (codes "second") (tree_lines b.first) r (from_second b) fits.1 (in_first b a r e)
-unfinished (part.Second a f r) fits other b is e = no_title (codes "holds") (tree_lines b.second) r (from_holds b) fits.2 (in_second b a f r e)
-unfinished (part.Holds a f s h) fits other b is e = no_title (codes "plan") (map rule_line b.rules) (map rule_line h) (plan_lines b.plan) (rules_without h) (in_holds b a f s (map rule_line h) e)
+unfinished (part.Archive r) fits other b is e = no_cut (codes "first") r (print_lines b.archive) (from_first b) fits (sym (in_archive b r e))
+unfinished (part.First a r) fits other b is e = no_cut (codes "second") r (tree_lines b.first) (from_second b) fits.1 (sym (in_first b a r e))
+unfinished (part.Second a f r) fits other b is e = no_cut (codes "holds") r (tree_lines b.second) (from_holds b) fits.2 (sym (in_second b a f r e))
+unfinished (part.Holds a f s h) fits other b is e = no_cut (codes "plan") (map rule_line h) (map rule_line b.rules) (plan_lines b.plan) (rules_without h) (sym (in_holds b a f s (map rule_line h) e))
 unfinished (part.Plan a f s h r) fits other b is e = absurd (other a f s h r refl)
 
 -- the same of the lines that were taken

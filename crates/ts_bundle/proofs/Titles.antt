@@ -1,5 +1,5 @@
 -- Where a title stands among lines.
-use Rattle.std.proofs.Common.{◌≡◌, ◌≢◌, ℕ, ◌+◌, ◌/◌, ◌<◌, zero, suc, List, [], ◌∷◌, ◌++◌, length, map, drop, codes, get_or, refl, sym, ap, ap₂, ◌∙◌, arith}
+use Rattle.std.proofs.Common.{◌≡◌, ◌≢◌, ℕ, ◌+◌, ◌/◌, zero, suc, List, [], ◌∷◌, ◌++◌, length, map, drop, codes, get_or, sym, ap, ap₂, arith}
 use Rattle.ts_name.specs.Paths.{Path}
 use Rattle.ts_model.specs.Trees.{Listing}
 use Rattle.ts_model.specs.Texts.{Line, data_lines, tree_row_lines, tree_lines, print_row_lines, print_lines, rule_line}
@@ -8,27 +8,9 @@ use Rattle.ts_model.specs.declared.row.Content.TheVariants.{Absent, Dir, File}
 use Rattle.ts_model.specs.declared.row.Stamp.{Stamp}
 use Rattle.ts_model.specs.declared.hold.Rule.{Rule}
 use Rattle.ts_model.specs.declared.hold.Rule.TheVariants.{OnePath, LastName}
-use Rattle.ts_plan.proofs.Grammar.{cons_parts}
+use Rattle.ts_name.proofs.Spelling.{cons_parts}
+use Rattle.ts_name.proofs.Utf8.{all_append}
 use Rattle.ts_bundle.specs.Parts.{Without}
-
--- one more line that isn't the title
-pub without_push : (t : Line) (xs : List Line) (l : Line) → Without t xs → l ≢ t → Without t (xs ++ l ∷ [])
-without_push t [] l are other = (other, tt)
-without_push t (x ∷ xs) l are other = (are.0, without_push t xs l are.1 other)
-
-without_append : (t : Line) (xs ys : List Line) → Without t xs → Without t ys → Without t (xs ++ ys)
-without_append t [] ys are_x are_y = are_y
-without_append t (x ∷ xs) ys are_x are_y = (are_x.0, without_append t xs ys are_x.1 are_y)
-
--- lines up to the first such title, and those behind it
-pub past_title : (t : Line) (xs ys r s : List Line) → Without t xs → Without t ys → xs ++ t ∷ r ≡ ys ++ t ∷ s → (xs ≡ ys) × (r ≡ s)
-past_title t [] [] r s are_x are_y e = (refl, (cons_parts t t r s e).1)
-past_title t [] (y ∷ ys) r s are_x are_y e = absurd (are_y.0 (sym (cons_parts t y r (ys ++ t ∷ s) e).0))
-past_title t (x ∷ xs) [] r s are_x are_y e = absurd (are_x.0 (cons_parts x t (xs ++ t ∷ r) s e).0)
-past_title t (x ∷ xs) (y ∷ ys) r s are_x are_y e =
-    let p = cons_parts x y (xs ++ t ∷ r) (ys ++ t ∷ s) e in
-    let q = past_title t xs ys r s are_x.1 are_y.1 p.1 in
-    (ap₂ ◌∷◌ p.0 q.0, q.1)
 
 -- a line that isn't the title, behind lines that aren't, stands before the title
 pub before_title : (t l : Line) (xs ys r s : List Line) → Without t ys → l ≢ t → xs ++ t ∷ r ≡ ys ++ l ∷ s → (more : List Line) × (xs ≡ ys ++ l ∷ more)
@@ -39,13 +21,6 @@ before_title t l (x ∷ xs) (y ∷ ys) r s are other e =
     let p = cons_parts x y (xs ++ t ∷ r) (ys ++ l ∷ s) e in
     let q = before_title t l xs ys r s are.1 other p.1 in
     (q.0, ap₂ ◌∷◌ p.0 q.1)
-
--- lines without the title aren't lines with it
-pub no_title : (t : Line) (xs ys r : List Line) → Without t ys → xs ++ t ∷ r ≢ ys
-no_title t [] [] r are e = cc
-no_title t [] (y ∷ ys) r are e = are.0 (sym (cons_parts t y r ys e).0)
-no_title t (x ∷ xs) [] r are e = cc
-no_title t (x ∷ xs) (y ∷ ys) r are e = no_title t xs ys r are.1 (cons_parts x y (xs ++ t ∷ r) ys e).1
 
 -- a title has no space behind its first byte, as a body's lines have
 abbrev pub IsTitle : Line → Type 0
@@ -62,7 +37,7 @@ tree_row_without t is p (File bytes) = ((λ e. is (sym (ap (λ l. get_or l 1 0) 
 
 pub tree_without : (t : Line) → IsTitle t → (rows : Listing (List ℕ)) → Without t (tree_lines rows)
 tree_without t is [] = tt
-tree_without t is (row ∷ rows) = without_append t (tree_row_lines row.path row.content) (tree_lines rows) (tree_row_without t is row.path row.content) (tree_without t is rows)
+tree_without t is (row ∷ rows) = all_append (λ l. l ≢ t) (tree_row_lines row.path row.content) (tree_lines rows) (tree_row_without t is row.path row.content) (tree_without t is rows)
 
 print_row_without : (t : Line) → IsTitle t → (p : Path) (x : Content Stamp) → Without t (print_row_lines p x)
 print_row_without t is p Absent = tt
@@ -71,7 +46,7 @@ print_row_without t is p (File stamp) = ((λ e. is (sym (ap (λ l. get_or l 1 0)
 
 pub print_without : (t : Line) → IsTitle t → (rows : Listing Stamp) → Without t (print_lines rows)
 print_without t is [] = tt
-print_without t is (row ∷ rows) = without_append t (print_row_lines row.path row.content) (print_lines rows) (print_row_without t is row.path row.content) (print_without t is rows)
+print_without t is (row ∷ rows) = all_append (λ l. l ≢ t) (print_row_lines row.path row.content) (print_lines rows) (print_row_without t is row.path row.content) (print_without t is rows)
 
 -- `path` and `name` differ from `plan` in their second letter
 pub rules_without : (rules : List Rule) → Without (codes "plan") (map rule_line rules)

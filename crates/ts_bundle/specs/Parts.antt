@@ -2,7 +2,7 @@
 --     archive_lines a, first_lines a f, ..    the lines through these of the part, the parts before it whole
 --     fed part                                the lines that were taken
 --     PartFits part                           what was taken is a bundle's beginning, but for lines of the last part
-use Rattle.std.specs.Prelude.{◌≡◌, ◌≢◌, ℕ, List, [], ◌∷◌, ◌++◌, map, codes}
+use Rattle.std.specs.Prelude.{◌≢◌, ℕ, List, [], ◌∷◌, ◌++◌, map, codes}
 use Rattle.std.specs.List.{AllByRecursion}
 use Rattle.ts_model.specs.Trees.{Listing}
 use Rattle.ts_model.specs.Texts.{Line, tree_lines, print_lines, rule_line, IsTreeBody, IsPrintBody, IsRules}

@@ -1,5 +1,5 @@
 -- The edits of entries: what they leave, and that they may be spliced.
-use Rattle.std.proofs.Common.{◌≡◌, ◌≢◌, ◌⊎◌, inl, inr, ℕ, Bool, true, false, cond, List, [], ◌∷◌, ◌++◌, Option, Some, None, refl, sym, ap, ◌∙◌, subst, append-nil, ◌+◌, ◌<◌, ◌≤◌}
+use Rattle.std.proofs.Common.{◌≡◌, ◌≢◌, ◌⊎◌, inl, inr, ℕ, Bool, true, false, cond, List, [], ◌∷◌, ◌++◌, Option, Some, None, refl, sym, ap, ◌∙◌, subst, append-nil}
 use Rattle.std.specs.List.{AllByRecursion}
 use Rattle.ts_name.specs.Paths.{Path, IsPath, IsBefore}
 use Rattle.ts_model.specs.Trees.{Listing, Tree, Print, IsListing, at, listed, print_of, sub}
@@ -17,7 +17,7 @@ use Rattle.ts_model.specs.declared.plan.Reason.TheVariants as reason
 use Rattle.ts_table.specs.Splices.{ArePaths, ArePlaces, AreInOrder, grafted}
 use Rattle.ts_table.specs.Tables.{IsPlace, placed}
 use Rattle.ts_table.specs.declared.splice.Edit.{Edit}
-use Rattle.ts_table.proofs.Rows.{weaker, all_both, all_map, at_each}
+use Rattle.ts_name.proofs.Basics.{weaker, all_both, all_map, at_each}
 use Rattle.ts_tree.specs.Trees.{EditFits}
 use Rattle.ts_tree.proofs.Parts.{lists_each, part_fits}
 use Rattle.ts_laws.specs.Carried.{copied, same_reason}

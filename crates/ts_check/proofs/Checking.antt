@@ -1,5 +1,5 @@
 -- What a plan that was checked answers.
-use Rattle.std.proofs.Common.{◌≡◌, ◌≢◌, ◌⊎◌, ◌↔◌, ℕ, ◌<◌, ◌≤◌, List, [], ◌∷◌, length, Contains, Option, Some, None, IfNone, MatchOption, slice_get, sym, refl, ◌∙◌, subst, inl, arith}
+use Rattle.std.proofs.Common.{◌≡◌, ◌≢◌, ◌↔◌, ℕ, ◌<◌, ◌≤◌, List, [], length, Contains, Option, Some, None, IfNone, MatchOption, slice_get, sym, refl, ◌∙◌, subst, inl, arith}
 use Rattle.std.proofs.lemmas.Option.{none-some, slice_get_within}
 use Rattle.ts_name.specs.Paths.{Path}
 use Rattle.ts_model.specs.Plans.{ActionIs, KindIs, Copies, IsCopied, Valid, Waits, AscendBelow}
@@ -11,7 +11,8 @@ use Rattle.ts_model.specs.declared.plan.Side.{Side}
 use Rattle.ts_model.specs.declared.plan.Kind.TheVariants.{Piece, Commit}
 use Rattle.ts_model.specs.declared.plan.Plan.{Plan}
 use Rattle.ts_model.specs.declared.plan.PlanRule.TheVariants.{PredsAscend, OneCommit}
-use Rattle.ts_check.proofs.Scans.{same_kind, held_at}
+use Rattle.ts_laws.proofs.Lists.{element_at}
+use Rattle.ts_check.proofs.Scans.{same_kind}
 use Rattle.ts_check.proofs.Succeeding.{contains_none}
 use Rattle.ts_check.proofs.Verdicts.{limits_hold}
 use Rattle.ts_check.proofs.Waits.{ascending_preds}
@@ -53,7 +54,7 @@ successors_found plan lists i found are h = go (slice_get lists i) refl h
         none_waits j waits =
             let up = are.preds_within j i waits in
             let size = are.size in
-            let there = held_at lists i (omega arith) in
+            let there = element_at lists i (omega arith) in
             none-some there.0 (sym at ∙ there.1)
 
 -- ---- the commit of a piece

@@ -1,13 +1,13 @@
 -- Each lawful piece of an entry is looked for among those that stand.
-use Rattle.std.proofs.Common.{◌≡◌, ◌≢◌, ◌⊎◌, ℕ, ◌+◌, ◌-◌, ◌%◌, ◌<◌, ◌≤◌, min, [], ◌∷◌, ◌++◌, length, Some, None, slice_get, sym, refl, ap, ◌∙◌, subst, inl, inr, append-nil, arith}
+use Rattle.std.proofs.Common.{◌≡◌, ◌≢◌, ℕ, ◌+◌, ◌-◌, ◌%◌, ◌<◌, ◌≤◌, min, [], ◌∷◌, ◌++◌, length, Some, None, slice_get, sym, refl, ap, ◌∙◌, subst, inl, inr, append-nil, arith}
 use Rattle.std.specs.BTreeMap.{BTreeMap, get}
 use Rattle.std.proofs.lemmas.Bool.{cases_eq, cases_lt, cases_order}
 use Rattle.std.proofs.lemmas.Option.{none-some, same_Some, slice_get_within}
 use Rattle.ts_name.specs.Paths.{Path, IsAbove, IsBefore}
 use Rattle.ts_laws.proofs.Basics.{same_stamp_at, same_names}
-use Rattle.ts_laws.proofs.Paths.{IsRooted-from_tree, nothing_below, before_itself, before_trans}
+use Rattle.ts_name.proofs.Order.{before_itself, before_trans, before_from_above, above_between}
+use Rattle.ts_laws.proofs.Grafts.{IsRooted-from_tree, nothing_below}
 use Rattle.ts_laws.proofs.Listings.{IsTree-from_listing}
-use Rattle.ts_need.proofs.Between.{before_from_above, above_between}
 use Rattle.ts_model.specs.Trees.{Listing, IsListing, at}
 use Rattle.ts_model.specs.Plans.{EntryIs, KindIs, IsCopied}
 use Rattle.ts_model.specs.declared.row.Content.TheVariants.{File}

@@ -1,19 +1,19 @@
 -- What a mark waits for: the commit of its entry, and the mark of the nearest new directory.
-use Rattle.std.proofs.Common.{◌≡◌, ◌≢◌, ◌⊎◌, ℕ, ◌<◌, ◌≤◌, List, [], ◌∷◌, ◌++◌, length, Option, Some, slice_get, sym, ap, ◌∙◌, subst, inl, inr, append-nil, arith}
+use Rattle.std.proofs.Common.{◌≡◌, ◌≢◌, ℕ, ◌≤◌, List, [], length, Option, Some, slice_get, sym, ap, ◌∙◌, subst, inl, inr, append-nil, arith}
 use Rattle.std.proofs.lemmas.Option.{same_Some, slice_get_within}
 use Rattle.ts_name.specs.Paths.{IsAbove, IsBefore}
-use Rattle.ts_laws.proofs.Paths.{before_itself, before_trans}
+use Rattle.ts_name.proofs.Order.{before_itself, before_trans, before_from_above}
 use Rattle.ts_model.specs.Plans.{ActionIs, KindIs, Waits, NearestDir, IsOutOfOrder}
 use Rattle.ts_model.specs.declared.plan.Entry.{Entry}
 use Rattle.ts_model.specs.declared.plan.Action.{Action}
 use Rattle.ts_model.specs.declared.plan.Plan.{Plan}
-use Rattle.ts_model.specs.declared.plan.Reason.TheVariants as reason
 use Rattle.ts_model.specs.declared.plan.Kind.TheVariants.{Commit, Mark}
-use Rattle.ts_need.proofs.Between.{before_from_above}
-use Rattle.ts_check.specs.Places.{IsFirst, IsIndex, no_action}
+use Rattle.ts_need.specs.Needs.{IsFirst}
+use Rattle.ts_check.specs.Places.{IsIndex, no_action}
 use Rattle.ts_check.specs.Waiting.{IsLinked, LacksCommit, LacksDir, LacksLink}
-use Rattle.ts_check.specs.Nearest.{IsNearestIndex, IsNearestOf}
-use Rattle.ts_check.proofs.Scans.{held_at, same_kind}
+use Rattle.ts_check.specs.Nearest.{IsDirAbove, IsNearestIndex, IsNearestOf}
+use Rattle.ts_check.proofs.Scans.{same_kind}
+use Rattle.ts_laws.proofs.Lists.{element_at}
 use Rattle.ts_check.proofs.Waits.{IsFirst-same}
 
 -- a mark that lacks what stands at its entry among the commits lacks its commit
@@ -74,26 +74,22 @@ module _ (plan : Plan) (order : (k : ℕ) → ¬ IsOutOfOrder plan.entries k) (f
     ];
   }
 
-  -- and the nearest is what is found
+  -- the nearest is one above
+  dir_above : (e d : ℕ) → NearestDir plan e d → IsDirAbove plan.entries d e
+  dir_above e d near = record {
+    dir = near.dir;
+    below = near.below;
+    is_dir = near.is_dir;
+    is_below = near.is_below;
+    new_dir = near.new_dir;
+    above = near.above;
+    strictly = near.strictly;
+  }
+
+  -- and it is what is found
   found_nearest : (e d found : ℕ) → NearestDir plan e d → IsNearestOf plan.entries e found → d ≡ found
-  found_nearest e d found near (inl none) = absurd (none.1 d (record {
-    dir = near.dir;
-    below = near.below;
-    is_dir = near.is_dir;
-    is_below = near.is_below;
-    new_dir = near.new_dir;
-    above = near.above;
-    strictly = near.strictly;
-  }))
-  found_nearest e d found near (inr at) = elim (at.2 d (record {
-    dir = near.dir;
-    below = near.below;
-    is_dir = near.is_dir;
-    is_below = near.is_below;
-    new_dir = near.new_dir;
-    above = near.above;
-    strictly = near.strictly;
-  })) [
+  found_nearest e d found near (inl none) = absurd (none.1 d (dir_above e d near))
+  found_nearest e d found near (inr at) = elim (at.2 d (dir_above e d near)) [
     | inl same ↦ same
     | inr over ↦ absurd (
         let same_below : at.1.below ≡ near.below = same_Some at.1.below near.below (sym at.1.is_below ∙ near.is_below) in
@@ -120,7 +116,7 @@ module _ (plan : Plan) (order : (k : ℕ) → ¬ IsOutOfOrder plan.entries k) (f
       from : (k : ℕ) → LacksDir plan k → LacksVia plan nearest marks k
       from k h =
           let in_entries = slice_get_within plan.entries h.0 h.4.below h.4.is_below in
-          let at = held_at nearest h.0 (omega arith) in
+          let at = element_at nearest h.0 (omega arith) in
           let same = found_nearest h.0 h.1 at.0 h.4 (known h.0 at.0 at.1) in
           let small = slice_get_within plan.entries h.1 h.4.dir h.4.is_dir in
           let within = slice_get_within plan.actions h.2 h.5.0 h.5.1 in

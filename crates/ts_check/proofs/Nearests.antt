@@ -4,13 +4,12 @@ use Rattle.std.proofs.lemmas.Bool.{cases_eq, cases_lt, cases_order}
 use Rattle.std.proofs.lemmas.Option.{same_Some, slice_get_within}
 use Rattle.std.proofs.lemmas.List.{length-append}
 use Rattle.ts_name.specs.Paths.{IsAbove, IsBefore}
-use Rattle.ts_laws.proofs.Basics.{stable}
-use Rattle.ts_laws.proofs.Paths.{decide_before, before_itself, before_trans}
+use Rattle.ts_name.proofs.Order.{before_itself, before_trans, before_from_above, above_between}
 use Rattle.ts_model.specs.Plans.{IsOutOfOrder}
 use Rattle.ts_model.specs.declared.plan.Entry.{Entry}
 use Rattle.ts_model.specs.declared.plan.Reason.TheVariants as reason
-use Rattle.ts_need.proofs.Between.{before_from_above, above_between}
-use Rattle.ts_check.proofs.Scans.{held_at}
+use Rattle.ts_laws.proofs.Lists.{element_at}
+use Rattle.ts_laws.proofs.Plans.{entries_in_order}
 use Rattle.ts_check.specs.Places.{no_action}
 use Rattle.ts_check.specs.Nearest.{IsDirAbove, IsDirEntry, IsEntryAbove, IsNearestIndex, IsNearestOf}
 
@@ -31,20 +30,6 @@ pub record IsCandidate (entries : List Entry) (e at : ℕ) : Type 0 where
   pub covers : (d : ℕ) → IsDirAbove entries d e → (d ≡ at) ⊎ IsDirAbove entries d at
 
 module _ (entries : List Entry) (order : (k : ℕ) → ¬ IsOutOfOrder entries k) where
-  -- each entry comes before the next
-  next_before : (k : ℕ) (x y : Entry) → slice_get entries k ≡ Some x → slice_get entries (suc k) ≡ Some y → IsBefore x.path y.path
-  next_before k x y is_x is_y = stable (decide_before x.path y.path) (λ n. order (suc k) (k, x, y, omega arith, is_x, is_y, n))
-
-  -- and before each later one
-  pub in_order : (k l : ℕ) (x y : Entry) → slice_get entries k ≡ Some x → slice_get entries l ≡ Some y → k < l → IsBefore x.path y.path
-  in_order k zero x y is_x is_y h = absurd (omega arith)
-  in_order k (suc l) x y is_x is_y h = elim (cases_eq k l) [
-    | inl e ↦ next_before l x y (subst (λ z. slice_get entries z ≡ Some x) e is_x) is_y
-    | inr differ ↦ (
-        let here = held_at entries l (let within = slice_get_within entries (suc l) y is_y in omega arith) in
-        before_trans x.path here.0.path y.path (in_order k l x here.0 is_x here.1 (omega arith)) (next_before l here.0 y here.1 is_y))
-  ]
-
   -- what comes before is earlier
   pub earlier : (k l : ℕ) (x y : Entry) → slice_get entries k ≡ Some x → slice_get entries l ≡ Some y → IsBefore x.path y.path → k < l
   earlier k l x y is_x is_y before = elim (cases_order k l) [
@@ -52,7 +37,7 @@ module _ (entries : List Entry) (order : (k : ℕ) → ¬ IsOutOfOrder entries k
         let one : x ≡ y = same_Some x y (sym is_x ∙ ap (slice_get entries) same ∙ is_y) in
         before_itself y.path (subst (λ (z : Entry). IsBefore z.path y.path) one before))
     | inr (inl h) ↦ h
-    | inr (inr h) ↦ absurd (before_itself x.path (before_trans x.path y.path x.path before (in_order l k y x is_y is_x h)))
+    | inr (inr h) ↦ absurd (before_itself x.path (before_trans x.path y.path x.path before (entries_in_order entries order l k y x is_y is_x h)))
   ]
 
   -- a directory above an entry is an earlier entry
@@ -62,14 +47,14 @@ module _ (entries : List Entry) (order : (k : ℕ) → ¬ IsOutOfOrder entries k
   -- a directory above an entry is above each entry between the two
   above_middle : (d m e : ℕ) (middle : Entry) → slice_get entries m ≡ Some middle → d < m → m < e → IsDirAbove entries d e → IsDirAbove entries d m
   above_middle d m e middle is after before h =
-      let first = in_order d m h.dir middle h.is_dir is after in
+      let first = entries_in_order entries order d m h.dir middle h.is_dir is after in
       record {
         dir = h.dir;
         below = middle;
         is_dir = h.is_dir;
         is_below = is;
         new_dir = h.new_dir;
-        above = above_between h.dir.path middle.path h.below.path h.above first (in_order m e middle h.below is h.is_below before);
+        above = above_between h.dir.path middle.path h.below.path h.above first (entries_in_order entries order m e middle h.below is h.is_below before);
         strictly = λ same. before_itself middle.path (subst (λ z. IsBefore z middle.path) same first);
       }
 
@@ -140,7 +125,7 @@ module _ (entries : List Entry) (order : (k : ℕ) → ¬ IsOutOfOrder entries k
         is_below = is_of;
         new_dir = here.1.2;
         above = subst (λ (z : Entry). IsAbove z.path of.path) (same_Some dir here.1.0 (sym is_dir ∙ here.1.1)) above;
-        strictly = λ same. before_itself of.path (subst (λ z. IsBefore z of.path) same (in_order at e here.1.0 of here.1.1 is_of here.0));
+        strictly = λ same. before_itself of.path (subst (λ z. IsBefore z of.path) same (entries_in_order entries order at e here.1.0 of here.1.1 is_of here.0));
       },
       candidate.covers,
     )
@@ -156,7 +141,7 @@ module _ (entries : List Entry) (order : (k : ℕ) → ¬ IsOutOfOrder entries k
 
   pub begin_up : (e at : ℕ) → 0 < e → e < length entries → ¬ IsDirEntry entries (e - 1) → IsNearestOf entries (e - 1) at → IsCandidate entries e at
   begin_up e at some within old nearest =
-      let before = held_at entries (e - 1) (omega arith) in
+      let before = element_at entries (e - 1) (omega arith) in
       IsCandidate-nearest (e - 1) e at before.0 (omega arith) before.1 (λ new. old (before.0, before.1, new)) nearest
 
   -- one step up
@@ -164,7 +149,7 @@ module _ (entries : List Entry) (order : (k : ℕ) → ¬ IsOutOfOrder entries k
   step_up e at up few within there candidate aside nearest = elim candidate.place [
     | inl none ↦ absurd (there none)
     | inr here ↦ (
-        let of = held_at entries e within in
+        let of = element_at entries e within in
         IsCandidate-up e at up here.1.0 of.0 candidate here.1.1 of.1 (λ above. aside (here.1.0, of.0, here.1.1, of.1, above)) here.0 nearest)
   ]
 

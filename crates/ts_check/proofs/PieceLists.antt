@@ -1,5 +1,5 @@
 -- The pieces of each entry, by path and offset.
-use Rattle.std.proofs.Common.{◌≡◌, ◌≢◌, ◌⊎◌, ◌↔◌, ℕ, ◌+◌, ◌<◌, ◌≤◌, ◌==◌, List, [], ◌∷◌, ◌++◌, length, get_or, map, Contains, Option, Some, None, MatchOption, Result, Ok, Err, IfOk, slice_get, Ordering, Less, Equal, Greater, sym, refl, ap, ◌∙◌, subst, inl, inr, arith}
+use Rattle.std.proofs.Common.{◌≡◌, ◌⊎◌, ◌↔◌, ℕ, ◌<◌, List, [], ◌∷◌, length, get_or, Contains, Option, Some, None, MatchOption, Result, Ok, Err, IfOk, slice_get, Ordering, Less, Equal, Greater, sym, refl, ap, ◌∙◌, subst, inl, inr, arith}
 use Rattle.std.specs.Ordering.{nat_cmp, ordering_then}
 use Rattle.std.specs.BTreeMap.{BTreeMap, IsOrdered, get}
 use Rattle.std.specs.Map.{keys_of}
@@ -19,7 +19,8 @@ use Rattle.ts_model.specs.declared.row.Stamp.{Stamp}
 use Rattle.ts_model.specs.declared.plan.Entry.{Entry}
 use Rattle.ts_model.specs.declared.plan.Kind.TheVariants.{Piece, Commit}
 use Rattle.ts_model.specs.declared.plan.Plan.{Plan}
-use Rattle.ts_check.proofs.Scans.{same_kind, held_at}
+use Rattle.ts_laws.proofs.Lists.{element_at}
+use Rattle.ts_check.proofs.Scans.{same_kind}
 use Rattle.ts_check.proofs.Rowed.{rows_order}
 use Rattle.ts_check.proofs.Staging.{one_source, source_lists, same_piece}
 use Rattle.ts_check.proofs.Placing.{place_eq, is_eq_Equal}
@@ -205,7 +206,7 @@ pieces_of_commit plan pieces c e found are commit h = go (slice_get pieces e) re
             λ h. absurd (
                 let within = are.within e k (for_entry k h) in
                 let size = are.size in
-                let there = held_at pieces e (omega arith) in
+                let there = element_at pieces e (omega arith) in
                 none-some there.0 (sym at ∙ there.1)),
           ),
           λ i j d less within. absurd (omega arith),

@@ -1,5 +1,5 @@
 -- Rows of a listing, found by their paths.
-use Rattle.std.proofs.Common.{◌≡◌, ◌≢◌, ◌⊎◌, ℕ, zero, suc, ◌<◌, ◌≤◌, Bool, true, false, cond, List, [], ◌∷◌, ◌++◌, length, get_or, Some, Result, Ok, Err, MatchOption, slice_get, Less, Equal, Greater, sym, refl, ◌∙◌, subst, inl, inr, arith}
+use Rattle.std.proofs.Common.{◌≡◌, ◌≢◌, ℕ, zero, suc, ◌<◌, Bool, true, false, cond, List, [], ◌∷◌, length, get_or, Some, Result, Ok, Err, MatchOption, slice_get, Less, Equal, Greater, sym, refl, ◌∙◌, subst, inl, inr, arith}
 use Rattle.std.specs.List.Sorted.{IsBinarySearchResult, IsSearchInRange}
 use Rattle.std.specs.List.{AllByRecursion}
 use Rattle.std.specs.Result.{result_ok}
@@ -13,17 +13,18 @@ use Rattle.ts_model.specs.declared.row.Content.TheVariants.{Absent, Dir, File}
 use Rattle.ts_model.specs.declared.row.Row.{Row}
 use Rattle.ts_model.specs.declared.row.Stamp.{Stamp}
 use Rattle.ts_table.proofs.Found.{rises}
-use Rattle.ts_table.proofs.Paths.{path_total, tied_paths, same_path_equal, before_itself}
+use Rattle.ts_name.specs.Laws.{path_total, tied_paths, same_path_equal}
+use Rattle.ts_name.proofs.Order.{before_itself}
 use Rattle.ts_table.proofs.Rows.{ascend_pair}
 use Rattle.ts_table.proofs.Listings.{listed_at}
-use Rattle.ts_check.proofs.Scans.{held_at}
+use Rattle.ts_laws.proofs.Lists.{element_at}
 use Rattle.ts_check.specs.Pieces.{IsRowOf}
 
 -- what a search by path finds
 pub row_found : (rows : Listing Stamp) (p : Path) (r : Result ℕ ℕ) → Ascend rows → IsSearchInRange r (length rows) → IsBinarySearchResult (λ row. path_cmp row.path p) rows r
     → MatchOption (result_ok r) ((k : ℕ) → ¬ IsRowOf rows k p) (λ k. IsRowOf rows k p)
 row_found rows p (Ok i) up within h =
-    let x = held_at rows i within in
+    let x = element_at rows i within in
     let tied : path_cmp x.0.path p ≡ Equal = subst (λ (z : Row Stamp). path_cmp z.path p ≡ Equal) (get_or_from_slice_get rows i x.0 x.0 x.1) (h x.0) in
     (x.0, x.1, tied_paths x.0.path p tied)
 row_found rows p (Err i) up within h = λ k is.

@@ -1,5 +1,5 @@
 -- One pass over the actions, in which each entry meets its commit, or its mark.
-use Rattle.std.proofs.Common.{◌≡◌, ◌≢◌, ◌⊎◌, ℕ, zero, suc, ◌+◌, ◌<◌, ◌≤◌, List, [], ◌∷◌, length, replicate, set, get_or, Option, Some, None, slice_get, sym, refl, ap, ◌∙◌, subst, inl, inr, arith}
+use Rattle.std.proofs.Common.{◌≡◌, ◌≢◌, ℕ, zero, suc, ◌+◌, ◌<◌, ◌≤◌, List, [], ◌∷◌, length, replicate, set, get_or, Option, Some, None, slice_get, sym, refl, ap, ◌∙◌, subst, inl, inr, arith}
 use Rattle.std.proofs.lemmas.Bool.{cases_eq, cases_lt}
 use Rattle.std.proofs.lemmas.Option.{none-some, same_Some, slice_get_within, slice_get_read}
 use Rattle.std.proofs.lemmas.List.{length-set, length-replicate}
@@ -11,6 +11,7 @@ use Rattle.ts_model.specs.declared.plan.Entry.{Entry}
 use Rattle.ts_model.specs.declared.plan.Kind.{Kind}
 use Rattle.ts_model.specs.declared.plan.Action.{Action}
 use Rattle.ts_model.specs.declared.plan.Plan.{Plan}
+use Rattle.ts_laws.proofs.Lists.{element_at}
 use Rattle.ts_check.specs.declared.census.Role.{Role}
 use Rattle.ts_check.specs.declared.census.Role.TheVariants.{Commits, Marks}
 use Rattle.ts_check.specs.Places.{IsIndex, IsUnmet, IsWanted, Wants, NotOneOf, kind_of, no_action}
@@ -36,12 +37,6 @@ got_beside (y ∷ ys) zero zero x differ = absurd (differ refl)
 got_beside (y ∷ ys) zero (suc j) x differ = refl
 got_beside (y ∷ ys) (suc k) zero x differ = refl
 got_beside (y ∷ ys) (suc k) (suc j) x differ = got_beside ys k j x (λ e. differ (ap suc e))
-
--- a place within a list holds something
-pub held_at : {A : Type 0} (xs : List A) (k : ℕ) → k < length xs → (x : A) × (slice_get xs k ≡ Some x)
-held_at [] k h = absurd (omega arith)
-held_at (x ∷ xs) zero h = (x, refl)
-held_at (x ∷ xs) (suc k) h = held_at xs k (omega arith)
 
 -- what a loop reads of a list that is another's items
 pub item_at : {A : Type 0} (xs ys : List A) (i : ℕ) (x : A) → xs ≡ ys → i < length xs → x ≡ get_or xs i x → slice_get ys i ≡ Some x
@@ -185,7 +180,7 @@ wrong_here plan role n e numbers action so_far is kind met = elim (decide_wants 
     taken : Wants plan role e → NotOneOf plan role n
     taken wants =
         let within = slice_get_within plan.entries e wants.0 wants.1 in
-        let at = held_at numbers e (omega (arith, so_far.index.size)) in
+        let at = element_at numbers e (omega (arith, so_far.index.size)) in
         elim (cases_eq at.0 no_action) [
           | inl none ↦ absurd (met (wants.0, wants.1, wants.2, at.1 ∙ ap Some none))
           | inr there ↦ (let h = so_far.index.found e at.0 at.1 there in inl (e, (action, is, kind), inr (at.0, kind_of role e, h.0, h.1, refl)))
@@ -213,7 +208,7 @@ right_after plan role place numbers index past (inr h) = (
   h.1,
   λ met.
       let within = slice_get_within plan.entries h.0 h.2.0 h.2.1 in
-      let at = held_at numbers h.0 (omega (arith, index.size)) in
+      let at = element_at numbers h.0 (omega (arith, index.size)) in
       elim (cases_eq at.0 no_action) [
         | inl none ↦ met (h.2.0, h.2.1, h.2.2, at.1 ∙ ap Some none)
         | inr there ↦ h.3 at.0 (index.found h.0 at.0 at.1 there).1

@@ -1,5 +1,5 @@
 -- Pieces by the rows of their source.
-use Rattle.std.proofs.Common.{◌≡◌, ◌≢◌, ◌⊎◌, ℕ, ◌+◌, ◌<◌, ◌≤◌, Some, slice_get, sym, refl, ap, ◌∙◌, subst}
+use Rattle.std.proofs.Common.{◌≡◌, ◌≢◌, ℕ, Some, slice_get, sym, refl, ap, ◌∙◌, subst}
 use Rattle.std.proofs.lemmas.Option.{same_Some}
 use Rattle.ts_name.specs.Paths.{Path, IsAbove}
 use Rattle.ts_model.specs.Trees.{Listing, IsListing, at}

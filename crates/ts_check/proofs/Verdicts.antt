@@ -1,8 +1,8 @@
 -- From rule to rule.
-use Rattle.std.proofs.Common.{◌≡◌, ◌≢◌, ◌⊎◌, ℕ, zero, suc, ◌+◌, ◌<◌, ◌≤◌, List, [], ◌∷◌, ◌++◌, length, Option, Some, None, sym, refl, ap, ◌∙◌, subst, inl, inr, arith}
+use Rattle.std.proofs.Common.{◌≡◌, ℕ, zero, suc, ◌+◌, ◌<◌, ◌≤◌, List, length, Option, Some, None, sym, refl, ap, ◌∙◌, subst, inl, inr, arith}
 use Rattle.std.proofs.lemmas.Bool.{cases_eq, cases_lt}
 use Rattle.ts_name.specs.Paths.{Path}
-use Rattle.ts_laws.proofs.Paths.{snoc_not_empty}
+use Rattle.ts_name.proofs.Prefixes.{snoc_not_empty}
 use Rattle.ts_model.specs.Sync.{Snapshot, listed_snapshot, replica}
 use Rattle.ts_model.specs.Trees.{Listing, at}
 use Rattle.ts_model.specs.Plans.{Wrong, Broken, Valid, WithinLimits, NotOneEach, IsCopied, IsPiece, rule_number}
@@ -119,6 +119,10 @@ one_from plan k (inr h) = inr (h.0, h.1, (h.2.0, h.2.2.0, (h.2.1, h.2.2.1)), h.3
 pub first_commit : (s : Snapshot) (plan : Plan) (o : Option ℕ) → IsFirst (NotOneOf plan Commits) o → IsFirst (Wrong s plan OneCommit) o
 first_commit s plan o = IsFirst-same (NotOneOf plan Commits) (Wrong s plan OneCommit) (one_to plan) (one_from plan) o
 
+pub hold_commits : (s : Snapshot) (plan : Plan) → HoldBelow s plan 5 → Never (Wrong s plan PredsAscend) → IsFirst (NotOneOf plan Commits) None → HoldBelow s plan 7
+hold_commits s plan before preds commits =
+    hold_more s plan 6 OneCommit refl (hold_more s plan 5 PredsAscend refl before preds) (first_commit s plan None commits)
+
 module _ (xs ys zs : Listing Stamp) (rules : List Rule) (plan : Plan) where
   at_side : (from : Side) (p : Path) → at (on_side ys zs from) p ≡ replica (listed_snapshot xs ys zs rules) from p
   at_side side.First p = refl
@@ -134,6 +138,9 @@ module _ (xs ys zs : Listing Stamp) (rules : List Rule) (plan : Plan) where
   first_lawful o = IsFirst-same (IsUnlawful ys zs plan) (Wrong (listed_snapshot xs ys zs rules) plan PiecesLawful)
       (λ k h. (h.0, h.1, h.2, h.3, h.4, λ piece. h.5 (piece_from h.0 h.1 h.2 h.3 piece))) (λ k h. (h.0, h.1, h.2, h.3, h.4, λ piece. h.5 (piece_to h.0 h.1 h.2 h.3 piece))) o
 
+  pub hold_lawful : HoldBelow (listed_snapshot xs ys zs rules) plan 7 → IsFirst (IsUnlawful ys zs plan) None → HoldBelow (listed_snapshot xs ys zs rules) plan 8
+  hold_lawful before lawful = hold_more (listed_snapshot xs ys zs rules) plan 7 PiecesLawful refl before (first_lawful None lawful)
+
   once_to : (k : ℕ) → NotEachOnce ys zs plan k → Wrong (listed_snapshot xs ys zs rules) plan PiecesComplete k
   once_to k (inl again) = inl again
   once_to k (inr h) = inr (h.0, h.2.0, h.2.1, h.2.2, h.1, piece_to h.0 h.2.0 h.2.1 h.2.2 h.2.3, h.2.4)
@@ -144,6 +151,9 @@ module _ (xs ys zs : Listing Stamp) (rules : List Rule) (plan : Plan) where
 
   pub first_once : (o : Option ℕ) → IsFirst (NotEachOnce ys zs plan) o → IsFirst (Wrong (listed_snapshot xs ys zs rules) plan PiecesComplete) o
   first_once o = IsFirst-same (NotEachOnce ys zs plan) (Wrong (listed_snapshot xs ys zs rules) plan PiecesComplete) once_to once_from o
+
+  pub hold_pieces : HoldBelow (listed_snapshot xs ys zs rules) plan 8 → IsFirst (NotEachOnce ys zs plan) None → HoldBelow (listed_snapshot xs ys zs rules) plan 9
+  hold_pieces before once = hold_more (listed_snapshot xs ys zs rules) plan 8 PiecesComplete refl before (first_once None once)
 
 -- what the two rules about reasons tell
 pub need_told : (s : Snapshot) (plan : Plan) (found : NeedBroken) → HoldBelow s plan 3 → IsNeedAnswer s plan.entries (Some found) → Broken s plan found.rule found.place

@@ -2,7 +2,7 @@
 --     HoldBelow s plan n      no rule before the n-th is broken anywhere
 --     IsTold s plan fault     a plan that is told to be broken is broken there first
 --     IsSafe s plan           what every run of the plan keeps, where it ends, and how it is resumed
-use Rattle.std.specs.Prelude.{◌≡◌, ℕ, ◌<◌}
+use Rattle.std.specs.Prelude.{ℕ, ◌<◌}
 use Rattle.ts_model.specs.Sync.{Snapshot}
 use Rattle.ts_model.specs.Headline.{OnePair, OriginalOrFinal, ArchiveAgrees, Completes, NotStuck}
 use Rattle.ts_model.specs.Resume.{CanResume, CutsAreLegal, ArchiveIsClosed}

@@ -93,7 +93,8 @@ true_from : (b : Bool) → b ≢ false → b ≡ true
 true_from true n = refl
 true_from false n = absurd (n refl)
 
-false_not_true : (b : Bool) → b ≡ false → b ≢ true
+-- a test that fails doesn't hold
+pub false_not_true : (b : Bool) → b ≡ false → b ≢ true
 false_not_true true e f = cc
 false_not_true false e f = cc
 

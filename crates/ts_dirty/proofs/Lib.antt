@@ -1,4 +1,5 @@
 pub mod Order
 pub mod Rows
 pub mod Dirt
+pub mod Walks
 pub mod Upto

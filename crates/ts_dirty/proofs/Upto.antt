@@ -8,7 +8,7 @@ use Rattle.ts_dirty.specs.Found.{AreAscending, AreTopmost, HasAbove, LastIsAbove
 use Rattle.std.specs.List.{AllByRecursion}
 use Rattle.std.specs.Prelude.{Any}
 use Rattle.ts_name.specs.Paths.{Name}
-use Rattle.ts_model.specs.Trees.{Listing, listed, at, IsListing}
+use Rattle.ts_model.specs.Trees.{Listing, at, IsListing}
 use Rattle.ts_model.specs.Holds.{Names, RuleNames}
 use Rattle.ts_model.specs.Texts.{IsRules, RuleFits}
 use Rattle.ts_model.specs.Sync.{Snapshot, listed_snapshot, IsHeldIn}
@@ -19,7 +19,7 @@ use Rattle.ts_model.specs.declared.row.Content.TheVariants.{Absent}
 use Rattle.ts_model.specs.declared.row.Stamp.{Stamp}
 use Rattle.ts_dirty.specs.Walks.{Left, IsWalkStep}
 use Rattle.ts_dirty.specs.Found.{IsFoundOf}
-use Rattle.ts_dirty.proofs.Rows.{IsRest, rest_all, rest_step, rest_between, rest_here, rest_forward}
+use Rattle.ts_dirty.proofs.Walks.{IsLeft, IsThere, nowhere_not_present, left_all, left_none, step_forward, step_left, step_there, step_between}
 use Rattle.ts_name.proofs.Order.{before_itself, before_trans, before_cases, decide_before, before_turned}
 use Rattle.ts_name.proofs.Prefixes.{above_itself}
 use Rattle.ts_dirty.proofs.Order.{upto_before, above_between}
@@ -81,19 +81,37 @@ stands b p q n = elim (decide_before b q) [
 abbrev pub NoneBetween : (Path → Type 0) → Path → Path → Type 0
 NoneBetween P b p = (q : Path) → IsBefore b q → IsBefore q p → ¬ P q
 
+-- what C says of the paths of P up to b, and of p, it says of those up to p
+pub upto_next : (P C : Path → Type 0) (b p : Path) → NoneBetween P b p → ((q : Path) → P q → ¬ IsBefore b q → C q) → (P p → C p) → (q : Path) → P q → ¬ IsBefore p q → C q
+upto_next P C b p none old here q is n = elim (stands b p q n) [
+  | upto m ↦ old q is m
+  | inside after before ↦ absurd (none q after before is)
+  | same e ↦ subst C (sym e) (here (subst P e is))
+]
+
+-- up to the root there is the root alone
+pub upto_root : (P : Path → Type 0) → ¬ P [] → (q : Path) → P q → ¬ IsBefore [] q → ⊥
+upto_root P n [] is m = n is
+upto_root P n (x ∷ q) is m = m refl
+
+-- what has paths up to b, with one more
+module _ {A : Type 0} (path : A → Path) (P : A → Type 0) (b : Path) (x : A) (xs : List A) (less : IsBefore b (path x)) (each : (y : A) → Contains xs y → P y × (¬ IsBefore b (path y))) where
+  pub ascending_more : ((i j : ℕ) (d : A) → i < j → j < length xs → IsBefore (path (get_or xs i d)) (path (get_or xs j d)))
+      → (i j : ℕ) (d : A) → i < j → j < length (xs ++ x ∷ []) → IsBefore (path (get_or (xs ++ x ∷ []) i d)) (path (get_or (xs ++ x ∷ []) j d))
+  ascending_more old = push_pairs (λ (y z : A). IsBefore (path y) (path z)) xs x old (λ i d l. upto_before (path (get_or xs i d)) b (path x) (each (get_or xs i d) (Contains-get_or xs i d l)).1 less)
+
+  pub each_more : P x → (y : A) → Contains (xs ++ x ∷ []) y → P y × (¬ IsBefore (path x) (path y))
+  each_more here y c = elim (Contains-push_cases xs x y c) [
+    | inl old ↦ ((each y old).0, upto_later b (path x) (path y) less (each y old).1)
+    | inr e ↦ subst (λ (z : A). P z × (¬ IsBefore (path x) (path z))) e (here, before_itself (path x))
+  ]
+
 -- one more
 upto_more : (P : Path → Type 0) (b p : Path) (ps : List Path) → IsUpto P b ps → IsBefore b p → NoneBetween P b p → P p → IsUpto P p (ps ++ p ∷ [])
 upto_more P b p ps h less none here = record {
-  ascending = push_pairs IsBefore ps p h.ascending (λ i d l. upto_before (get_or ps i d) b p ((h.each (get_or ps i d) (Contains-get_or ps i d l)).1) less);
-  each = λ q c. elim (Contains-push_cases ps p q c) [
-    | inl old ↦ ((h.each q old).0, upto_later b p q less (h.each q old).1)
-    | inr e ↦ (subst P e here, λ more. before_itself p (subst (λ (z : Path). IsBefore p z) (sym e) more))
-  ];
-  all = λ q is n. elim (stands b p q n) [
-    | upto m ↦ Contains-append_left ps (p ∷ []) q (h.all q is m)
-    | inside after before ↦ absurd (none q after before is)
-    | same e ↦ subst (λ (z : Path). Contains (ps ++ p ∷ []) z) (sym e) (Contains-push ps p)
-  ];
+  ascending = ascending_more (λ q. q) P b p ps less h.each h.ascending;
+  each = each_more (λ q. q) P b p ps less h.each here;
+  all = upto_next P (Contains (ps ++ p ∷ [])) b p none (λ q is m. Contains-append_left ps (p ∷ []) q (h.all q is m)) (λ _. Contains-push ps p);
 }
 
 -- none more
@@ -101,11 +119,7 @@ upto_same : (P : Path → Type 0) (b p : Path) (ps : List Path) → IsUpto P b p
 upto_same P b p ps h less none no_more = record {
   ascending = h.ascending;
   each = λ q c. ((h.each q c).0, upto_later b p q less (h.each q c).1);
-  all = λ q is n. elim (stands b p q n) [
-    | upto m ↦ h.all q is m
-    | inside after before ↦ absurd (none q after before is)
-    | same e ↦ absurd (no_more (subst P e is))
-  ];
+  all = upto_next P (Contains ps) b p none h.all (λ here. absurd (no_more here));
 }
 
 -- the path by a test
@@ -118,12 +132,8 @@ pub upto_none : (P : Path → Type 0) → ¬ P [] → IsUpto P [] []
 upto_none P n = record {
   ascending = λ i j d less l. absurd (omega arith);
   each = λ q c. absurd (omega (arith, c.1));
-  all = λ q is m. absurd (root q is m);
+  all = λ q is m. absurd (upto_root P n q is m);
 }
-  where
-    root : (q : Path) → P q → ¬ IsBefore [] q → ⊥
-    root [] is m = n is
-    root (x ∷ q) is m = m refl
 
 -- at the end all
 pub upto_end : (P : Path → Type 0) (b : Path) (ps : List Path) → IsUpto P b ps → ((q : Path) → IsBefore b q → ¬ P q) → (q : Path) → Contains ps q ↔ P q
@@ -153,21 +163,11 @@ last_above ps p ascending topmost before i d l above = elim (cases_lt i (length 
 -- one more, below none of them
 top_more : (P : Path → Type 0) (b p : Path) (ps : List Path) → IsTopUpto P b ps → IsBefore b p → NoneBetween P b p → P p → ¬ LastIsAbove ps p → IsTopUpto P p (ps ++ p ∷ [])
 top_more P b p ps h less none here alone = record {
-  ascending = push_pairs IsBefore ps p h.ascending (λ i d l. earlier (get_or ps i d) (Contains-get_or ps i d l));
-  topmost = push_pairs (λ x y. ¬ IsAbove x y) ps p h.topmost (λ i d l above. alone (last_above ps p h.ascending h.topmost earlier i d l above));
-  each = λ q c. elim (Contains-push_cases ps p q c) [
-    | inl old ↦ ((h.each q old).0, upto_later b p q less (h.each q old).1)
-    | inr e ↦ (subst P e here, λ more. before_itself p (subst (λ (z : Path). IsBefore p z) (sym e) more))
-  ];
-  all = λ q is n. elim (stands b p q n) [
-    | upto m ↦ let top = h.all q is m in (top.0, Contains-append_left ps (p ∷ []) top.0 top.1, top.2)
-    | inside after before ↦ absurd (none q after before is)
-    | same e ↦ (p, Contains-push ps p, subst (λ (z : Path). IsAbove p z) (sym e) (above_itself p))
-  ];
+  ascending = ascending_more (λ q. q) P b p ps less h.each h.ascending;
+  topmost = push_pairs (λ x y. ¬ IsAbove x y) ps p h.topmost (λ i d l above. alone (last_above ps p h.ascending h.topmost (λ q c. upto_before q b p (h.each q c).1 less) i d l above));
+  each = each_more (λ q. q) P b p ps less h.each here;
+  all = upto_next P (HasAbove (ps ++ p ∷ [])) b p none (λ q is m. let top = h.all q is m in (top.0, Contains-append_left ps (p ∷ []) top.0 top.1, top.2)) (λ _. (p, Contains-push ps p, above_itself p));
 }
-  where
-    earlier : (q : Path) → Contains ps q → IsBefore q p
-    earlier q c = upto_before q b p (h.each q c).1 less
 
 -- none more: it isn't one, or it is below the last
 top_same : (P : Path → Type 0) (b p : Path) (ps : List Path) → IsTopUpto P b ps → IsBefore b p → NoneBetween P b p → (P p → HasAbove ps p) → IsTopUpto P p ps
@@ -175,11 +175,7 @@ top_same P b p ps h less none covered = record {
   ascending = h.ascending;
   topmost = h.topmost;
   each = λ q c. ((h.each q c).0, upto_later b p q less (h.each q c).1);
-  all = λ q is n. elim (stands b p q n) [
-    | upto m ↦ h.all q is m
-    | inside after before ↦ absurd (none q after before is)
-    | same e ↦ subst (λ (z : Path). HasAbove ps z) (sym e) (covered (subst P e is))
-  ];
+  all = upto_next P (HasAbove ps) b p none h.all covered;
 }
 
 -- the path by tests
@@ -198,12 +194,8 @@ top_none P n = record {
   ascending = λ i j d less l. absurd (omega arith);
   topmost = λ i j d less l. absurd (omega arith);
   each = λ q c. absurd (omega (arith, c.1));
-  all = λ q is m. absurd (root q is m);
+  all = λ q is m. absurd (upto_root P n q is m);
 }
-  where
-    root : (q : Path) → P q → ¬ IsBefore [] q → ⊥
-    root [] is m = n is
-    root (x ∷ q) is m = m refl
 
 -- ---- a walk over an archive and two replicas
 
@@ -214,9 +206,7 @@ module _ (A F S : Listing Stamp) (rules : List Rule) where
   -- what was found up to the path b, with this left
   pub record IsWalked (left : Left) (first second apart held : List Path) : Type 0 where
     pub b : Path
-    pub archive_left : IsRest b A left.archive
-    pub first_left : IsRest b F left.first
-    pub second_left : IsRest b S left.second
+    pub is_left : IsLeft A F S b left
     pub in_first : IsUpto (λ q. at F q ≢ at A q) b first
     pub in_second : IsUpto (λ q. at S q ≢ at A q) b second
     pub in_apart : IsUpto (λ q. at F q ≢ at S q) b apart
@@ -234,54 +224,29 @@ module _ (A F S : Listing Stamp) (rules : List Rule) where
       → IsWalked new first' second' apart' held'
   walked_step old new p ca cf cs first second apart held first' second' apart' held' tf ts ta named under th w step is_f e_f is_s e_s is_a e_a is_n is_u t e_h = record {
     b = p;
-    archive_left = rest_step w.b p ca A old.archive new.archive w.archive_left step.in_archive less;
-    first_left = rest_step w.b p cf F old.first new.first w.first_left step.in_first less;
-    second_left = rest_step w.b p cs S old.second new.second w.second_left step.in_second less;
-    in_first = upto_step (λ q. at F q ≢ at A q) w.b p first first' tf w.in_first less (λ q after before n. n (absent_f q after before ∙ sym (absent_a q after before))) (differ_iff (at F p) (at A p) cf ca tf here_f here_a is_f) e_f;
-    in_second = upto_step (λ q. at S q ≢ at A q) w.b p second second' ts w.in_second less (λ q after before n. n (absent_s q after before ∙ sym (absent_a q after before))) (differ_iff (at S p) (at A p) cs ca ts here_s here_a is_s) e_s;
-    in_apart = upto_step (λ q. at F q ≢ at S q) w.b p apart apart' ta w.in_apart less (λ q after before n. n (absent_f q after before ∙ sym (absent_s q after before))) (differ_iff (at F p) (at S p) cf cs ta here_f here_s is_a) e_a;
-    in_held = top_step (IsHeldIn s) w.b p held held' named under th w.in_held less (λ q after before h. not_there q after before h.present)
+    is_left = step_left A F S w.b p ca cf cs old new w.is_left step;
+    in_first = upto_step (λ q. at F q ≢ at A q) w.b p first first' tf w.in_first less (λ q after before n. let none = nowhere q after before in n (none.first ∙ sym none.archive)) (differ_iff (at F p) (at A p) cf ca tf here.first here.archive is_f) e_f;
+    in_second = upto_step (λ q. at S q ≢ at A q) w.b p second second' ts w.in_second less (λ q after before n. let none = nowhere q after before in n (none.second ∙ sym none.archive)) (differ_iff (at S p) (at A p) cs ca ts here.second here.archive is_s) e_s;
+    in_apart = upto_step (λ q. at F q ≢ at S q) w.b p apart apart' ta w.in_apart less (λ q after before n. let none = nowhere q after before in n (none.first ∙ sym none.second)) (differ_iff (at F p) (at S p) cf cs ta here.first here.second is_a) e_a;
+    in_held = top_step (IsHeldIn s) w.b p held held' named under th w.in_held less (λ q after before h. nowhere_not_present A F S q (nowhere q after before) h.present)
         (λ yes. record { present = present; named = is_n.0 yes }, λ h. is_n.1 h.named) is_u t e_h;
   }
     where
       less : IsBefore w.b p
-      less = elim step.some [
-        | inl there ↦ rest_forward w.b p ca A old.archive new.archive w.archive_left step.in_archive there
-        | inr more ↦ elim more [
-          | inl there ↦ rest_forward w.b p cf F old.first new.first w.first_left step.in_first there
-          | inr there ↦ rest_forward w.b p cs S old.second new.second w.second_left step.in_second there
-        ]
-      ]
+      less = step_forward A F S w.b p ca cf cs old new w.is_left step
 
-      absent_a : (q : Path) → IsBefore w.b q → IsBefore q p → at A q ≡ Absent
-      absent_a q after before = rest_between w.b p q ca A old.archive new.archive w.archive_left step.in_archive after before
+      here : IsThere A F S p ca cf cs
+      here = step_there A F S w.b p ca cf cs old new w.is_left step
 
-      absent_f : (q : Path) → IsBefore w.b q → IsBefore q p → at F q ≡ Absent
-      absent_f q after before = rest_between w.b p q cf F old.first new.first w.first_left step.in_first after before
-
-      absent_s : (q : Path) → IsBefore w.b q → IsBefore q p → at S q ≡ Absent
-      absent_s q after before = rest_between w.b p q cs S old.second new.second w.second_left step.in_second after before
-
-      here_a : at A p ≡ ca
-      here_a = rest_here w.b p ca A old.archive new.archive w.archive_left step.in_archive less
-
-      here_f : at F p ≡ cf
-      here_f = rest_here w.b p cf F old.first new.first w.first_left step.in_first less
-
-      here_s : at S p ≡ cs
-      here_s = rest_here w.b p cs S old.second new.second w.second_left step.in_second less
-
-      not_there : (q : Path) → IsBefore w.b q → IsBefore q p → (at F q ≢ Absent) ⊎ ((at S q ≢ Absent) ⊎ (at A q ≢ Absent)) → ⊥
-      not_there q after before (inl n) = n (absent_f q after before)
-      not_there q after before (inr (inl n)) = n (absent_s q after before)
-      not_there q after before (inr (inr n)) = n (absent_a q after before)
+      nowhere : (q : Path) → IsBefore w.b q → IsBefore q p → IsThere A F S q Absent Absent Absent
+      nowhere = step_between A F S w.b p ca cf cs old new w.is_left step
 
       present : (at F p ≢ Absent) ⊎ ((at S p ≢ Absent) ⊎ (at A p ≢ Absent))
       present = elim step.some [
-        | inl there ↦ inr (inr (λ e. there (sym here_a ∙ e)))
+        | inl there ↦ inr (inr (λ e. there (sym here.archive ∙ e)))
         | inr more ↦ elim more [
-          | inl there ↦ inl (λ e. there (sym here_f ∙ e))
-          | inr there ↦ inr (inl (λ e. there (sym here_s ∙ e)))
+          | inl there ↦ inl (λ e. there (sym here.first ∙ e))
+          | inr there ↦ inr (inl (λ e. there (sym here.second ∙ e)))
         ]
       ]
 
@@ -301,9 +266,7 @@ module _ (A F S : Listing Stamp) (rules : List Rule) where
   pub walked_none : IsListing A → IsListing F → IsListing S → IsRules rules → IsWalked (record { archive = A; first = F; second = S }) [] [] [] []
   walked_none lists_a lists_f lists_s fit = record {
     b = [];
-    archive_left = rest_all A lists_a;
-    first_left = rest_all F lists_f;
-    second_left = rest_all S lists_s;
+    is_left = left_all A F S lists_a lists_f lists_s;
     in_first = upto_none (λ q. at F q ≢ at A q) (λ n. n refl);
     in_second = upto_none (λ q. at S q ≢ at A q) (λ n. n refl);
     in_apart = upto_none (λ q. at F q ≢ at S q) (λ n. n refl);
@@ -314,26 +277,15 @@ module _ (A F S : Listing Stamp) (rules : List Rule) where
   pub walked_end : (left : Left) (first second apart held : List Path) → IsWalked left first second apart held → (left.archive ≡ []) × (left.first ≡ []) × (left.second ≡ [])
       → IsFoundOf s (record { first = first; second = second; apart = apart; held = held })
   walked_end left first second apart held w ended = record {
-    first = upto_end (λ q. at F q ≢ at A q) w.b first w.in_first (λ q later n. n (none_f q later ∙ sym (none_a q later)));
-    second = upto_end (λ q. at S q ≢ at A q) w.b second w.in_second (λ q later n. n (none_s q later ∙ sym (none_a q later)));
-    apart = upto_end (λ q. at F q ≢ at S q) w.b apart w.in_apart (λ q later n. n (none_f q later ∙ sym (none_s q later)));
+    first = upto_end (λ q. at F q ≢ at A q) w.b first w.in_first (λ q later n. let none = nowhere q later in n (none.first ∙ sym none.archive));
+    second = upto_end (λ q. at S q ≢ at A q) w.b second w.in_second (λ q later n. let none = nowhere q later in n (none.second ∙ sym none.archive));
+    apart = upto_end (λ q. at F q ≢ at S q) w.b apart w.in_apart (λ q later n. let none = nowhere q later in n (none.first ∙ sym none.second));
     held = λ q c. (w.in_held.each q c).0;
-    covered = λ q h. elim (decide_before w.b q) [ yes later ↦ absurd (not_there q later h.present) | no n ↦ w.in_held.all q h n ];
+    covered = λ q h. elim (decide_before w.b q) [ yes later ↦ absurd (nowhere_not_present A F S q (nowhere q later) h.present) | no n ↦ w.in_held.all q h n ];
   }
     where
-      none_a : (q : Path) → IsBefore w.b q → at A q ≡ Absent
-      none_a q later = sym (w.archive_left.later q later) ∙ ap (λ (rows : Listing Stamp). listed rows q) ended.0
-
-      none_f : (q : Path) → IsBefore w.b q → at F q ≡ Absent
-      none_f q later = sym (w.first_left.later q later) ∙ ap (λ (rows : Listing Stamp). listed rows q) ended.1
-
-      none_s : (q : Path) → IsBefore w.b q → at S q ≡ Absent
-      none_s q later = sym (w.second_left.later q later) ∙ ap (λ (rows : Listing Stamp). listed rows q) ended.2
-
-      not_there : (q : Path) → IsBefore w.b q → (at F q ≢ Absent) ⊎ ((at S q ≢ Absent) ⊎ (at A q ≢ Absent)) → ⊥
-      not_there q later (inl n) = n (none_f q later)
-      not_there q later (inr (inl n)) = n (none_s q later)
-      not_there q later (inr (inr n)) = n (none_a q later)
+      nowhere : (q : Path) → IsBefore w.b q → IsThere A F S q Absent Absent Absent
+      nowhere = left_none A F S w.b left w.is_left ended
 
   -- the beginning, as code has it
   pub walked_start : (archive first second : Listing Stamp) (walk : Left) (x y z w : List Path) → archive ≡ A → first ≡ F → second ≡ S → IsListing A → IsListing F → IsListing S → IsRules rules

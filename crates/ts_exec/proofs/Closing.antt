@@ -1,5 +1,5 @@
 -- What the words, the faults and the sites of a closed board say.
-use Rattle.std.proofs.Common.{◌≡◌, ◌≢◌, ◌⊎◌, ℕ, suc, ◌+◌, ◌*◌, ◌^◌, ◌<◌, ◌≤◌, ◌/◌, ◌%◌, bit_and, get_or, zero-mul, true, false, List, [], ◌∷◌, length, Some, None, sym, refl, ap, ◌∙◌, subst, inl, inr, ⊎_elim, arith}
+use Rattle.std.proofs.Common.{◌≡◌, ◌≢◌, ◌⊎◌, ℕ, suc, ◌*◌, ◌^◌, ◌<◌, bit_and, get_or, zero-mul, true, false, List, [], ◌∷◌, length, Some, None, sym, refl, ap, ◌∙◌, subst, inl, inr, ⊎_elim, arith}
 use Rattle.std.specs.Prelude.{slice_index, Contains}
 use Rattle.std.specs.List.{list_any}
 use Rattle.std.specs.Int.{bit_at}
@@ -15,7 +15,7 @@ use Rattle.ts_model.specs.declared.plan.Plan.{Plan}
 use Rattle.ts_laws.proofs.Lists.{Among, Among-from_Contains, Contains-from_Among, element_at}
 use Rattle.ts_laws.proofs.Runs.{same_action}
 use Rattle.ts_board.specs.Runs.{StartsWith}
-use Rattle.ts_board.proofs.Words.{done_word, failed_word, weight_else, weight_one}
+use Rattle.ts_board.proofs.Words.{done_word, failed_word, false_from_bit, true_from_bit}
 use Rattle.ts_exec.specs.Tidy.{IsTidy, WasTried}
 use Rattle.ts_exec.proofs.Steps.{has_left, not_some, none_or_some}
 use Rattle.ts_exec.proofs.Runs.{free_word, legal_front}
@@ -70,7 +70,7 @@ bit_none w k none e =
 
 module _ (plan : Plan) (r : Run) (words : List ℕ) (i : ℕ) (is : slice_index words i ≡ word_after plan r i) (small : open_count plan r i < 4294967296) where
   pub done_from_bit : bit_at (slice_index words i) 33 ≡ 1 → Has r (finishes i)
-  done_from_bit h = weight_one (list_any (finishes i) r) (sym (ap (λ (z : ℕ). bit_at z 33) is ∙ done_word plan r i small) ∙ h)
+  done_from_bit h = true_from_bit (list_any (finishes i) r) (sym (ap (λ (z : ℕ). bit_at z 33) is ∙ done_word plan r i small) ∙ h)
 
   pub bit_from_some : (w : ℕ) → w ≡ slice_index words i → bit_and w 8589934592 ≢ 0 → bit_at (slice_index words i) 33 ≡ 1
   bit_from_some w e some = ap (λ (z : ℕ). bit_at z 33) (sym e) ∙ bit_some w 33 some
@@ -79,13 +79,13 @@ module _ (plan : Plan) (r : Run) (words : List ℕ) (i : ℕ) (is : slice_index 
   done_is w e some = done_from_bit (bit_from_some w e some)
 
   pub not_done_is : (w : ℕ) → w ≡ slice_index words i → bit_and w 8589934592 ≡ 0 → HasNot r (finishes i)
-  not_done_is w e none = weight_else (list_any (finishes i) r) (λ one. bit_none w 33 none (ap (λ (z : ℕ). bit_at z 33) (e ∙ is) ∙ done_word plan r i small ∙ one))
+  not_done_is w e none = false_from_bit (list_any (finishes i) r) (λ one. bit_none w 33 none (ap (λ (z : ℕ). bit_at z 33) (e ∙ is) ∙ done_word plan r i small ∙ one))
 
   pub failed_is : (w : ℕ) → w ≡ slice_index words i → bit_and w 17179869184 ≢ 0 → Has r (fails i)
-  failed_is w e some = weight_one (list_any (fails i) r) (sym (ap (λ (z : ℕ). bit_at z 34) (e ∙ is) ∙ failed_word plan r i small) ∙ bit_some w 34 some)
+  failed_is w e some = true_from_bit (list_any (fails i) r) (sym (ap (λ (z : ℕ). bit_at z 34) (e ∙ is) ∙ failed_word plan r i small) ∙ bit_some w 34 some)
 
   pub not_failed_is : (w : ℕ) → w ≡ slice_index words i → bit_and w 17179869184 ≡ 0 → HasNot r (fails i)
-  not_failed_is w e none = weight_else (list_any (fails i) r) (λ one. bit_none w 34 none (ap (λ (z : ℕ). bit_at z 34) (e ∙ is) ∙ failed_word plan r i small ∙ one))
+  not_failed_is w e none = false_from_bit (list_any (fails i) r) (λ one. bit_none w 34 none (ap (λ (z : ℕ). bit_at z 34) (e ∙ is) ∙ failed_word plan r i small ∙ one))
 
 pub seen_some : (w k : ℕ) → bit_and w (2 ^ k) ≢ 0 → bit_at w k ≡ 1
 seen_some w k some = bit_some w k some

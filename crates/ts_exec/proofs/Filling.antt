@@ -16,7 +16,7 @@ use Rattle.ts_model.specs.declared.plan.Plan.{Plan}
 use Rattle.ts_model.specs.declared.row.Content.{Content}
 use Rattle.ts_model.specs.declared.row.Content.TheVariants.{Absent, Dir, File}
 use Rattle.ts_model.specs.declared.row.Stamp.{Stamp}
-use Rattle.ts_laws.proofs.Lists.{Among}
+use Rattle.ts_laws.proofs.Lists.{Among, Among-left, Among-last, Among-push_cases}
 use Rattle.ts_laws.proofs.Steps.{same_kind}
 use Rattle.ts_print.specs.Assemblies.{begun, begun_rows, more, with_more}
 use Rattle.ts_print.specs.Prints.{stamped_rows}
@@ -118,21 +118,6 @@ whole_rows had rows tree stand print same = one_listed (stamped_rows (filled_row
     (λ p. listed-stamped (filled_rows had rows) p ∙ ap stamped (listed-filled had rows p) ∙ ap (λ z. stamped (filled (had p) z)) (print p) ∙ filled_stamp (had p) (tree p) (same p) ∙ sym (print p))
 
 -- ---- members of a list that grows
-
-among_left : (k : ℕ) (xs ys : List ℕ) → Among k xs → Among k (xs ++ ys)
-among_left k [] ys h = absurd h
-among_left k (x ∷ xs) ys (inl e) = inl e
-among_left k (x ∷ xs) ys (inr h) = inr (among_left k xs ys h)
-
-among_last : (k : ℕ) (xs : List ℕ) → Among k (xs ++ k ∷ [])
-among_last k [] = inl refl
-among_last k (x ∷ xs) = inr (among_last k xs)
-
-among_cases : (k l : ℕ) (xs : List ℕ) → Among k (xs ++ l ∷ []) → Among k xs ⊎ (l ≡ k)
-among_cases k l [] (inl e) = inr e
-among_cases k l [] (inr h) = absurd h
-among_cases k l (x ∷ xs) (inl e) = inl (inl e)
-among_cases k l (x ∷ xs) (inr h) = ⊎_elim (λ (a : Among k xs). inl (inr a)) (λ (e : l ≡ k). inr e) (among_cases k l xs h)
 
 among_front : (n i k : ℕ) (xs : List ℕ) → i < n → i < length xs → slice_index_or xs i k ≡ k → Among k (take n xs)
 among_front zero i k xs l h e = absurd (omega arith)
@@ -246,8 +231,8 @@ module _ (s : Snapshot) (plan : Plan) (valid : Valid s plan) (e : ℕ) (entry : 
         (λ (same : k ≡ l).
         let kinds : ◌≡◌ {A = Kind} (Piece e o z path) (Piece e offset size path) = same_kind plan k (Piece e o z path) (Piece e offset size path) (subst (λ (m : ℕ). KindIs plan m (Piece e o z path)) (sym same) other) kind in
         let a : o ≡ offset = ap offset_in kinds in let b : z ≡ size = ap size_in kinds in let full : length (had ++ bytes) ≡ offset + size = reach in omega arith)
-        (among_cases l k ks h);
-    ends = inr (k, offset, size, among_last k ks, kind, reach);
+        (Among-push_cases l ks k h);
+    ends = inr (k, offset, size, Among-last k ks, kind, reach);
   }
     where
       whole : had ++ bytes ≡ take (offset + size) file
@@ -267,6 +252,6 @@ module _ (s : Snapshot) (plan : Plan) (valid : Valid s plan) (e : ℕ) (entry : 
     reaches = λ l o z h other. ⊎_elim
         (λ (a : Among l ks). put.reaches l o z a other)
         (λ (same : k ≡ l). absurd (differ (ap path_in (same_kind plan k (Piece e o z p) (Piece e offset size path) (subst (λ (m : ℕ). KindIs plan m (Piece e o z p)) (sym same) other) kind))))
-        (among_cases l k ks h);
-    ends = ⊎_elim (λ (z : length had ≡ 0). inl z) (λ (h : (l o z : ℕ) × Among l ks × KindIs plan l (Piece e o z p) × (length had ≡ o + z)). inr (h.0, h.1, h.2, among_left h.0 ks (k ∷ []) h.3, h.4, h.5)) put.ends;
+        (Among-push_cases l ks k h);
+    ends = ⊎_elim (λ (z : length had ≡ 0). inl z) (λ (h : (l o z : ℕ) × Among l ks × KindIs plan l (Piece e o z p) × (length had ≡ o + z)). inr (h.0, h.1, h.2, Among-left h.0 ks (k ∷ []) h.3, h.4, h.5)) put.ends;
   }

@@ -1,16 +1,13 @@
 -- Over folders that tell trees of the checked prints nothing misfits, and where nothing else is wrong actions fail for want of memory alone.
-use Rattle.std.proofs.Common.{◌≡◌, ℕ, ◌+◌, ◌<◌, List, length, Option, Some, None, IfSome, slice_get, refl, ap, ◌∙◌, subst, arith}
+use Rattle.std.proofs.Common.{◌≡◌, ℕ, ◌+◌, ◌<◌, List, length, Option, IfSome, refl, ap, ◌∙◌, subst, arith}
 use Rattle.ts_model.specs.Trees.{Listing, at}
-use Rattle.ts_model.specs.Plans.{EntryIs, KindIs, Valid}
-use Rattle.ts_model.specs.Runs.{Run, entry_of}
-use Rattle.ts_model.specs.declared.plan.Entry.{Entry}
+use Rattle.ts_model.specs.Plans.{KindIs, Valid}
+use Rattle.ts_model.specs.Runs.{Run}
 use Rattle.ts_model.specs.declared.plan.Kind.{Kind}
 use Rattle.ts_model.specs.declared.plan.Kind.TheVariants.{Piece, Commit, Mark}
-use Rattle.ts_model.specs.declared.plan.Plan.{Plan}
 use Rattle.ts_model.specs.declared.plan.Side.{Side}
 use Rattle.ts_model.specs.declared.row.Content.TheVariants.{File}
-use Rattle.ts_name.specs.Paths.{Path}
-use Rattle.ts_laws.proofs.Steps.{entry_of_commit}
+use Rattle.ts_laws.proofs.Steps.{entry_of_kind}
 use Rattle.ts_board.specs.declared.law.Slot.{Slot}
 use Rattle.ts_board.specs.declared.law.Terms.{Terms}
 use Rattle.ts_check.specs.Checkup.{snapshot_of}
@@ -24,29 +21,11 @@ use Rattle.ts_exec.specs.declared.outcome.ActionResult.{ActionResult}
 use Rattle.ts_exec.specs.declared.outcome.ActionResult.TheVariants.{Failed}
 use Rattle.ts_exec.proofs.Ranges.{lawful, range_within, same_bytes}
 
--- a piece's entry
-entry_of_piece : (plan : Plan) (i e offset size : ℕ) (p : Path) (entry : Entry) → KindIs plan i (Piece e offset size p) → EntryIs plan e entry → entry_of plan i ≡ Some entry
-entry_of_piece plan i e offset size p entry kind is =
-    ap (λ o. elim o [
-      | None ↦ None
-      | Some action ↦ elim action.kind [
-        | Piece e offset size p ↦ slice_get plan.entries e
-        | Commit e ↦ slice_get plan.entries e
-        | Mark e ↦ slice_get plan.entries e
-      ]
-    ]) kind.1
-    ∙ ap (λ k. elim k [
-      | Piece e offset size p ↦ slice_get plan.entries e
-      | Commit e ↦ slice_get plan.entries e
-      | Mark e ↦ slice_get plan.entries e
-    ]) kind.2
-    ∙ is
-
 module _ (x : Setting) (valid : Valid (snapshot_of x.checkup) x.checkup.plan) (r : Run) (read : AreRead x r) where
   untold : (i : ℕ) (kind : Kind) → KindIs x.checkup.plan i kind → KindFails x r i kind Misfit → (from : Side) × IsCopiedFrom x.checkup.plan i from × (¬ TellsTree x from)
   untold i (Piece e offset size p) is h = (
     h.1,
-    (h.0, entry_of_piece x.checkup.plan i e offset size p h.0 is h.2.0, h.2.1),
+    (h.0, entry_of_kind x.checkup.plan i (Piece e offset size p) is ∙ h.2.0, h.2.1),
     λ (told : TellsTree x h.1).
         let short : (bytes : List ℕ) × (at told.0 p ≡ File bytes) × (length bytes < offset + size) =
         subst (λ (o : Option (Listing (List ℕ))). IfSome o (λ rows. (bytes : List ℕ) × (at rows p ≡ File bytes) × (length bytes < offset + size))) told.1 h.3 in
@@ -55,7 +34,7 @@ module _ (x : Setting) (valid : Valid (snapshot_of x.checkup) x.checkup.plan) (r
         let same = ap length (same_bytes (at told.0 p) c.0 short.0 c.1 short.1) in
         let less = short.2 in omega arith,
   )
-  untold i (Commit e) is h = (h.2.from, (h.2.entry, entry_of_commit x.checkup.plan i h.2.of_commit.0 h.2.entry h.2.of_commit.1 h.2.of_commit.2.0, h.2.of_commit.2.1), λ told. h.5 told read)
+  untold i (Commit e) is h = (h.2.from, (h.2.entry, entry_of_kind x.checkup.plan i (Commit h.2.of_commit.0) h.2.of_commit.1 ∙ h.2.of_commit.2.0, h.2.of_commit.2.1), λ told. h.5 told read)
   untold i (Mark e) is h = absurd h
 
   -- why an action may fail where all is steady

@@ -15,7 +15,7 @@ use Rattle.ts_exec.specs.Failures.{Setting, AreTold, IsToldStep, MayFail}
 use Rattle.ts_exec.specs.Tidy.{HasFault, IsListed, IsTidy, IsTry, Listed, MayBe, Noted, Swept, WasTried}
 use Rattle.ts_exec.specs.declared.crew.Failure.{Failure}
 use Rattle.ts_exec.specs.declared.fault.ActFault.{ActFault}
-use Rattle.ts_laws.proofs.Words.{all_append}
+use Rattle.ts_name.proofs.Utf8.{all_append}
 use Rattle.ts_exec.proofs.Reading.{may_later, told_later}
 use Rattle.ts_exec.proofs.Steps.{has_cases, has_left}
 

@@ -15,8 +15,10 @@ use Rattle.ts_model.specs.declared.plan.PlanRule.TheVariants.{PiecesLawful, Piec
 use Rattle.ts_model.specs.declared.row.Content.{Content}
 use Rattle.ts_model.specs.declared.row.Content.TheVariants.{Absent, Dir, File}
 use Rattle.ts_model.specs.declared.row.Stamp.{Stamp}
-use Rattle.ts_laws.proofs.Basics.{at_each, stable, same_number, Dec-both}
-use Rattle.ts_laws.proofs.Paths.{decide_above, before_itself}
+use Rattle.ts_laws.proofs.Basics.{stable, same_number, Dec-both}
+use Rattle.ts_name.proofs.Prefixes.{decide_above}
+use Rattle.ts_name.proofs.Order.{before_itself}
+use Rattle.ts_name.proofs.Basics.{at_each}
 use Rattle.ts_laws.proofs.Search.{decide_less}
 use Rattle.ts_laws.proofs.Steps.{same_kind, same_entry}
 use Rattle.ts_check.specs.Pieces.{IsEarlierPiece}

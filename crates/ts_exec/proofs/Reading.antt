@@ -9,9 +9,9 @@ use Rattle.ts_model.specs.declared.plan.Plan.{Plan}
 use Rattle.ts_model.specs.declared.step.Step.{Step}
 use Rattle.ts_model.specs.declared.step.Step.TheVariants.{Claim, Take, Act, Done, Fail, Release}
 use Rattle.ts_model.specs.declared.step.Work.{Work}
-use Rattle.ts_laws.proofs.Listings.{weaker}
+use Rattle.ts_name.proofs.Utf8.{all_append, all_parts}
+use Rattle.ts_name.proofs.Basics.{weaker}
 use Rattle.ts_laws.proofs.Lists.{all_among, Among-from_Contains}
-use Rattle.ts_laws.proofs.Words.{all_append, all_parts}
 use Rattle.ts_board.specs.Kept.{IsMerged}
 use Rattle.ts_board.specs.Runs.{StartsWith}
 use Rattle.ts_exec.specs.Failures.{Setting, AreRead, AreTold, HasTold, IsRead, IsReadStep, IsTold, IsToldStep, KindFails, MayFail}

@@ -13,7 +13,7 @@ use Rattle.ts_model.specs.declared.plan.Plan.{Plan}
 use Rattle.ts_model.specs.declared.step.Step.{Step}
 use Rattle.ts_model.specs.declared.step.Step.TheVariants.{Take, Release}
 use Rattle.ts_laws.proofs.Lists.{Among, Among-from_Contains}
-use Rattle.ts_laws.proofs.Paths.{before_itself}
+use Rattle.ts_name.proofs.Order.{before_itself}
 use Rattle.ts_laws.proofs.Steps.{same_kind}
 use Rattle.ts_check.specs.Pieces.{IsEarlierPiece}
 use Rattle.ts_exec.specs.Tidy.{AreTakes, AreReleases}

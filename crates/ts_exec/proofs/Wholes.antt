@@ -16,9 +16,9 @@ use Rattle.ts_model.specs.declared.plan.Plan.{Plan}
 use Rattle.ts_model.specs.declared.row.Content.TheVariants.{File}
 use Rattle.ts_model.specs.declared.step.Step.TheVariants.{Act}
 use Rattle.ts_model.specs.declared.step.Work.TheVariants.{Staged, Put}
-use Rattle.ts_laws.proofs.Basics.{at_each, by_each}
+use Rattle.ts_name.specs.Laws.{same_path_equal, same_path_itself}
+use Rattle.ts_name.proofs.Basics.{at_each, by_each}
 use Rattle.ts_laws.proofs.Lists.{Among-from_Contains, all_among}
-use Rattle.ts_laws.proofs.Paths.{same_path_equal, same_path_itself}
 use Rattle.ts_laws.proofs.Steps.{same_entry, same_kind}
 use Rattle.ts_check.specs.Checkup.{IsSourcePart, snapshot_of}
 use Rattle.ts_check.specs.Pieces.{IsEarlierPiece}

@@ -1,5 +1,5 @@
 -- The children of a directory among the rows of a tree.
-use Rattle.std.proofs.Common.{◌≡◌, ◌≢◌, ◌⊎◌, ◌↔◌, ℕ, zero, suc, ◌+◌, ◌-◌, ◌<◌, ◌≤◌, Bool, true, false, cond, List, [], ◌∷◌, ◌++◌, length, take, get_or, Option, Some, None, Ordering, Less, Equal, Greater, refl, sym, ap, ◌∙◌, subst, inl, inr, arith, append-nil, Contains}
+use Rattle.std.proofs.Common.{◌≡◌, ◌≢◌, ◌⊎◌, ℕ, zero, suc, ◌+◌, ◌-◌, ◌<◌, ◌≤◌, Bool, true, false, cond, List, [], ◌∷◌, ◌++◌, length, take, get_or, Option, Some, None, Ordering, Less, Equal, Greater, refl, sym, ap, ◌∙◌, subst, inl, inr, arith, append-nil, Contains}
 use Rattle.std.proofs.lemmas.Bool.{cond-true, cond-false}
 use Rattle.std.proofs.lemmas.List.{take_more}
 use Rattle.std.proofs.lemmas.List.Elements.{filter_map-append}
@@ -14,8 +14,10 @@ use Rattle.ts_model.specs.declared.row.Content.{Content}
 use Rattle.ts_model.specs.declared.row.Content.TheVariants.{Absent, Dir, File}
 use Rattle.ts_model.specs.declared.row.Row.{Row}
 use Rattle.ts_table.specs.Tables.{is_above, rows_below}
-use Rattle.ts_table.proofs.Paths.{same_path_equal, same_path_differ}
-use Rattle.ts_table.proofs.Rows.{weaker, ascend_rest, ascend_first, listed_none, listed_here, all_right}
+use Rattle.ts_name.specs.Laws.{same_path_equal, same_path_differ}
+use Rattle.ts_name.proofs.Utf8.{all_parts}
+use Rattle.ts_name.proofs.Basics.{weaker}
+use Rattle.ts_table.proofs.Rows.{ascend_rest, ascend_first, listed_none, listed_here}
 use Rattle.ts_table.proofs.Listings.{not_above_gives}
 use Rattle.ts_folder.specs.Children.{children, child_of, kind_of, named}
 use Rattle.ts_folder.specs.Folders.{AreChildren, HasKind, InOrder}
@@ -50,7 +52,7 @@ child_cases p row = go (below p row.path) refl
 
 -- the last name of a lawful path is lawful
 pub last_lawful : (parent : Path) (name : Name) (q : Path) → IsPath q → q ≡ parent ++ name ∷ [] → IsName name
-last_lawful parent name q lawful e = (all_right IsName parent (name ∷ []) (subst (λ z. AllByRecursion IsName z) e lawful.names)).0
+last_lawful parent name q lawful e = (all_parts IsName parent (name ∷ []) (subst (λ z. AllByRecursion IsName z) e lawful.names)).1.0
 
 -- a loop's step
 pub children_more : (p : Path) (rows : Listing (List ℕ)) (i : ℕ) (d : Row (List ℕ)) → i < length rows → children p (take (i + 1) rows) ≡ children p (take i rows) ++ children p (get_or rows i d ∷ [])

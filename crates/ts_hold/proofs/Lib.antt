@@ -1,5 +1,5 @@
 pub mod Fitting
 pub mod Naming
 pub mod RuleLines
-pub mod Spelling
+pub mod Patterns
 pub mod Writing

@@ -18,8 +18,11 @@ use Rattle.ts_model.specs.declared.plan.Plan.{Plan}
 use Rattle.ts_laws.specs.Laws.{Finishes}
 use Rattle.ts_laws.specs.Carried.{same_reason, is_skipped, copied, marked_all, IsCarriedOut, LeavesCarried}
 use Rattle.ts_laws.proofs.Settings.{Setting, Begun, Ran, begun_at, ran_at, ran_from}
-use Rattle.ts_laws.proofs.Basics.{Dec-both, Dec-either, Dec-not, IsTree-from_print, Start-from, by_each, at_each, stable, same_names}
-use Rattle.ts_laws.proofs.Paths.{before_below, before_itself, before_trans, decide_above, graft_at, graft_off}
+use Rattle.ts_laws.proofs.Basics.{Dec-both, Dec-either, Dec-not, IsTree-from_print, Start-from, stable, same_names}
+use Rattle.ts_name.proofs.Prefixes.{decide_above}
+use Rattle.ts_name.proofs.Order.{before_below, before_itself, before_trans}
+use Rattle.ts_name.proofs.Basics.{by_each, at_each}
+use Rattle.ts_laws.proofs.Grafts.{graft_at, graft_off}
 use Rattle.ts_laws.proofs.Lists.{find_index}
 use Rattle.ts_laws.proofs.Reasons.{other, IsCopy, decide_reason, decide_skipped}
 use Rattle.ts_laws.proofs.Steps.{tree_on, same_entry, mark_is_marked}

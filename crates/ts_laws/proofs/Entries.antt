@@ -1,9 +1,8 @@
 -- The entries of a plan: exactly the paths with a reason, and the nearest new directory above one is at its parent.
-use Rattle.std.proofs.Common.{◌≡◌, ◌≢◌, ◌⊎◌, ℕ, [], ◌∷◌, ◌++◌, sym, ap, ◌∙◌, subst, inl, inr, append_assoc, append-nil}
+use Rattle.std.proofs.Common.{◌≡◌, ◌≢◌, ℕ, [], ◌∷◌, ◌++◌, sym, ap, ◌∙◌, subst, append_assoc, append-nil}
 use Rattle.ts_name.specs.Paths.{Name, Path, IsAbove}
-use Rattle.ts_model.specs.Sync.{Snapshot, IsSnapshot, AreBothDirs, IsBelowDirs, HasReason}
+use Rattle.ts_model.specs.Sync.{Snapshot, IsSnapshot, IsBelowDirs, HasReason}
 use Rattle.ts_model.specs.Plans.{EntryIs, NearestDir, Wrong, Valid}
-use Rattle.ts_model.specs.declared.row.Content.TheVariants.{Dir}
 use Rattle.ts_model.specs.declared.plan.PlanRule.TheVariants.{ReasonsHold, EntriesComplete}
 use Rattle.ts_model.specs.declared.plan.Reason.{Reason}
 use Rattle.ts_model.specs.declared.plan.Reason.TheVariants as reason
@@ -11,10 +10,10 @@ use Rattle.ts_model.specs.declared.plan.Entry.{Entry}
 use Rattle.ts_model.specs.declared.plan.Plan.{Plan}
 use Rattle.ts_laws.specs.Laws.{IsEntryOf, EntriesAreReasons}
 use Rattle.ts_laws.proofs.Basics.{stable}
-use Rattle.ts_laws.proofs.Paths.{last_name, above_parent, not_below_itself, root_not_below}
-use Rattle.ts_laws.proofs.Reasons.{IsWhole-from_snapshot, dirs_above, one_reason, Below-from, Dir-nothing_below}
+use Rattle.ts_name.proofs.Prefixes.{above_parent, not_below_itself}
+use Rattle.ts_laws.proofs.Reasons.{IsWhole-from_snapshot, one_reason, Below-from, Dir-nothing_below, new_dir_reason}
 use Rattle.ts_laws.proofs.Steps.{reason_holds}
-use Rattle.ts_laws.proofs.Plans.{entry_exists, entry_from_complete, one_place}
+use Rattle.ts_laws.proofs.Plans.{entry_from_complete, one_place}
 use Rattle.ts_laws.proofs.Deciding.{decide_has_reason}
 
 -- an entry's path has its reason
@@ -24,18 +23,22 @@ entry_has_reason s plan lawful valid p r is =
     let has = stable (decide_has_reason s lawful entry.path entry.reason) (reason_holds s plan valid is.0 entry is.2) in
     subst (λ z. HasReason s z r) is.3 (subst (λ z. HasReason s entry.path z) is.4 has)
 
--- a path with a reason has an entry with that reason
-pub reason_has_entry : (s : Snapshot) (plan : Plan) → Valid s plan → (p : Path) (r : Reason) → HasReason s p r → IsEntryOf plan p r
-reason_has_entry s plan valid p r has =
-    let found = entry_exists s plan valid p r has in (
+-- a path with a reason has an entry with that reason, where reasons hold and entries are complete
+reason_entry : (s : Snapshot) (plan : Plan) → ((place : ℕ) → ¬ Wrong s plan ReasonsHold place) → ((place : ℕ) → ¬ Wrong s plan EntriesComplete place) → (p : Path) (r : Reason) → HasReason s p r → IsEntryOf plan p r
+reason_entry s plan reasons complete p r has =
+    let found = entry_from_complete s plan complete p r has in (
       found.0,
       found.1,
       found.2,
       found.3,
       one_reason s p found.1.reason r
-          (λ n. reason_holds s plan valid found.0 found.1 found.2 (λ here. n (subst (λ z. HasReason s z found.1.reason) found.3 here)))
+          (λ n. reasons found.0 (found.1, found.2, λ here. n (subst (λ z. HasReason s z found.1.reason) found.3 here)))
           (λ n. n has),
     )
+
+-- so it is in a valid plan
+pub reason_has_entry : (s : Snapshot) (plan : Plan) → Valid s plan → (p : Path) (r : Reason) → HasReason s p r → IsEntryOf plan p r
+reason_has_entry s plan valid p r has = reason_entry s plan (valid ReasonsHold) (valid EntriesComplete) p r has
 
 -- entries are the paths with a reason
 pub entries_are_reasons : (s : Snapshot) (plan : Plan) → IsSnapshot s → Valid s plan → EntriesAreReasons s plan
@@ -69,24 +72,6 @@ module _ (s : Snapshot) (plan : Plan) (lawful : IsSnapshot s) (reasons : (place 
   reason_of : (e : ℕ) (entry : Entry) → EntryIs plan e entry → ¬ (¬ HasReason s entry.path entry.reason)
   reason_of e entry is = λ n. reasons e (entry, is, n)
 
-  -- a directory on both sides that the archive doesn't have is an entry
-  new_dir_entry : (p : Path) (name : Name) (rest above : Path) → p ≡ above ++ name ∷ rest → AreBothDirs s.first s.second p → s.archive p ≢ Dir
-      → (k : ℕ) × (entry : Entry) × EntryIs plan k entry × (entry.path ≡ p) × (entry.reason ≡ reason.Dir)
-  new_dir_entry p name rest above at dirs new = go (last_name p)
-    where
-      go : (p ≡ []) ⊎ ((parent : Path) × (last : Name) × (p ≡ parent ++ last ∷ [])) → (k : ℕ) × (entry : Entry) × EntryIs plan k entry × (entry.path ≡ p) × (entry.reason ≡ reason.Dir)
-      go (inl root) = absurd (root_not_below above name rest (sym root ∙ at))
-      go (inr (parent, last, is)) =
-          let has : HasReason s p reason.Dir = ((parent, last, is, dirs_above s (IsWhole-from_snapshot s lawful) parent p last [] is dirs), (dirs, new)) in
-          let found = entry_from_complete s plan complete p reason.Dir has in (
-            found.0,
-            found.1,
-            found.2,
-            found.3,
-            one_reason s p found.1.reason reason.Dir
-                (λ n. reason_of found.0 found.1 found.2 (λ here. n (subst (λ z. HasReason s z found.1.reason) found.3 here))) (λ n. n has),
-          )
-
   -- the nearest new directory strictly above an entry is at its parent
   pub nearest_is_parent : (e d : ℕ) (h : NearestDir plan e d) → (name : Name) × (h.below.path ≡ h.dir.path ++ name ∷ [])
   nearest_is_parent e d h = over h.above.0 h.above.1
@@ -106,7 +91,7 @@ module _ (s : Snapshot) (plan : Plan) (lawful : IsSnapshot s) (reasons : (place 
       nearer : (m : Name) (ms : Path) → below.0 ≡ h.dir.path ++ m ∷ ms → ⊥
       nearer m ms at =
           let nothing = Dir-nothing_below s (IsWhole-from_snapshot s lawful) h.dir.path m ms (subst (λ z. ¬ (¬ HasReason s h.dir.path z)) h.new_dir (reason_of d h.dir h.is_dir)) in
-          let found = new_dir_entry below.0 m ms h.dir.path at below.3 (λ dir. let e = sym (ap s.archive at ∙ nothing) ∙ dir in cc) in
+          let found = reason_entry s plan reasons complete below.0 reason.Dir (new_dir_reason s lawful below.0 below.3 (λ dir. let e = sym (ap s.archive at ∙ nothing) ∙ dir in cc)) in
           none_between m ms at found.0 found.1 found.2 found.3 found.4
 
       -- so the parent is the directory

@@ -5,6 +5,7 @@ use Rattle.std.proofs.lemmas.Option.{none-some, same_Some}
 use Rattle.std.proofs.lemmas.Str.{IsUtf8-from_ascii}
 use Rattle.ts_name.specs.Paths.{Name, Path, IsName, IsPath, same_name}
 use Rattle.ts_model.specs.Trees.{Tree, sub, stamp_of, stamped, print_of, IsTree}
+use Rattle.ts_model.proofs.Reasons.{nothing_no_reason}
 use Rattle.ts_model.specs.Sync.{Snapshot, HasReason, Because, AreBothDirs, TouchesHeld, IsDirty, Agree}
 use Rattle.ts_model.specs.Plans.{EntryIs, ActionIs, KindIs, IsCopied, IsPiece, IsMarked, AscendBelow, Waits, Valid}
 use Rattle.ts_model.specs.declared.plan.PlanRule.TheVariants.{Limits, EntriesAscend, ReasonsHold, EntriesComplete, PredsAscend, OneCommit, PiecesLawful, PiecesComplete, OneMark, PiecesFirst, CommitFirst, DirFirst}
@@ -21,9 +22,10 @@ use Rattle.ts_model.specs.declared.plan.Action.{Action}
 use Rattle.ts_model.specs.declared.plan.Plan.{Plan}
 use Rattle.ts_model.specs.Headline.{Meets, Premises}
 use Rattle.ts_laws.specs.Laws.{ValidExample}
-use Rattle.ts_laws.proofs.Basics.{by_each, at_each, IsTree-print}
+use Rattle.ts_laws.proofs.Basics.{IsTree-print}
+use Rattle.ts_name.specs.Laws.{same_name_equal}
+use Rattle.ts_name.proofs.Basics.{at_each}
 use Rattle.ts_laws.proofs.Lists.{Contains-from_Among}
-use Rattle.ts_laws.proofs.Paths.{same_name_equal}
 
 -- the file's name is "x"
 abbrev x_name : Name
@@ -197,23 +199,12 @@ only_x : (bytes : List ℕ) (p : Path) (r : Reason) → HasReason (state bytes) 
 only_x bytes p r ((n ∷ ps, name, e, dirs), why) = absurd (let f = dirs.1 in cc)
 only_x bytes p r (([], name, e, dirs), why) = elim (cases_Bool (same_name name (120 ∷ []))) [
   | inl same ↦ e ∙ ap (λ z. z ∷ []) (same_name_equal name (120 ∷ []) same)
-  | inr differ ↦ absurd (no_reason r (subst (λ z. Because (state bytes) z r) e why) (nothing differ))
+  | inr differ ↦ absurd (nothing_no_reason (state bytes) (name ∷ []) (nothing differ) (λ rest. refl) (λ rest. refl) r (subst (λ z. Because (state bytes) z r) e why))
 ]
   where
-    nothing : same_name name (120 ∷ []) ≡ false → sub (state bytes).first (name ∷ []) ≡ (λ rest. Absent)
-    nothing differ = by_each (sub (state bytes).first (name ∷ [])) (λ rest. Absent) go
-      where
-        go : (rest : Path) → sub (state bytes).first (name ∷ []) rest ≡ Absent
-        go [] = ap stamped (cond-false _ _ _ differ)
-        go (m ∷ ms) = refl
-
-    no_reason : (r : Reason) → Because (state bytes) (name ∷ []) r → sub (state bytes).first (name ∷ []) ≡ (λ rest. Absent) → ⊥
-    no_reason reason.Dir why none = let e = why.0.1 in cc
-    no_reason reason.Same why none = why.2.1 (at_each none why.2.0)
-    no_reason reason.First why none = why.1 none
-    no_reason reason.Second why none = why.1 none
-    no_reason reason.Conflict why none = why.1 none
-    no_reason reason.Held why none = why.1 none
+    nothing : same_name name (120 ∷ []) ≡ false → (rest : Path) → sub (state bytes).first (name ∷ []) rest ≡ Absent
+    nothing differ [] = ap stamped (cond-false _ _ _ differ)
+    nothing differ (m ∷ ms) = refl
 
 -- ---- the plan
 

@@ -4,7 +4,7 @@ use Rattle.std.proofs.lemmas.Bool.{cases_eq, cases_order}
 use Rattle.std.proofs.lemmas.Option.{none-some, slice_get_within}
 use Rattle.ts_name.specs.Paths.{Name, Path, IsAbove, IsBefore}
 use Rattle.ts_model.specs.Sync.{Snapshot, HasReason, IsSkipped}
-use Rattle.ts_model.specs.Plans.{EntryIs, ActionIs, KindIs, Waits, source, NearestDir, Wrong, Valid}
+use Rattle.ts_model.specs.Plans.{EntryIs, ActionIs, KindIs, Waits, source, NearestDir, Wrong, Valid, IsOutOfOrder}
 use Rattle.ts_model.specs.declared.plan.PlanRule.TheVariants.{EntriesAscend, EntriesComplete, OneCommit, OneMark, PiecesFirst, CommitFirst, DirFirst}
 use Rattle.ts_model.specs.Runs.{Run, Has, claims, finishes, IsPieceOf, Legal, open_count}
 use Rattle.ts_model.specs.declared.plan.Reason.TheVariants as reason
@@ -16,7 +16,8 @@ use Rattle.ts_model.specs.declared.plan.Action.{Action}
 use Rattle.ts_model.specs.declared.plan.Plan.{Plan}
 use Rattle.ts_model.specs.declared.row.Content.TheVariants.{Absent}
 use Rattle.ts_laws.proofs.Basics.{stable, same_number, same_names}
-use Rattle.ts_laws.proofs.Paths.{decide_before, before_itself, before_trans, compared, above, under, beside, not_below_itself}
+use Rattle.ts_name.proofs.Prefixes.{compared, above, under, beside, not_below_itself}
+use Rattle.ts_name.proofs.Order.{decide_before, before_itself, before_trans}
 use Rattle.ts_laws.proofs.Lists.{find_index, element_at, Among, Among-from_Contains, Contains-from_Among}
 use Rattle.ts_laws.proofs.ActionKinds.{decide_commit, decide_mark, decide_is}
 use Rattle.ts_laws.proofs.Runs.{same_action, IsRun-from_legal, pred_count_is, unreleased_count}
@@ -55,20 +56,25 @@ entry_from_complete s plan complete p r has = elim (find_index (λ entry. entry.
 
 -- ---- entries are distinct
 
-module _ (s : Snapshot) (plan : Plan) (valid : Valid s plan) where
+module _ (entries : List Entry) (order : (k : ℕ) → ¬ IsOutOfOrder entries k) where
   -- each entry comes before the next
-  pub next_before : (k : ℕ) (x y : Entry) → EntryIs plan k x → EntryIs plan (suc k) y → IsBefore x.path y.path
-  next_before k x y is_x is_y = stable (decide_before x.path y.path) (λ n. valid EntriesAscend (suc k) (k, x, y, omega arith, is_x, is_y, n))
+  next_before : (k : ℕ) (x y : Entry) → slice_get entries k ≡ Some x → slice_get entries (suc k) ≡ Some y → IsBefore x.path y.path
+  next_before k x y is_x is_y = stable (decide_before x.path y.path) (λ n. order (suc k) (k, x, y, omega arith, is_x, is_y, n))
 
   -- and before each later one
-  pub in_order : (k l : ℕ) (x y : Entry) → EntryIs plan k x → EntryIs plan l y → k < l → IsBefore x.path y.path
-  in_order k zero x y is_x is_y h = absurd (omega arith)
-  in_order k (suc l) x y is_x is_y h = elim (cases_eq k l) [
-    | inl e ↦ next_before l x y (subst (λ z. EntryIs plan z x) e is_x) is_y
+  pub entries_in_order : (k l : ℕ) (x y : Entry) → slice_get entries k ≡ Some x → slice_get entries l ≡ Some y → k < l → IsBefore x.path y.path
+  entries_in_order k zero x y is_x is_y h = absurd (omega arith)
+  entries_in_order k (suc l) x y is_x is_y h = elim (cases_eq k l) [
+    | inl e ↦ next_before l x y (subst (λ z. slice_get entries z ≡ Some x) e is_x) is_y
     | inr differ ↦ (
-        let here = element_at plan.entries l (let within = slice_get_within plan.entries (suc l) y is_y in omega arith) in
-        before_trans x.path here.0.path y.path (in_order k l x here.0 is_x here.1 (omega arith)) (next_before l here.0 y here.1 is_y))
+        let here = element_at entries l (let within = slice_get_within entries (suc l) y is_y in omega arith) in
+        before_trans x.path here.0.path y.path (entries_in_order k l x here.0 is_x here.1 (omega arith)) (next_before l here.0 y here.1 is_y))
   ]
+
+module _ (s : Snapshot) (plan : Plan) (valid : Valid s plan) where
+  -- the entries of a valid plan are in order
+  pub in_order : (k l : ℕ) (x y : Entry) → EntryIs plan k x → EntryIs plan l y → k < l → IsBefore x.path y.path
+  in_order = entries_in_order plan.entries (valid EntriesAscend)
 
   -- a path has one entry
   pub one_place : (k l : ℕ) (x y : Entry) → EntryIs plan k x → EntryIs plan l y → x.path ≡ y.path → k ≡ l

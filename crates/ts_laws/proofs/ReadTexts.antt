@@ -12,7 +12,8 @@ use Rattle.ts_model.specs.Trial.{HasContentsApart}
 use Rattle.ts_model.specs.declared.plan.Plan.{Plan}
 use Rattle.ts_laws.specs.Laws.{AreDecided, IsAnswered}
 use Rattle.ts_laws.proofs.Basics.{Dec-both, same_list}
-use Rattle.ts_laws.proofs.Words.{AreLines, Words, cons_parts, one_spelling, spell, text_spells}
+use Rattle.ts_name.proofs.Spelling.{cons_parts}
+use Rattle.ts_laws.proofs.Words.{AreLines, Words, one_spelling, spell, text_spells}
 use Rattle.ts_laws.proofs.TreeTexts.{tree_words, tree_spelled, tree_are_lines, print_words, print_spelled, print_are_lines}
 use Rattle.ts_laws.proofs.RuleTexts.{rule_words, rules_spelled, rules_are_lines}
 use Rattle.ts_laws.proofs.PlanTexts.{plan_words, plan_spelled, plan_are_lines}

@@ -13,11 +13,17 @@ use Rattle.ts_model.specs.declared.row.Row.{Row}
 use Rattle.ts_model.specs.declared.row.Stamp.{Stamp}
 use Rattle.ts_laws.proofs.Basics.{Dec-both, Dec-not, same_number, same_names}
 use Rattle.ts_laws.proofs.Search.{decide_less, decide_each, decide_empty}
-use Rattle.ts_laws.proofs.Paths.{decide_before, last_name, same_parent, snoc_not_empty}
+use Rattle.ts_name.proofs.Prefixes.{last_name, same_parent, snoc_not_empty}
+use Rattle.ts_name.proofs.Order.{decide_before}
+use Rattle.ts_name.proofs.Basics.{weaker}
 use Rattle.ts_laws.proofs.Lists.{Among, all_among, all_from_among}
-use Rattle.ts_laws.proofs.Listings.{paths_of, decide_absent, listed_among, listed_here, listed_there, weaker}
-use Rattle.ts_laws.proofs.Words.{Words, all_append, cons_parts}
-use Rattle.ts_laws.proofs.TreeTexts.{bytes_parts, data_words, tree_row_words, tree_words, RowFits, one_tree_row, print_row_words, print_words, MarkFits, one_print_row}
+use Rattle.ts_laws.proofs.Listings.{paths_of, decide_absent, listed_among, listed_here, listed_there}
+use Rattle.ts_laws.proofs.Words.{Words}
+use Rattle.ts_name.proofs.Utf8.{all_append}
+use Rattle.ts_name.proofs.Spelling.{cons_parts}
+use Rattle.ts_model.proofs.Spelling.{bytes_parts}
+use Rattle.ts_laws.proofs.TreeTexts.{data_words, tree_row_words, tree_words, RowFits, one_tree_row, print_row_words, print_words, MarkFits, one_print_row}
+use Rattle.ts_name.proofs.Basics.{weaker}
 use Rattle.ts_laws.proofs.ReadWords.{BeginsWith, decide_begins, decide_keyed, decide_word, decide_decimal, decide_bytes, decide_path, decide_is_path}
 
 -- ---- items one after another

@@ -6,10 +6,15 @@ use Rattle.std.proofs.lemmas.Str.{IsUtf8-from_is_utf8, is_utf8-from_IsUtf8}
 use Rattle.std.proofs.Math.Decide.{map_dec}
 use Rattle.hex.specs.Hex.{encode_with, encode_lower, lower_digits}
 use Rattle.ts_name.specs.Paths.{Name, Path, IsName, IsPath, is_escaped, byte_text, name_text, path_text}
+use Rattle.ts_name.specs.Buffers.{HasNo}
+use Rattle.ts_name.proofs.Buffers.{AreFree, slash_free_from_names}
 use Rattle.ts_model.specs.Texts.{words, IsBytes, PathFits}
 use Rattle.ts_laws.proofs.Basics.{Dec-both, Dec-not, same_list, same_names, same_number}
 use Rattle.ts_laws.proofs.Search.{decide_less, decide_at_most, decide_number, decide_each, decide_empty, decide_true}
-use Rattle.ts_laws.proofs.Words.{Words, AreLines, spell, nothing_first, Plain, ArePlain, Spelled, in_digits, as_it_is, escape, spelled_byte, one_hex, one_name, one_path, one_path_text, plain_names}
+use Rattle.ts_model.proofs.Spelling.{one_hex}
+use Rattle.ts_model.proofs.Lines.{no_text}
+use Rattle.ts_name.proofs.Spelling.{Spelled, in_digits, as_it_is, escape, spelled_byte, one_name, one_path, one_path_text}
+use Rattle.ts_laws.proofs.Words.{Words, AreLines, spell}
 
 -- ---- lines
 
@@ -43,7 +48,7 @@ one_byte_more x xs (no n) = no (λ h. elim (begins x xs h.0 h.1) [ line_ends e l
 one_byte_more x xs (yes (lines, (are, e))) = by_byte (same_number x 10) (same_number x 32) (decide_less 32 x) lines are e
   where
     no_end : (lines : List Words) (line : Words) (more : List Words) → spell [] ≡ spell (line ∷ more) → ⊥
-    no_end lines line more f = nothing_first (words line) (spell more) f
+    no_end lines line more f = no_text (words line) (spell more) (sym f)
 
     -- the first line's first word has one byte more
     longer : 32 < x → (lines : List Words) → AreLines lines → xs ≡ spell lines → Dec ((lines : List Words) × AreLinesOf (x ∷ xs) lines)
@@ -170,13 +175,9 @@ decide_escape P d small text = map_dec
 
 -- ---- paths
 
--- no slash and no zero byte
-abbrev IsPlainByte : ℕ → Type 0
-IsPlainByte b = (b ≢ 47) × (b ≢ 0)
-
--- such a byte that is escaped
+-- a byte that is escaped, and no slash
 abbrev IsEscapedByte : ℕ → Type 0
-IsEscapedByte b = (is_escaped b ≡ true) × IsPlainByte b
+IsEscapedByte b = (is_escaped b ≡ true) × (b ≢ 47)
 
 -- escaped bytes are small
 escaped_small : (b : ℕ) → is_escaped b ≡ true → b < 256
@@ -190,11 +191,11 @@ escaped_small b e = elim (or_cases (nat_le 1 b && nat_le b 32) _ e) [
 
 -- whether a byte is one
 decide_escaped_byte : (b : ℕ) → Dec (IsEscapedByte b)
-decide_escaped_byte b = Dec-both (decide_true (is_escaped b)) (Dec-both (Dec-not (same_number b 47)) (Dec-not (same_number b 0)))
+decide_escaped_byte b = Dec-both (decide_true (is_escaped b)) (Dec-not (same_number b 47))
 
 -- the text is the rest of a name and more names
 abbrev AreNamesOf : List ℕ → Name → Path → Type 0
-AreNamesOf text name path = Plain name × ArePlain path × (text ≡ name_text name ++ path_text path)
+AreNamesOf text name path = HasNo 47 name × AreFree 47 path × (text ≡ name_text name ++ path_text path)
 
 -- there are such
 HasNames : List ℕ → Type 0
@@ -204,24 +205,24 @@ HasNames text = (name : Name) × (path : Path) × AreNamesOf text name path
 data NameBegins (c : ℕ) (text : List ℕ) : Type 0 where
   next_name : c ≡ 47 → HasNames text → NameBegins c text
   an_escape : (b : ℕ) → EscapeOf IsEscapedByte (c ∷ text) b → HasNames (drop 2 text) → NameBegins c text
-  a_byte : is_escaped c ≡ false → IsPlainByte c → HasNames text → NameBegins c text
+  a_byte : is_escaped c ≡ false → c ≢ 47 → HasNames text → NameBegins c text
 
 -- each does so
 name_begins : (c : ℕ) (text : List ℕ) → HasNames (c ∷ text) → NameBegins c text
 unfolding HasNames
-name_begins c text ([], [], (plain, plains, e)) = absurd cc
-name_begins c text ([], name ∷ path, (plain, plains, e)) = next_name (cc) (name, path, (plains.0, plains.1, cc))
-name_begins c text (b ∷ name, path, (plain, plains, e)) = go (byte_text b) (spelled_byte b) (e ∙ append_assoc (byte_text b) (name_text name) (path_text path))
+name_begins c text ([], [], (none, free, e)) = absurd cc
+name_begins c text ([], name ∷ path, (none, free, e)) = next_name (cc) (name, path, (free.0, free.1, cc))
+name_begins c text (b ∷ name, path, (none, free, e)) = go (byte_text b) (spelled_byte b) (e ∙ append_assoc (byte_text b) (name_text name) (path_text path))
   where
     go : (x : List ℕ) → Spelled b x → c ∷ text ≡ x ++ (name_text name ++ path_text path) → NameBegins c text
     go x (as_it_is f is) g =
         let h : c ∷ text ≡ b ∷ (name_text name ++ path_text path) = g ∙ ap (λ z. z ++ (name_text name ++ path_text path)) is in
         let same : b ≡ c = cc in
-        a_byte (ap is_escaped (sym same) ∙ f) (subst IsPlainByte same plain.0) (name, path, (plain.1, plains, cc))
+        a_byte (ap is_escaped (sym same) ∙ f) (subst (λ z. z ≢ 47) same none.0) (name, path, (none.1, free, cc))
     go x (in_digits f is) g =
         let h : c ∷ text ≡ escape b ++ (name_text name ++ path_text path) = g ∙ ap (λ z. z ++ (name_text name ++ path_text path)) is in
         let rest : drop 3 (c ∷ text) ≡ name_text name ++ path_text path = ap (drop 3) h in
-        an_escape b ((f, plain.0), h ∙ ap (λ z. escape b ++ z) (sym rest)) (name, path, (plain.1, plains, rest))
+        an_escape b ((f, none.0), h ∙ ap (λ z. escape b ++ z) (sym rest)) (name, path, (none.1, free, rest))
 
 -- a byte's own text
 plain_text : (c : ℕ) → is_escaped c ≡ false → byte_text c ≡ c ∷ []
@@ -242,7 +243,7 @@ escaped_text c e = go (byte_text c) (spelled_byte c)
 -- whether a text is names, from whether the text after its first byte or escape is
 one_more_name : (c : ℕ) (text : List ℕ) → Dec (HasNames text) → Dec (HasNames (drop 2 text)) → Dec (HasNames (c ∷ text))
 unfolding HasNames
-one_more_name c text more far = go (same_number c 47) (cases_Bool (is_escaped c)) (same_number c 0) (decide_escape IsEscapedByte decide_escaped_byte (λ b h. escaped_small b h.0) (c ∷ text)) more far
+one_more_name c text more far = go (same_number c 47) (cases_Bool (is_escaped c)) (decide_escape IsEscapedByte decide_escaped_byte (λ b h. escaped_small b h.0) (c ∷ text)) more far
   where
     Names : List ℕ → Type 0
     Names t = (name : Name) × (path : Path) × AreNamesOf t name path
@@ -261,55 +262,50 @@ one_more_name c text more far = go (same_number c 47) (cases_Bool (is_escaped c)
     not_plain b h e = true≢false (sym escaped_37 ∙ ap is_escaped (sym (first_is_37 b h)) ∙ e)
 
     with_escape : (b : ℕ) → EscapeOf IsEscapedByte (c ∷ text) b → Names (drop 2 text) → Names (c ∷ text)
-    with_escape b h (name, path, (plain, plains, e)) = (
+    with_escape b h (name, path, (none, free, e)) = (
       b ∷ name,
       path,
       (
-        (h.0.1, plain),
-        plains,
+        (h.0.1, none),
+        free,
         h.1 ∙ ap₂ ◌++◌ (sym (escaped_text b h.0.0)) e ∙ sym (append_assoc (byte_text b) (name_text name) (path_text path)),
       ),
     )
 
-    with_byte : is_escaped c ≡ false → IsPlainByte c → Names text → Names (c ∷ text)
-    with_byte f ok (name, path, (plain, plains, e)) = (
+    with_byte : is_escaped c ≡ false → c ≢ 47 → Names text → Names (c ∷ text)
+    with_byte f ok (name, path, (none, free, e)) = (
       c ∷ name,
       path,
       (
-        (ok, plain),
-        plains,
+        (ok, none),
+        free,
         ap₂ ◌++◌ (sym (plain_text c f)) e ∙ sym (append_assoc (byte_text c) (name_text name) (path_text path)),
       ),
     )
 
     with_slash : c ≡ 47 → Names text → Names (c ∷ text)
-    with_slash same (name, path, (plain, plains, e)) = ([], name ∷ path, (tt, (plain, plains), ap₂ ◌∷◌ same e))
+    with_slash same (name, path, (none, free, e)) = ([], name ∷ path, (tt, (none, free), ap₂ ◌∷◌ same e))
 
-    go : Slash → (is_escaped c ≡ true) ⊎ (is_escaped c ≡ false) → Dec (c ≡ 0) → Dec ((b : ℕ) × EscapeOf IsEscapedByte (c ∷ text) b) → Dec (Names text) → Dec (Names (drop 2 text)) → Dec (Names (c ∷ text))
-    go (yes same) escaped zero_byte found (yes h) far = yes (with_slash same h)
-    go (yes same) escaped zero_byte found (no n) far = no (λ h. elim (name_begins c text h) [
+    go : Slash → (is_escaped c ≡ true) ⊎ (is_escaped c ≡ false) → Dec ((b : ℕ) × EscapeOf IsEscapedByte (c ∷ text) b) → Dec (Names text) → Dec (Names (drop 2 text)) → Dec (Names (c ∷ text))
+    go (yes same) escaped found (yes h) far = yes (with_slash same h)
+    go (yes same) escaped found (no n) far = no (λ h. elim (name_begins c text h) [
       | next_name f m ↦ n m
       | an_escape b f m ↦ (let at = first_is_37 b f in omega (arith, same))
-      | a_byte f ok m ↦ ok.0 same
+      | a_byte f ok m ↦ ok same
     ])
-    go (no slash) (inl escaped) zero_byte (no none) more far = no (λ h. elim (name_begins c text h) [
+    go (no slash) (inl escaped) (no none) more far = no (λ h. elim (name_begins c text h) [
       | next_name f m ↦ slash f
       | an_escape b f m ↦ none (b, f)
       | a_byte f ok m ↦ true≢false (sym escaped ∙ f)
     ])
-    go (no slash) (inl escaped) zero_byte (yes found) more (yes h) = yes (with_escape found.0 found.1 h)
-    go (no slash) (inl escaped) zero_byte (yes found) more (no n) = no (λ h. elim (name_begins c text h) [
+    go (no slash) (inl escaped) (yes found) more (yes h) = yes (with_escape found.0 found.1 h)
+    go (no slash) (inl escaped) (yes found) more (no n) = no (λ h. elim (name_begins c text h) [
       | next_name f m ↦ slash f
       | an_escape b f m ↦ n m
       | a_byte f ok m ↦ true≢false (sym escaped ∙ f)
     ])
-    go (no slash) (inr plain) (yes zero_byte) found more far = no (λ h. elim (name_begins c text h) [
-      | next_name f m ↦ slash f
-      | an_escape b f m ↦ not_plain b f plain
-      | a_byte f ok m ↦ ok.1 zero_byte
-    ])
-    go (no slash) (inr plain) (no some) found (yes h) far = yes (with_byte plain (slash, some) h)
-    go (no slash) (inr plain) (no some) found (no n) far = no (λ h. elim (name_begins c text h) [
+    go (no slash) (inr plain) found (yes h) far = yes (with_byte plain slash h)
+    go (no slash) (inr plain) found (no n) far = no (λ h. elim (name_begins c text h) [
       | next_name f m ↦ slash f
       | an_escape b f m ↦ not_plain b f plain
       | a_byte f ok m ↦ n m
@@ -348,12 +344,12 @@ unfolding HasNames
 decide_path word = go (decide_names word)
   where
     go : Dec ((name : Name) × (path : Path) × AreNamesOf word name path) → Dec ((path : Path) × IsPath path × (word ≡ path_text path))
-    go (no n) = no (λ h. n ([], h.0, (tt, plain_names h.0 h.1.names, h.2)))
-    go (yes (b ∷ name, path, (plain, plains, e))) = no (λ h.
-        let same = (one_name [] (b ∷ name) h.0 path tt plain (sym h.2 ∙ e)).0 in cc)
-    go (yes ([], path, (plain, plains, e))) = elim (decide_is_path path) [
+    go (no n) = no (λ h. n ([], h.0, (tt, slash_free_from_names h.0 h.1.names, h.2)))
+    go (yes (b ∷ name, path, (none, free, e))) = no (λ h.
+        let same = (one_name [] (b ∷ name) h.0 path tt none (sym h.2 ∙ e)).0 in cc)
+    go (yes ([], path, (none, free, e))) = elim (decide_is_path path) [
       | yes is ↦ yes (path, is, e)
-      | no n ↦ no (λ h. n (subst IsPath (one_path_text h.0 path (plain_names h.0 h.1.names) plains (sym h.2 ∙ e)) h.1))
+      | no n ↦ no (λ h. n (subst IsPath (one_path_text h.0 path (slash_free_from_names h.0 h.1.names) free (sym h.2 ∙ e)) h.1))
     ]
 
 -- whether a word spells a path that isn't the root

@@ -7,11 +7,14 @@ use Rattle.ts_model.specs.Trees.{IsTree, Listing, listed, at, sub, Ascend, IsLis
 use Rattle.ts_model.specs.declared.row.Content.{Content}
 use Rattle.ts_model.specs.declared.row.Content.TheVariants.{Absent, Dir, File}
 use Rattle.ts_model.specs.declared.row.Row.{Row}
-use Rattle.ts_laws.proofs.Basics.{at_each, by_each, same_names}
-use Rattle.ts_laws.proofs.Paths.{below_append, before_flip, tied_paths}
+use Rattle.ts_laws.proofs.Basics.{same_names}
+use Rattle.ts_name.specs.Laws.{tied_paths}
+use Rattle.ts_name.proofs.Prefixes.{below_append}
+use Rattle.ts_name.proofs.Order.{before_flip}
+use Rattle.ts_name.proofs.Utf8.{all_parts}
+use Rattle.ts_name.proofs.Basics.{at_each, by_each, weaker}
 use Rattle.ts_laws.proofs.Lists.{Among, Among-from_Contains}
-use Rattle.ts_laws.proofs.Words.{all_parts}
-use Rattle.ts_laws.proofs.Listings.{paths_of, decide_absent, listed_here, listed_there, listed_among, weaker}
+use Rattle.ts_laws.proofs.Listings.{paths_of, decide_absent, listed_here, listed_there, listed_among}
 
 -- ---- a row put in its place
 

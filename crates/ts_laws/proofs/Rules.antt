@@ -7,8 +7,8 @@ use Rattle.std.proofs.lemmas.List.Sums.{count_by-le-length}
 use Rattle.std.proofs.lemmas.Option.{none-some, same_Some, slice_get_within}
 use Rattle.std.proofs.Math.Decide.{map_dec}
 use Rattle.ts_name.specs.Paths.{Path, IsAbove, IsBefore, path_cmp}
-use Rattle.ts_model.specs.Trees.{Print, sub}
-use Rattle.ts_model.specs.Sync.{Snapshot, IsSnapshot, replica, HasReason, Because}
+use Rattle.ts_model.specs.Trees.{Print}
+use Rattle.ts_model.specs.Sync.{Snapshot, IsSnapshot, replica, HasReason}
 use Rattle.ts_model.specs.Plans.{EntryIs, KindIs, Waits, source, IsCopied, IsMarked, piece_size, IsRange, IsPiece, WithinLimits, AscendBelow, entry_limit, action_limit, pred_limit, IsOutOfOrder, Lacks, Earlier, NotOneEach, NearestDir, rule_number, Wrong, Broken, Valid}
 use Rattle.ts_model.specs.declared.plan.PlanRule.{PlanRule}
 use Rattle.ts_model.specs.declared.plan.PlanRule.TheVariants.{Limits, EntriesAscend, ReasonsHold, EntriesComplete, PredsAscend, OneCommit, PiecesLawful, PiecesComplete, OneMark, PiecesFirst, CommitFirst, DirFirst}
@@ -22,10 +22,13 @@ use Rattle.ts_model.specs.declared.plan.Plan.{Plan}
 use Rattle.ts_model.specs.declared.row.Content.{Content}
 use Rattle.ts_model.specs.declared.row.Content.TheVariants.{Absent, Dir, File}
 use Rattle.ts_model.specs.declared.row.Stamp.{Stamp}
-use Rattle.ts_laws.proofs.Basics.{by_each, stable, Dec-both, Dec-either, Dec-not, same_number, same_names, same_stamp_at}
-use Rattle.ts_laws.proofs.Paths.{decide_above, decide_before, nothing_below, IsRooted}
+use Rattle.ts_laws.proofs.Basics.{stable, Dec-both, Dec-either, Dec-not, same_number, same_names, same_stamp_at}
+use Rattle.ts_name.proofs.Prefixes.{decide_above}
+use Rattle.ts_name.proofs.Order.{decide_before}
+use Rattle.ts_laws.proofs.Grafts.{nothing_below, IsRooted}
 use Rattle.ts_laws.proofs.Lists.{Among, Contains-from_Among, decide_within, decide_ascend}
 use Rattle.ts_laws.proofs.Search.{decide_less, decide_at_most, decide_at, least_below, decide_number, decide_place, decide_more}
+use Rattle.ts_model.proofs.Reasons.{nothing_no_reason}
 use Rattle.ts_laws.proofs.Reasons.{decide_reason, IsWhole, IsWhole-from_snapshot}
 use Rattle.ts_laws.proofs.Steps.{decide_marked}
 use Rattle.ts_laws.proofs.ActionKinds.{PieceParts, piece_of, decide_commit, decide_mark, decide_piece, decide_some_kind, decide_earlier, kind_as, decide_piece_at, decide_entry_at, decide_of_entry, decide_not_one_each}
@@ -183,19 +186,10 @@ nothing_at_or_below t rooted p [] gone = ap t (append-nil p) ∙ gone
 nothing_at_or_below t rooted p (name ∷ rest) gone = nothing_below same_stamp_at rooted p name rest (λ dir. let e = sym gone ∙ dir in cc)
 
 -- where there is nothing, there is no reason
-nowhere_no_reason : (s : Snapshot) → IsWhole s → (p : Path) (r : Reason) → s.first p ≡ Absent → s.second p ≡ Absent → s.archive p ≡ Absent → ¬ HasReason s p r
-nowhere_no_reason s whole p r no_first no_second no_archive has = go r has.1
-  where
-    agree : sub s.first p ≡ sub s.second p
-    agree = by_each (sub s.first p) (sub s.second p) (λ rest. nothing_at_or_below s.first whole.first p rest no_first ∙ sym (nothing_at_or_below s.second whole.second p rest no_second))
-
-    go : (r : Reason) → Because s p r → ⊥
-    go reason.Dir h = let e = sym no_first ∙ h.0.0 in cc
-    go reason.Same h = let changed = h.2 in changed.1 (nothing_at_or_below s.first whole.first p changed.0 no_first ∙ sym (nothing_at_or_below s.archive whole.archive p changed.0 no_archive))
-    go reason.First h = h.1 agree
-    go reason.Second h = h.1 agree
-    go reason.Conflict h = h.1 agree
-    go reason.Held h = h.1 agree
+pub nowhere_no_reason : (s : Snapshot) → IsWhole s → (p : Path) (r : Reason) → s.first p ≡ Absent → s.second p ≡ Absent → s.archive p ≡ Absent → ¬ HasReason s p r
+nowhere_no_reason s whole p r no_first no_second no_archive has =
+    nothing_no_reason s p (λ rest. nothing_at_or_below s.first whole.first p rest no_first) (λ rest. nothing_at_or_below s.second whole.second p rest no_second)
+    (λ rest. nothing_at_or_below s.archive whole.archive p rest no_archive) r has.1
 
 -- ---- the rules
 

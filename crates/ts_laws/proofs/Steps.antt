@@ -36,41 +36,15 @@ same_kind plan i x y h k = sym h.2 ∙ ap (λ z. z.kind) (same_action plan i h.0
 pub same_entry : (plan : Plan) (e : ℕ) (x y : Entry) → EntryIs plan e x → EntryIs plan e y → x ≡ y
 same_entry plan e x y = same_at plan.entries e x y
 
--- a commit's entry
-pub entry_of_commit : (plan : Plan) (i e : ℕ) (entry : Entry) → KindIs plan i (Commit e) → EntryIs plan e entry → entry_of plan i ≡ Some entry
-entry_of_commit plan i e entry kind is =
-    ap (λ o. elim o [
-      | None ↦ None
-      | Some action ↦ elim action.kind [
-        | Piece e offset size p ↦ slice_get plan.entries e
-        | Commit e ↦ slice_get plan.entries e
-        | Mark e ↦ slice_get plan.entries e
-      ]
-    ]) kind.1
-    ∙ ap (λ k. elim k [
-      | Piece e offset size p ↦ slice_get plan.entries e
-      | Commit e ↦ slice_get plan.entries e
-      | Mark e ↦ slice_get plan.entries e
-    ]) kind.2
-    ∙ is
+-- what a plan has as the entry of an action of this kind
+abbrev pub entry_in : Plan → Kind → Option Entry
+entry_in plan (Piece e offset size p) = slice_get plan.entries e
+entry_in plan (Commit e) = slice_get plan.entries e
+entry_in plan (Mark e) = slice_get plan.entries e
 
--- a mark's entry
-pub entry_of_mark : (plan : Plan) (i e : ℕ) (entry : Entry) → KindIs plan i (Mark e) → EntryIs plan e entry → entry_of plan i ≡ Some entry
-entry_of_mark plan i e entry kind is =
-    ap (λ o. elim o [
-      | None ↦ None
-      | Some action ↦ elim action.kind [
-        | Piece e offset size p ↦ slice_get plan.entries e
-        | Commit e ↦ slice_get plan.entries e
-        | Mark e ↦ slice_get plan.entries e
-      ]
-    ]) kind.1
-    ∙ ap (λ k. elim k [
-      | Piece e offset size p ↦ slice_get plan.entries e
-      | Commit e ↦ slice_get plan.entries e
-      | Mark e ↦ slice_get plan.entries e
-    ]) kind.2
-    ∙ is
+-- is the entry of each such action
+pub entry_of_kind : (plan : Plan) (i : ℕ) (kind : Kind) → KindIs plan i kind → entry_of plan i ≡ entry_in plan kind
+entry_of_kind plan i kind is = ap (λ o. elim o [ None ↦ None | Some action ↦ entry_in plan action.kind ]) is.1 ∙ ap (entry_in plan) is.2
 
 -- an entry's reason holds
 pub reason_holds : (s : Snapshot) (plan : Plan) → Valid s plan → (e : ℕ) (entry : Entry) → EntryIs plan e entry → ¬ (¬ HasReason s entry.path entry.reason)
@@ -124,7 +98,7 @@ committed s plan w i rows e entry on fits kind is from_other = go (does_of s pla
         let from_is : from ≡ other on = same_Some from (other on) (sym from_x ∙ ap (λ z. source z.reason) same ∙ from_other) in
         record {
           print = print_is ∙ ap (λ z. sub (replica s z) x.path) from_is ∙ ap (λ z. sub (replica s (other on)) z.path) same;
-          tree = ap (λ o. tree_on (after_put w o (listed rows)) on) (entry_of_commit plan i e entry kind is) ∙ put_on w entry (other on) (listed rows) on refl from_other;
+          tree = ap (λ o. tree_on (after_put w o (listed rows)) on) (entry_of_kind plan i (Commit e) kind ∙ is) ∙ put_on w entry (other on) (listed rows) on refl from_other;
         }
 
 -- an allowed step keeps a side, or copies an entry onto it
@@ -134,7 +108,7 @@ change s plan r w (Act i (Put rows)) on allowed = go allowed.1.0 allowed.1.1 all
     copies : (e : ℕ) → KindIs plan i (Commit e) → (x : Entry) (from : Side) → EntryIs plan e x → source x.reason ≡ Some from → (from ≡ on) ⊎ (from ≡ other on)
         → Change s plan w (Act i (Put rows)) on
     copies e kind x from is_x from_x (inl at) =
-        kept (ap (λ o. tree_on (after_put w o (listed rows)) on) (entry_of_commit plan i e x kind is_x) ∙ source_kept w x on (listed rows) (from_x ∙ ap Some at))
+        kept (ap (λ o. tree_on (after_put w o (listed rows)) on) (entry_of_kind plan i (Commit e) kind ∙ is_x) ∙ source_kept w x on (listed rows) (from_x ∙ ap Some at))
     copies e kind x from is_x from_x (inr at) =
         copied i e x rows refl kind is_x (from_x ∙ ap Some at) (committed s plan w i rows e x on allowed.1 kind is_x (from_x ∙ ap Some at))
 
@@ -187,7 +161,7 @@ put_keeps_archive w (Some entry) content = go (source entry.reason)
 -- a mark's step grafts what it writes
 pub marked_archive : (s : Snapshot) (plan : Plan) (w : State) (i e : ℕ) (entry : Entry) → KindIs plan i (Mark e) → EntryIs plan e entry
     → (after_step s plan w (Act i Marked)).archive ≡ graft w.archive entry.path (marked s entry.reason entry.path)
-marked_archive s plan w i e entry kind is = ap (λ o. with_mark s w.archive o) (entry_of_mark plan i e entry kind is)
+marked_archive s plan w i e entry kind is = ap (λ o. with_mark s w.archive o) (entry_of_kind plan i (Mark e) kind ∙ is)
 
 -- an allowed step keeps the archive, or writes an entry's mark
 pub marking : (s : Snapshot) (plan : Plan) → Valid s plan → (r : Run) (w : State) (step : Step) → Allowed s plan r step → Marking s plan w step

@@ -7,7 +7,8 @@ use Rattle.ts_model.specs.Trees.{Listing}
 use Rattle.ts_model.specs.Texts.{text, words, archive_front, archive_text, tree_lines, print_lines, rule_line, plan_lines, IsTreeText, IsPrintText, IsArchiveText, IsRulesText, IsPlanText, IsBundleText}
 use Rattle.ts_model.specs.declared.row.Stamp.{Stamp}
 use Rattle.ts_laws.specs.Laws.{OneToOne}
-use Rattle.ts_laws.proofs.Words.{AreLines, Words, StartsOther, clean_from_test, cons_parts, one_spelling, one_spelling_before, spell, text_spells}
+use Rattle.ts_name.proofs.Spelling.{clean_from_test, cons_parts}
+use Rattle.ts_laws.proofs.Words.{AreLines, Words, StartsOther, one_spelling, one_spelling_before, spell, text_spells}
 use Rattle.ts_laws.proofs.TreeTexts.{PrintFits, one_print, one_tree, print_are_lines, print_spelled, print_words, rows_start_other, tree_are_lines, tree_spelled, tree_words}
 use Rattle.ts_laws.proofs.RuleTexts.{one_rules, rule_words, rules_are_lines, rules_spelled}
 use Rattle.ts_laws.proofs.PlanTexts.{one_plan, plan_are_lines, plan_spelled, plan_words}

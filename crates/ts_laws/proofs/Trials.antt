@@ -1,35 +1,31 @@
 -- What `trial` answers for a bundle: something, since the plan is refused or is run to its end.
-use Rattle.std.proofs.Common.{◌≡◌, ◌≢◌, ◌⊎◌, ℕ, zero, suc, ◌<◌, Bool, true, false, cond, List, [], ◌∷◌, ◌++◌, refl, sym, ap, ◌∙◌, subst, inl, inr, arith}
+use Rattle.std.proofs.Common.{◌≡◌, ◌≢◌, ◌⊎◌, ℕ, List, [], ◌++◌, refl, sym, ap, ◌∙◌, subst, inl, inr}
 use Rattle.std.specs.List.{AllByRecursion}
-use Rattle.std.specs.Int.{to_be_bytes, w32}
-use Rattle.std.specs.Prelude.{slice_index}
-use Rattle.sha2.specs.Sha256.{sha256, digest_bytes, final_hash, initial_hash_256}
-use Rattle.sha2.proofs.Facts256.{length-sha256}
-use Rattle.ts_name.specs.Paths.{Path, same_path}
-use Rattle.ts_model.specs.Trees.{Tree, Print, Listing, listed, at, stamped, IsTree, AreApart}
+use Rattle.ts_name.specs.Paths.{Path}
+use Rattle.ts_model.specs.Trees.{Tree, Print, Listing, at, IsTree, AreApart}
 use Rattle.ts_model.specs.Sync.{Snapshot, HasReason, IsDirty, IsSkipped, Synced}
 use Rattle.ts_model.specs.Plans.{Valid}
 use Rattle.ts_model.specs.Runs.{Run, after, start}
 use Rattle.ts_model.specs.Headline.{FinalArchive, Meets}
-use Rattle.ts_model.specs.Texts.{Bundle, IsBundle, IsBundleText, IsBytes, FileFits, StampFits}
+use Rattle.ts_model.specs.Texts.{Bundle, IsBundle, IsBundleText, FileFits, StampFits}
 use Rattle.ts_model.specs.Trial.{snapshot_of, IsNoBundle, HasContentsApart}
+use Rattle.ts_model.proofs.Rows.{fits_at, stamp_fits}
 use Rattle.ts_model.specs.declared.plan.Reason.{Reason}
 use Rattle.ts_model.specs.declared.plan.Side.{Side}
 use Rattle.ts_model.specs.declared.plan.Side.TheVariants as side
 use Rattle.ts_model.specs.declared.row.Content.{Content}
-use Rattle.ts_model.specs.declared.row.Content.TheVariants.{Absent, Dir, File}
+use Rattle.ts_model.specs.declared.row.Content.TheVariants.{Dir}
 use Rattle.ts_model.specs.declared.row.Row.{Row}
 use Rattle.ts_model.specs.declared.row.Stamp.{Stamp}
 use Rattle.ts_laws.specs.Laws.{HasAnswer, IsAnswered, Finishes}
 use Rattle.ts_laws.proofs.Settings.{Begun, begun_at, ran_at}
-use Rattle.ts_laws.proofs.Basics.{Start, at_each, stable, IsTree-from_print}
+use Rattle.ts_laws.proofs.Basics.{Start, stable, IsTree-from_print}
+use Rattle.ts_name.proofs.Basics.{at_each, weaker}
 use Rattle.ts_laws.proofs.Reasons.{IsWhole-from_snapshot, Place, inside, outside, place_of}
 use Rattle.ts_laws.proofs.Steps.{tree_on}
 use Rattle.ts_laws.proofs.Kept.{pair}
 use Rattle.ts_laws.proofs.Deciding.{decide_dirty}
 use Rattle.ts_laws.proofs.Pairs.{either, which, pair_dirs, pair_edge}
-use Rattle.ts_laws.proofs.Listings.{weaker}
-use Rattle.ts_laws.proofs.Words.{all_append}
 use Rattle.ts_laws.proofs.ReadTrees.{decide_stamp_fits}
 use Rattle.ts_laws.proofs.Rows.{IsListingOf, listing_of}
 use Rattle.ts_laws.proofs.Rules.{valid_or_broken}
@@ -42,39 +38,17 @@ use Rattle.ts_laws.proofs.Results.{Start-from_bundle}
 -- ---- contents fit
 
 -- what fits at each path fits in each row
-listed_fits : {F : Type 0} (P : Content F → Type 0) (t : Path → Content F) (rows : Listing F) → IsListingOf t rows → ((p : Path) → P (t p)) → AllByRecursion (λ row. P row.content) rows
+pub listed_fits : {F : Type 0} (P : Content F → Type 0) (t : Path → Content F) (rows : Listing F) → IsListingOf t rows → ((p : Path) → P (t p)) → AllByRecursion (λ row. P row.content) rows
 listed_fits {F} P t rows lists fits = weaker (λ (row : Row F). row.content ≡ t row.path) (λ row. P row.content) (λ row e. subst P (sym e) (fits row.path)) rows lists.each
 
--- and the other way round
-fits_at : {F : Type 0} (P : Content F → Type 0) → P Absent → P Dir → (rows : Listing F) → AllByRecursion (λ row. P row.content) rows → (p : Path) → P (at rows p)
-fits_at P absent dir rows all [] = dir
-fits_at {F} P absent dir rows all (name ∷ names) = go rows all (name ∷ names)
-  where
-    here : (row : Row F) (rows : Listing F) → P row.content → (p : Path) → P (listed rows p) → (b : Bool) → P (cond b row.content (listed rows p))
-    here row rows h p more true = h
-    here row rows h p more false = more
-
-    go : (rows : Listing F) → AllByRecursion (λ row. P row.content) rows → (p : Path) → P (listed rows p)
-    go [] all p = absent
-    go (row ∷ rows) all p = here row rows all.0 p (go rows all.1 p) (same_path row.path p)
-
--- a digest has bytes
-bytes-sha256 : (x : List ℕ) → IsBytes (sha256 x)
-unfolding sha256 digest_bytes
-bytes-sha256 x = digest (final_hash initial_hash_256 x) 8
-  where
-    word : (n : ℕ) → IsBytes (to_be_bytes w32 n)
-    word n = (omega arith, (omega arith, (omega arith, (omega arith, tt))))
-
-    digest : (h : List ℕ) (n : ℕ) → IsBytes (digest_bytes h n)
-    digest h zero = tt
-    digest h (suc n) = all_append (λ b. b < 256) (digest_bytes h n) (to_be_bytes w32 (slice_index h n)) (digest h n) (word (slice_index h n))
-
--- the stamp of what fits does
-stamp_fits : (x : Content (List ℕ)) → FileFits x → StampFits (stamped x)
-stamp_fits Absent fits = tt
-stamp_fits Dir fits = tt
-stamp_fits (File bytes) fits = (fits.1, bytes-sha256 bytes, length-sha256 bytes)
+-- what a final archive has at a path, the old one has there, or it is a stamp of the new first replica
+pub archive_fits : (b : Bundle) → IsBundle b → (c : Tree) → ((q : Path) → FileFits (c q)) → (archive : Print) → FinalArchive (snapshot_of b) c archive → (q : Path) → StampFits (archive q)
+archive_fits b is c fits archive final q = stable (decide_stamp_fits (archive q)) (λ n.
+    either ((p rest : Path) (r : Reason) → HasReason (snapshot_of b) p r → IsSkipped r → q ≢ p ++ rest) (λ off. elim off [
+      | inl none ↦ n (subst StampFits (sym (final.agreed q none)) (stamp_fits (c q) (fits q)))
+      | inr some ↦ some (λ p rest r has skipped e.
+          n (subst StampFits (sym (ap archive e ∙ at_each (final.skipped p r has skipped) rest)) (fits_at StampFits tt tt b.archive is.archive.stamps (p ++ rest))))
+    ]))
 
 -- ---- the end of a run of a valid plan
 
@@ -111,15 +85,6 @@ module _ (b : Bundle) (is : IsBundle b) (contents : AreApart (Meets (at b.first)
   replica_fits side.First q = fits_at FileFits tt tt b.first is.first.files q
   replica_fits side.Second q = fits_at FileFits tt tt b.second is.second.files q
 
-  -- so does a final archive
-  archive_fits : (c : Tree) → ((q : Path) → FileFits (c q)) → (archive : Print) → FinalArchive s c archive → (q : Path) → StampFits (archive q)
-  archive_fits c fits archive final q = stable (decide_stamp_fits (archive q)) (λ n.
-      either ((p rest : Path) (r : Reason) → HasReason s p r → IsSkipped r → q ≢ p ++ rest) (λ off. elim off [
-        | inl none ↦ n (subst StampFits (sym (final.agreed q none)) (stamp_fits (c q) (fits q)))
-        | inr some ↦ some (λ p rest r has skipped e.
-            n (subst StampFits (sym (ap archive e ∙ at_each (final.skipped p r has skipped) rest)) (fits_at StampFits tt tt b.archive is.archive.stamps (p ++ rest))))
-      ]))
-
   -- a pair and a final archive that are trees are a result
   result_from : (c d : Tree) (archive : Print) → Synced s (at b.first) (at b.second) c d → FinalArchive s c archive → IsTree c → IsTree d → IsTree archive → HasAnswer b
   result_from c d archive synced final tree_c tree_d tree_archive = go (listing_of c tree_c) (listing_of d tree_d) (listing_of archive tree_archive)
@@ -138,7 +103,7 @@ module _ (b : Bundle) (is : IsBundle b) (contents : AreApart (Meets (at b.first)
           bodies = (
             record { listing = lists_x.listing; files = listed_fits FileFits c x lists_x (fits side.First) },
             record { listing = lists_y.listing; files = listed_fits FileFits d y lists_y (fits side.Second) },
-            record { listing = lists_z.listing; stamps = listed_fits StampFits archive z lists_z (archive_fits c (fits side.First) archive final) },
+            record { listing = lists_z.listing; stamps = listed_fits StampFits archive z lists_z (archive_fits b is c (fits side.First) archive final) },
           );
           valid = valid;
           pair = subst (λ t. Synced s (at b.first) (at b.second) (at x) t) (sym lists_y.same) (subst (λ t. Synced s (at b.first) (at b.second) t d) (sym lists_x.same) synced);

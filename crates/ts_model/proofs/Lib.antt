@@ -1,1 +1,6 @@
+pub mod Reasons
 pub mod Examples
+pub mod Spelling
+pub mod Lines
+pub mod Rows
+pub mod Told

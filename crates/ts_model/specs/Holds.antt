@@ -3,7 +3,7 @@
 --     Fits pattern name the name fits; `Star` stands for any bytes or none
 --     Names rules p     some rule names the path
 --     IsHeld            a path that is present in a replica or in the archive and that a rule names
-use Rattle.std.specs.Prelude.{◌≡◌, ◌≢◌, ◌⊎◌, ℕ, List, [], ◌∷◌, ◌++◌, Any}
+use Rattle.std.specs.Prelude.{◌≡◌, ◌≢◌, ◌⊎◌, List, [], ◌∷◌, ◌++◌, Any}
 use Rattle.ts_name.specs.Paths.{Name, Path}
 use Rattle.ts_model.specs.declared.row.Content.TheVariants.{Absent}
 use Rattle.ts_model.specs.Trees.{Print}

@@ -2,37 +2,18 @@
 use Rattle.std.proofs.Common.{◌≡◌, ◌≢◌, ◌↔◌, ◌-◌, eqb, Bor, MatchOption, IsTrue, rules, suc, ltb, get_or, drop-cons, length-take, ltb-false, ℕ, ◌+◌, ◌<◌, ◌≤◌, ◌==◌, Bool, true, false, cond, List, [], ◌∷◌, ◌++◌, Option, Some, None, length, take, drop, map, sum_by, count_by, position, refl, sym, ap, ap₂, subst, ◌∙◌, append_assoc, append-nil, eq-eqb, eqb-true, arith, length-append}
 use Rattle.std.proofs.lemmas.Bool.{cond-true, cond-false, false_from_ne_true, false≢true}
 use Rattle.std.proofs.lemmas.List.Concat.{flat_map-append}
-use Rattle.std.proofs.lemmas.List.{take-append-drop, get_or-take, map-append, take_at}
+use Rattle.std.proofs.lemmas.List.{append_cancel_left, take-append-drop, get_or-take, map-append, take_at}
 use Rattle.std.proofs.lemmas.Slice.Eq.{starts_is}
 use Rattle.std.proofs.lemmas.List.Quantifiers.{position-Some}
 use Rattle.std.proofs.lemmas.List.Sums.{sum_by-cons, sum_by-append, fails_before_first}
 use Rattle.std.specs.List.{AllByRecursion, position_or_len, starts_with}
 use Rattle.ts_name.specs.Paths.{Name, Path, IsName, IsPath, IsAbove}
+use Rattle.ts_name.proofs.Utf8.{all_append, all_parts}
 use Rattle.ts_name.specs.Buffers.{in_front, pieces, ended, HasNo, IsWhole, IsBuffer}
 
 -- no name has the separator
 abbrev pub AreFree : ℕ → Path → Type 0
 AreFree s path = AllByRecursion (HasNo s) path
-
--- a front cancels
-pub append_cancel : {A : Type 0} (xs ys zs : List A) → xs ++ ys ≡ xs ++ zs → ys ≡ zs
-append_cancel [] ys zs e = e
-append_cancel (x ∷ xs) ys zs e = append_cancel xs ys zs cc
-
--- a last element cancels
-pub push_cancel : {A : Type 0} (xs ys : List A) (x : A) → xs ++ x ∷ [] ≡ ys ++ x ∷ [] → xs ≡ ys
-push_cancel [] [] x e = refl
-push_cancel [] (y ∷ ys) x e = absurd (no_push ys x (let f : ys ++ x ∷ [] ≡ [] = cc in f))
-  where
-    no_push : {A : Type 0} (ys : List A) (x : A) → ys ++ x ∷ [] ≡ [] → ⊥
-    no_push [] x e = cc
-    no_push (y ∷ ys) x e = cc
-push_cancel (z ∷ zs) [] x e = absurd (no_push zs x (let f : zs ++ x ∷ [] ≡ [] = cc in f))
-  where
-    no_push : {A : Type 0} (ys : List A) (x : A) → ys ++ x ∷ [] ≡ [] → ⊥
-    no_push [] x e = cc
-    no_push (y ∷ ys) x e = cc
-push_cancel (z ∷ zs) (y ∷ ys) x e = let f = push_cancel zs ys x cc in cc
 
 -- ---- from buffers to names
 
@@ -92,7 +73,7 @@ whole_without s (b ∷ bs) h w =
 pub whole_rest : (s : ℕ) (name rest : List ℕ) → HasNo s name → IsWhole s (name ++ s ∷ rest) → IsWhole s rest
 whole_rest s name rest h w =
     let e : (name ++ s ∷ []) ++ ended s (pieces s rest) ≡ name ++ s ∷ rest = sym (ap (ended s) (pieces_name s name rest h)) ∙ w.again in
-    let f : s ∷ ended s (pieces s rest) ≡ s ∷ rest = append_cancel name _ _ (sym (append_assoc name (s ∷ []) (ended s (pieces s rest))) ∙ e) in
+    let f : s ∷ ended s (pieces s rest) ≡ s ∷ rest = append_cancel_left name _ _ (sym (append_assoc name (s ∷ []) (ended s (pieces s rest))) ∙ e) in
     record { again = let g : ended s (pieces s rest) ≡ rest = cc in g }
 
 front_ended : (s b : ℕ) (path : Path) → path ≢ [] → ended s (in_front b path) ≡ b ∷ ended s path
@@ -264,13 +245,9 @@ ended-append s p q = flat_map-append (λ name. name ++ s ∷ []) p q
 
 -- ---- one path after another
 
-names_append : (p q : Path) → AllByRecursion IsName p → AllByRecursion IsName q → AllByRecursion IsName (p ++ q)
-names_append [] q h k = k
-names_append (n ∷ p) q h k = (h.0, names_append p q h.1 k)
-
 pub IsPath-append : (p q : Path) → IsPath p → IsPath q → length p + length q ≤ 64 → sum_by length p + sum_by length q ≤ 4096 → IsPath (p ++ q)
 IsPath-append p q h k deep long = record {
-  names = names_append p q h.names k.names;
+  names = all_append IsName p q h.names k.names;
   depth = omega (arith, length-append p q);
   size = omega (arith, sum_by-append {X = List ℕ} length p q);
 }
@@ -286,14 +263,10 @@ pub Holds-append : (b d : List ℕ) (p q : Path) → Holds b p → Holds d q →
 Holds-append b d p q h k lawful bytes e =
     Holds-from bytes (p ++ q) lawful (e ∙ ap₂ ◌++◌ (bytes_held h) (bytes_held k) ∙ sym (ended-append 0 p q))
 
-lawful_left : (p q : Path) → AllByRecursion IsName (p ++ q) → AllByRecursion IsName p × AllByRecursion IsName q
-lawful_left [] q h = (tt, h)
-lawful_left (n ∷ p) q h = let more = lawful_left p q h.1 in ((h.0, more.0), more.1)
-
 -- both parts of a lawful path are lawful
 pub IsPath-parts : (p q : Path) → IsPath (p ++ q) → IsPath p × IsPath q
 IsPath-parts p q h =
-    let names = lawful_left p q h.names in
+    let names = all_parts IsName p q h.names in
     let deep = h.depth in
     let long = h.size in (
       record {
@@ -318,7 +291,7 @@ above_from_bytes b d p q h k rest e =
     let lawful = IsPath-parts p (pieces 0 rest) (subst (λ z. IsPath z) is (lawful_held k)) in
     let whole : ended 0 p ++ ended 0 (pieces 0 rest) ≡ ended 0 p ++ rest = sym (ended-append 0 p (pieces 0 rest)) ∙ ap (ended 0) (sym is) ∙ sym (bytes_held k) ∙ e ∙ ap (λ z. z ++ rest) (bytes_held h) in (
       record {
-        buffer = record { lawful = lawful.1; whole = record { again = append_cancel (ended 0 p) _ _ whole } };
+        buffer = record { lawful = lawful.1; whole = record { again = append_cancel_left (ended 0 p) _ _ whole } };
         path_is = refl;
       },
       is,

@@ -1,43 +1,11 @@
 -- The escaped form of bytes.
-use Rattle.std.proofs.Common.{◌≡◌, ◌≢◌, suc, ◌==◌, ◌+◌, ◌/◌, ◌%◌, ◌<◌, ℕ, IsTrue, Bool, true, false, cond, ltb, List, [], ◌∷◌, ◌++◌, Option, Some, None, MatchOption, length, refl, sym, ap, ap₂, ◌∙◌, eqb-true, append_assoc, append-nil, arith}
-use Rattle.std.proofs.lemmas.Bool.{false≢true, ltb-true, ltb-false}
+use Rattle.std.proofs.Common.{◌≡◌, ◌≢◌, suc, ◌==◌, ◌<◌, ℕ, IsTrue, Bool, true, false, cond, List, [], ◌∷◌, ◌++◌, Option, Some, None, MatchOption, length, refl, sym, ap, ◌∙◌, eqb-true, append_assoc, append-nil, arith}
+use Rattle.std.proofs.lemmas.Bool.{false≢true}
 use Rattle.std.proofs.lemmas.List.Concat.{flat_map-append}
-use Rattle.ts_name.specs.Paths.{is_escaped, upper_hex_digit, byte_text, name_text}
+use Rattle.ts_name.specs.Paths.{is_escaped, byte_text, name_text}
 use Rattle.ts_name.proofs.Utf8.{all_append}
+use Rattle.ts_name.proofs.Spelling.{byte_one}
 use Rattle.ts_name.specs.Escapes.{digits, AreBytes, HasNoDigits, HasNoByte, HasNoBytes}
-
--- ---- digits
-
--- different numbers have different digits
-pub same_digit : (m n : ℕ) → m < 16 → n < 16 → upper_hex_digit m ≡ upper_hex_digit n → m ≡ n
-same_digit m n h k e = go (ltb m 10) (ltb n 10) refl refl e
-  where
-    go : (s t : Bool) → ltb m 10 ≡ s → ltb n 10 ≡ t → cond s (48 + m) (55 + m) ≡ cond t (48 + n) (55 + n) → m ≡ n
-    go true true f g e = omega arith
-    go true false f g e = absurd (omega (arith, ltb-true m 10 f, ltb-false n 10 g))
-    go false true f g e = absurd (omega (arith, ltb-false m 10 f, ltb-true n 10 g))
-    go false false f g e = omega arith
-
--- different bytes have different digits
-pub same_digits : (b c : ℕ) (rest more : List ℕ) → b < 256 → c < 256 → digits b ++ rest ≡ digits c ++ more → (b ≡ c) × (rest ≡ more)
-same_digits b c rest more h k e =
-    let first : upper_hex_digit (b / 16) ≡ upper_hex_digit (c / 16) = cc in
-    let second : upper_hex_digit (b % 16) ≡ upper_hex_digit (c % 16) = cc in
-    let high = same_digit (b / 16) (c / 16) (omega arith) (omega arith) first in
-    let low = same_digit (b % 16) (c % 16) (omega arith) (omega arith) second in
-    (omega arith, cc)
-
--- a byte has its text in one way
-pub same_byte : (b c : ℕ) (rest more : List ℕ) → b < 256 → c < 256 → byte_text b ++ rest ≡ byte_text c ++ more → (b ≡ c) × (rest ≡ more)
-same_byte b c rest more h k e = go (is_escaped b) (is_escaped c) refl refl e
-  where
-    go : (s t : Bool) → is_escaped b ≡ s → is_escaped c ≡ t → cond s (37 ∷ digits b) (b ∷ []) ++ rest ≡ cond t (37 ∷ digits c) (c ∷ []) ++ more → (b ≡ c) × (rest ≡ more)
-    go true true f g e = same_digits b c rest more h k cc
-    go true false f g e =
-        let is : c ≡ 37 = cc in absurd (false≢true (sym g ∙ ap is_escaped is))
-    go false true f g e =
-        let is : b ≡ 37 = cc in absurd (false≢true (sym f ∙ ap is_escaped is))
-    go false false f g e = (let s : b ≡ c = cc in s, let s : rest ≡ more = cc in s)
 
 -- ---- a text, read so far
 
@@ -69,7 +37,7 @@ ReadSoFar-more text rest bytes after b g small e = record {
   where
     next : ((tail : List ℕ) × AreBytes tail × (rest ≡ name_text tail)) → (tail : List ℕ) × AreBytes tail × (after ≡ name_text tail)
     next ([], fit, f) = absurd (empty_text b after (sym e ∙ f))
-    next (c ∷ tail, fit, f) = (tail, fit.1, (same_byte b c after (name_text tail) small fit.0 (sym e ∙ f)).1)
+    next (c ∷ tail, fit, f) = (tail, fit.1, (byte_one b c after (name_text tail) (sym e ∙ f)).1)
 
 pub ReadSoFar-stuck : (text rest bytes : List ℕ) → ReadSoFar text rest bytes → rest ≢ [] → HasNoByte rest → HasNoBytes text
 ReadSoFar-stuck text rest bytes g some stuck all fit e = next (g.more all fit e)
@@ -98,15 +66,6 @@ shorter_byte b rest after e = go (is_escaped b) e
     go : (s : Bool) → rest ≡ cond s (37 ∷ digits b) (b ∷ []) ++ after → length after < length rest
     go true e = omega (arith, ap length e)
     go false e = omega (arith, ap length e)
-
--- bytes have their text in one way
-pub same_text : (x y : List ℕ) → AreBytes x → AreBytes y → name_text x ≡ name_text y → x ≡ y
-same_text [] [] h k e = refl
-same_text [] (c ∷ y) h k e = absurd (empty_text c (name_text y) (sym e))
-same_text (b ∷ x) [] h k e = absurd (empty_text b (name_text x) e)
-same_text (b ∷ x) (c ∷ y) h k e =
-    let parts = same_byte b c (name_text x) (name_text y) h.0 k.0 e in
-    ap₂ ◌∷◌ parts.0 (same_text x y h.1 k.1 parts.1)
 
 -- the test for no bytes
 pub nothing : (xs : List ℕ) (r : Bool) → r ≡ (length xs == 0) → r ≡ true → xs ≡ []

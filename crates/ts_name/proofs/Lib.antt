@@ -1,7 +1,9 @@
+pub mod Basics
 pub mod Buffers
 pub mod Prefixes
 pub mod Texts
 pub mod Order
+pub mod Spelling
 pub mod Escapes
 pub mod Utf8
 pub mod Parsing

@@ -1,17 +1,18 @@
--- The order of names and of paths, and their equality tests.
-use Rattle.std.proofs.Common.{◌≡◌, ◌≢◌, ◌⊎◌, ◌==◌, ℕ, true, false, eqb, ltb, List, [], ◌∷◌, ◌++◌, Ordering, Less, Equal, Greater, nat_cmp, refl, sym, ap, ap₂, subst, ◌∙◌, inl, inr, eqb-true, append-nil, arith}
+-- The order of names and of paths, what it says of paths above one another, and their equality tests.
+use Rattle.std.proofs.Common.{◌≡◌, ◌≢◌, ◌⊎◌, ⊎_elim, ◌==◌, ℕ, true, false, eqb, ltb, List, [], ◌∷◌, ◌++◌, Ordering, Less, Equal, Greater, nat_cmp, refl, sym, ap, ap₂, subst, ◌∙◌, inl, inr, eqb-true, append-nil, arith}
 use Rattle.std.proofs.lemmas.Bool.{cond-true, cond-false, false_from_ne_true, true≢false, lt-ltb, ltb-true}
 use Rattle.std.proofs.lemmas.Bool.Decides.{same_from_decides}
 use Rattle.std.proofs.lemmas.Cmp.{nat_list_cmp_total, tied_itself}
 use Rattle.std.proofs.lemmas.Map.Lookups.{exact_bytes}
 use Rattle.std.specs.Cmp.Lexicographic.{slice_cmp}
-use Rattle.std.specs.Ordering.{ordering_then, ordering_reverse, is_gt}
+use Rattle.std.specs.Ordering.{ordering_then, ordering_reverse, is_gt, is_lt}
 use Rattle.ts_name.specs.Paths.{Name, Path, IsAbove, IsBefore, path_cmp, same_name, same_path}
 use Rattle.ts_name.specs.Buffers.{pieces, ended, HasNo}
 use Rattle.ts_name.proofs.Buffers.{AreFree, Holds, bytes_held, free_held}
+use Rattle.ts_name.proofs.Prefixes.{above_itself}
 use Rattle.std.proofs.lemmas.Slice.Eq.{bytes_eq-Decides}
 use Rattle.std.specs.Cmp.Lexicographic.{pointwise}
-use Rattle.ts_name.specs.Laws.{path_total, tied_paths, path_itself, same_path_equal, same_path_itself, same_name_equal, same_name_itself}
+use Rattle.ts_name.specs.Laws.{path_total, tied_paths, path_itself, path_turned, same_path_equal, same_path_itself, same_name_equal, same_name_itself}
 
 -- ---- the order of paths is that of their buffers
 
@@ -72,6 +73,10 @@ before_itself p h = let same : path_cmp p p ≡ Equal = path_itself p in cc
 pub before_trans : (p q r : Path) → IsBefore p q → IsBefore q r → IsBefore p r
 before_trans p q r h k = path_total.trans p q r h k
 
+-- what comes after another has that before it
+pub before_flip : (p q : Path) → path_cmp p q ≡ Greater → IsBefore q p
+before_flip p q e = path_total.antisymm q p ∙ ap ordering_reverse e
+
 -- one is before the other, or they are equal
 pub before_cases : (p q : Path) → IsBefore p q ⊎ ((p ≡ q) ⊎ IsBefore q p)
 before_cases p q = go (path_cmp p q) refl
@@ -79,7 +84,7 @@ before_cases p q = go (path_cmp p q) refl
     go : (o : Ordering) → path_cmp p q ≡ o → IsBefore p q ⊎ ((p ≡ q) ⊎ IsBefore q p)
     go Less e = inl e
     go Equal e = inr (inl (tied_paths p q e))
-    go Greater e = inr (inr (path_total.antisymm q p ∙ ap ordering_reverse e))
+    go Greater e = inr (inr (before_flip p q e))
 
 -- and only one of the three
 pub before_turned : (p q : Path) → IsBefore p q → ¬ IsBefore q p
@@ -101,6 +106,19 @@ pub above_first : (p q : Path) → IsAbove p q → (p ≡ q) ⊎ IsBefore p q
 above_first p q ([], e) = inl (sym (append-nil p) ∙ sym e)
 above_first p q (name ∷ rest, e) = inr (subst (λ z. IsBefore p z) (sym e) (before_below p name rest))
 
+-- so it comes before it where they differ
+pub before_from_above : (p q : Path) → IsAbove p q → p ≢ q → IsBefore p q
+before_from_above p q h differ = ⊎_elim (λ e. absurd (differ e)) (λ before. before) (above_first p q h)
+
+-- what comes before a path comes before what is below it
+pub before_all_below : (q p rest : Path) → IsBefore q p → IsBefore q (p ++ rest)
+before_all_below q p [] h = subst (λ z. IsBefore q z) (sym (append-nil p)) h
+before_all_below q p (name ∷ rest) h = before_trans q p (p ++ name ∷ rest) h (before_below p name rest)
+
+-- and isn't below it
+pub before_not_below : (q p : Path) → IsBefore q p → ¬ IsAbove p q
+before_not_below q p h above = before_itself q (subst (λ z. IsBefore q z) (sym above.1) (before_all_below q p above.0 h))
+
 -- ---- what is at or below a path stands together
 
 -- between two paths below p all are below p
@@ -121,6 +139,30 @@ between (n ∷ p) a (m ∷ b) c (x, e) (y, i) f g =
         let found = more (sym (ap (λ o. is_gt (ordering_then o (path_cmp (p ++ x) b))) h) ∙ f) (sym (ap (λ o. is_gt (ordering_then o (path_cmp b (p ++ y)))) back) ∙ g) in
         (found.0, ap₂ ◌∷◌ (sym same) found.1)
     go Greater h f g more = absurd (true≢false (sym (ap (λ o. is_gt (ordering_then o (path_cmp (p ++ x) b))) h) ∙ f))
+
+-- as what stands between a path and something below it
+pub above_between : (p q r : Path) → IsAbove p r → IsBefore p q → IsBefore q r → IsAbove p q
+above_between p q r h first second = between p p q r (above_itself p) h (ap is_gt first) (ap is_gt second)
+
+-- or what isn't before the path, and is before something below it
+pub late_between : (p q r : Path) → is_lt (path_cmp q p) ≡ false → IsBefore q r → IsAbove p r → IsAbove p q
+late_between p q r late before above =
+    between p p q r (above_itself p) above (ap is_gt (path_turned p q) ∙ turned (path_cmp q p) late) (ap is_gt before)
+  where
+    turned : (o : Ordering) → is_lt o ≡ false → is_gt (ordering_reverse o) ≡ false
+    turned Less e = cc
+    turned Equal e = refl
+    turned Greater e = refl
+
+-- what comes after a path and isn't below it comes after all that is below it
+pub below_before : (p x r : Path) → IsBefore p r → ¬ IsAbove p r → IsBefore (p ++ x) r
+below_before p x r h off = elim (before_cases (p ++ x) r) [
+  | inl before ↦ before
+  | inr more ↦ elim more [
+    | inl e ↦ absurd (off (x, sym e))
+    | inr after ↦ absurd (off (above_between p r (p ++ x) (x, refl) h after))
+  ]
+]
 
 -- ---- by the bytes that hold the paths
 

@@ -1,11 +1,12 @@
 -- Paths above one another, and what is left below one.
 use Rattle.std.proofs.Common.{◌≡◌, ◌≢◌, ◌⊎◌, ◌↔◌, IsTrue, inl, inr, ⊎_elim, ap₂, subst, append_assoc, append-nil, ℕ, Bool, true, false, cond, eqb, List, [], ◌∷◌, ◌++◌, Option, Some, None, refl, sym, ap, ◌∙◌}
 use Rattle.std.proofs.lemmas.Bool.{cond-true, false≢true}
+use Rattle.std.proofs.lemmas.List.{append_cancel_left}
 use Rattle.ts_name.specs.Paths.{Name, Path, IsAbove, same_name, below}
 use Rattle.std.specs.List.{starts_with}
 use Rattle.ts_name.specs.Buffers.{pieces, ended, HoldsParent}
 use Rattle.ts_name.specs.Laws.{same_name_equal, same_name_itself}
-use Rattle.ts_name.proofs.Buffers.{Holds, append_cancel, above_from_bytes, bytes_from_above, prefix_answer}
+use Rattle.ts_name.proofs.Buffers.{Holds, above_from_bytes, bytes_from_above, prefix_answer}
 
 -- what follows a path is left below it
 pub below_append : (p rest : Path) → below p (p ++ rest) ≡ Some rest
@@ -30,12 +31,16 @@ below_none p q n = go (below p q) refl
     go None e = refl
     go (Some rest) e = absurd (n (rest, below_gives p q rest e))
 
+-- and only there
+pub not_above : (p q : Path) → below p q ≡ None → ¬ IsAbove p q
+not_above p q e h = let f = below_append p h.0 in let g : below p (p ++ h.0) ≡ None = ap (below p) (sym h.1) ∙ e in cc
+
 -- whether a path is above another
 pub decide_above : (p q : Path) → Dec (IsAbove p q)
 decide_above p q = go (below p q) refl
   where
     go : (o : Option Path) → below p q ≡ o → Dec (IsAbove p q)
-    go None e = no (λ h. let f = below_append p h.0 in let g : below p (p ++ h.0) ≡ None = ap (below p) (sym h.1) ∙ e in cc)
+    go None e = no (not_above p q e)
     go (Some rest) e = yes (rest, below_gives p q rest e)
 
 -- a path is above itself
@@ -49,7 +54,12 @@ above_trans p q r (x, e) (y, f) = (x ++ y, f ∙ ap (λ z. z ++ y) e ∙ append_
 -- no path is strictly below itself
 pub not_below_itself : (p : Path) (name : Name) (rest : Path) → p ≢ p ++ name ∷ rest
 not_below_itself p name rest e =
-    let f : [] ≡ name ∷ rest = append_cancel p [] (name ∷ rest) (append-nil p ∙ e) in cc
+    let f : [] ≡ name ∷ rest = append_cancel_left p [] (name ∷ rest) (append-nil p ∙ e) in cc
+
+-- the root is strictly below no path
+pub root_not_below : (p : Path) (name : Name) (rest : Path) → [] ≢ p ++ name ∷ rest
+root_not_below [] name rest e = cc
+root_not_below (n ∷ p) name rest e = cc
 
 -- paths above one another are equal
 pub above_turned : (p q : Path) → IsAbove p q → IsAbove q p → p ≡ q
@@ -113,22 +123,22 @@ last_name (n ∷ p) = elim (last_name p) [
 ]
 
 -- a path with a last name is not the root
-pub push_not_empty : (p : Path) (name : Name) → p ++ name ∷ [] ≢ []
-push_not_empty [] name e = cc
-push_not_empty (n ∷ p) name e = cc
+pub snoc_not_empty : (p : Path) (name : Name) → p ++ name ∷ [] ≢ []
+snoc_not_empty [] name e = cc
+snoc_not_empty (n ∷ p) name e = cc
 
 -- one path has one parent
 pub same_parent : (p q : Path) (m n : Name) → p ++ m ∷ [] ≡ q ++ n ∷ [] → p ≡ q
 same_parent [] [] m n e = refl
-same_parent [] (y ∷ q) m n e = absurd (push_not_empty q n (let f : q ++ n ∷ [] ≡ [] = cc in f))
-same_parent (x ∷ p) [] m n e = absurd (push_not_empty p m (let f : p ++ m ∷ [] ≡ [] = cc in f))
+same_parent [] (y ∷ q) m n e = absurd (snoc_not_empty q n (let f : q ++ n ∷ [] ≡ [] = cc in f))
+same_parent (x ∷ p) [] m n e = absurd (snoc_not_empty p m (let f : p ++ m ∷ [] ≡ [] = cc in f))
 same_parent (x ∷ p) (y ∷ q) m n e = let f = same_parent p q m n cc in cc
 
 -- and one last name
 pub same_last : (p q : Path) (m n : Name) → p ++ m ∷ [] ≡ q ++ n ∷ [] → m ≡ n
 same_last p q m n e =
     let parents = same_parent p q m n e in
-    let f : m ∷ [] ≡ n ∷ [] = append_cancel p (m ∷ []) (n ∷ []) (e ∙ ap (λ z. z ++ n ∷ []) (sym parents)) in cc
+    let f : m ∷ [] ≡ n ∷ [] = append_cancel_left p (m ∷ []) (n ∷ []) (e ∙ ap (λ z. z ++ n ∷ []) (sym parents)) in cc
 
 -- ---- by the bytes that hold the paths
 

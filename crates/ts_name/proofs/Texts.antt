@@ -1,16 +1,16 @@
 -- The texts of paths.
-use Rattle.std.proofs.Common.{◌≡◌, ◌≢◌, ⊎_elim, ◌==◌, ◌<◌, ◌≤◌, ◌+◌, ◌*◌, ◌/◌, ◌%◌, ◌&&◌, ◌||◌, ltb, sum_by, ap₂, length-append, arith, ℕ, Bool, true, false, cond, List, [], ◌∷◌, ◌++◌, take, length, flat_map, refl, sym, ap, subst, ◌∙◌, append_assoc, append-nil}
-use Rattle.std.proofs.lemmas.Bool.{false≢true, le-leb, cases_lt}
-use Rattle.std.proofs.lemmas.List.{take_at}
+use Rattle.std.proofs.Common.{◌≡◌, ◌≢◌, ◌==◌, ◌<◌, ◌≤◌, ◌+◌, ◌*◌, ◌/◌, ◌%◌, sum_by, length-append, arith, ℕ, Bool, true, false, cond, List, [], ◌∷◌, ◌++◌, take, length, flat_map, refl, sym, ap, subst, ◌∙◌, append_assoc, append-nil}
+use Rattle.std.proofs.lemmas.List.{append_cancel_right, take_at}
 use Rattle.std.proofs.lemmas.List.Sums.{sum_by-cons}
 use Rattle.std.proofs.lemmas.List.Concat.{flat_map-append}
 use Rattle.std.specs.List.{AllByRecursion}
-use Rattle.ts_name.specs.Paths.{Name, Path, IsName, IsPath, is_escaped, upper_hex_digit, byte_text, name_text, path_text, Spells, IsPathText, HasNoNames}
+use Rattle.ts_name.specs.Paths.{Name, Path, IsPath, is_escaped, upper_hex_digit, byte_text, name_text, path_text, Spells, IsPathText, HasNoNames}
 use Rattle.ts_name.specs.Escapes.{AreBytes, HasNoBytes}
-use Rattle.ts_name.proofs.Escapes.{name_text-append, same_text}
-use Rattle.ts_name.proofs.Utf8.{all_append, fit_from_names, AreBytes-from_utf8}
+use Rattle.ts_name.proofs.Escapes.{name_text-append}
+use Rattle.ts_name.proofs.Utf8.{fit_from_names, all_append}
 use Rattle.ts_name.specs.Buffers.{in_front, pieces, ended, IsWhole, HasNo}
-use Rattle.ts_name.proofs.Buffers.{AreFree, Holds, append_cancel, push_cancel, pieces_name, pieces_all, pieces_free, IsWhole-push, whole_rest, whole_without, free_from_names, slash_free_from_names}
+use Rattle.ts_name.proofs.Buffers.{AreFree, Holds, pieces_name, pieces_free, IsWhole-push, whole_rest, whole_without, slash_free_from_names}
+use Rattle.ts_name.proofs.Spelling.{one_path_text}
 
 pub path_text-append : (p q : Path) → path_text (p ++ q) ≡ path_text p ++ path_text q
 path_text-append p q = flat_map-append (λ name. 47 ∷ name_text name) p q
@@ -81,17 +81,9 @@ pub free_spelled : (p : Path) → AreSpelled p → AreFree 47 p
 free_spelled [] h = tt
 free_spelled (name ∷ p) h = (free_part name h.0, free_spelled p h.1)
 
-ended_bytes : (p : Path) → AreSpelled p → AreBytes (ended 47 p)
-ended_bytes [] h = tt
-ended_bytes (name ∷ p) h =
-    all_append (λ b. b < 256) (name ++ 47 ∷ []) (ended 47 p) (all_append (λ b. b < 256) name (47 ∷ []) (bytes_part name h.0) (omega arith, tt)) (ended_bytes p h.1)
-
 -- a text spells names in one way
 pub spelled_once : (text : List ℕ) (p q : Path) → Spells text p → Spells text q → p ≡ q
-spelled_once text p q h k =
-    let texts : 47 ∷ name_text (ended 47 p) ≡ 47 ∷ name_text (ended 47 q) = sym (path_text_ended p) ∙ ap (λ z. z ++ 47 ∷ []) (sym h.1 ∙ k.1) ∙ path_text_ended q in
-    let same : ended 47 p ≡ ended 47 q = same_text (ended 47 p) (ended 47 q) (ended_bytes p h.0) (ended_bytes q k.0) (append_cancel (47 ∷ []) _ _ texts) in
-    sym (pieces_all 47 p (free_spelled p h.0)) ∙ ap (pieces 47) same ∙ pieces_all 47 q (free_spelled q k.0)
+spelled_once text p q h k = one_path_text p q (free_spelled p h.0) (free_spelled q k.0) (sym h.1 ∙ k.1)
 
 front_each : (P : ℕ → Type 0) (b : ℕ) (p : Path) → P b → AllByRecursion (AllByRecursion P) p → AllByRecursion (AllByRecursion P) (in_front b p)
 front_each P b [] h k = ((h, tt), tt)
@@ -119,7 +111,7 @@ Spells-from text body fit e =
     let p = pieces 47 all in
     let fits : AreBytes all = all_append (λ b. b < 256) body (47 ∷ []) fit (omega arith, tt) in
     let texts : path_text p ++ 47 ∷ [] ≡ text ++ 47 ∷ [] = path_text_ended p ∙ ap (λ z. 47 ∷ name_text z) (IsWhole-push 47 body).again ∙ ap (λ z. 47 ∷ z) (name_text-append body (47 ∷ [])) ∙ ap (λ z. z ++ 47 ∷ []) (sym e) in
-    (AreSpelled-from p (pieces_free 47 all) (pieces_each (λ b. b < 256) 47 all fits), sym (push_cancel _ _ 47 texts))
+    (AreSpelled-from p (pieces_free 47 all) (pieces_each (λ b. b < 256) 47 all fits), sym (append_cancel_right _ _ (47 ∷ []) texts))
 
 -- the names of a path with `/` before each
 abbrev slashed : Path → List ℕ
@@ -158,39 +150,9 @@ Spells-from_text text p h =
 pub root_text : IsPathText [] []
 root_text = (record { names = tt; depth = omega arith; size = omega arith }, refl)
 
--- ---- what the text of a path is made of
+-- ---- how long the text of a path is
 
-digit_plain : (n : ℕ) → n < 16 → (32 < upper_hex_digit n) × (upper_hex_digit n < 127)
-digit_plain n h = go (ltb n 10)
-  where
-    go : (s : Bool) → (32 < cond s (48 + n) (55 + n)) × (cond s (48 + n) (55 + n) < 127)
-    go true = (omega arith, omega arith)
-    go false = (omega arith, omega arith)
-
-written_as_is : (b : ℕ) → b ≢ 0 → is_escaped b ≡ false → 32 < b
-written_as_is b n e = ⊎_elim (λ h. h) (λ h. absurd (false≢true (sym e ∙ ap₂ (λ x y. (x && y) || ((b == 127) || (b == 37))) (le-leb 1 b (omega arith)) (le-leb b 32 h)))) (cases_lt 32 b)
-
-byte_text_plain : (b : ℕ) → b ≢ 0 → b < 256 → AllByRecursion (λ c. (32 < c) × (c < 256)) (byte_text b)
-byte_text_plain b n small = go (is_escaped b) refl
-  where
-    go : (s : Bool) → is_escaped b ≡ s → AllByRecursion (λ c. (32 < c) × (c < 256)) (cond s (37 ∷ upper_hex_digit (b / 16) ∷ upper_hex_digit (b % 16) ∷ []) (b ∷ []))
-    go true e =
-        let high = digit_plain (b / 16) (omega arith) in
-        let low = digit_plain (b % 16) (omega arith) in
-        ((omega arith, omega arith), ((high.0, omega arith), ((low.0, omega arith), tt)))
-    go false e = ((written_as_is b n e, small), tt)
-
-name_text_plain : (name : Name) → HasNo 0 name → AreBytes name → AllByRecursion (λ c. (32 < c) × (c < 256)) (name_text name)
-name_text_plain [] h k = tt
-name_text_plain (b ∷ name) h k =
-    all_append (λ c. (32 < c) × (c < 256)) (byte_text b) (name_text name) (byte_text_plain b h.0 k.0) (name_text_plain name h.1 k.1)
-
--- bytes, and among them no space, no line feed and no other control character below them
-pub path_text_plain : (p : Path) → AllByRecursion IsName p → AllByRecursion (λ c. (32 < c) × (c < 256)) (path_text p)
-path_text_plain [] h = tt
-path_text_plain (name ∷ p) h =
-    ((omega arith, omega arith), all_append (λ c. (32 < c) × (c < 256)) (name_text name) (path_text p) (name_text_plain name (free_from_names (name ∷ []) (h.0, tt)).0 (AreBytes-from_utf8 name h.0.utf8)) (path_text_plain p h.1))
-
+-- at most three bytes for one
 byte_text_long : (b : ℕ) → length (byte_text b) ≤ 3
 byte_text_long b = go (is_escaped b)
   where
@@ -214,8 +176,3 @@ pub path_text_short : (p : Path) → IsPath p → length (path_text p) ≤ 12352
 path_text_short p h =
     let deep = h.depth in
     let long = h.size in omega (arith, path_text_long p)
-
--- lawful paths with one text are equal
-pub one_text : (p q : Path) → IsPath p → IsPath q → path_text p ≡ path_text q → p ≡ q
-one_text p q h k e =
-    spelled_once (path_text p) p q (Spells-from_text (path_text p) p (h, refl)) (Spells-from_text (path_text p) q (k, e))

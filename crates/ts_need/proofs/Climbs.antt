@@ -5,7 +5,7 @@ use Rattle.std.proofs.lemmas.Option.{none-some, same_Some}
 use Rattle.ts_name.specs.Paths.{Name, Path, IsAbove}
 use Rattle.ts_model.specs.Holds.{Names}
 use Rattle.ts_model.specs.declared.hold.Rule.{Rule}
-use Rattle.ts_laws.proofs.Paths.{above_parent}
+use Rattle.ts_name.proofs.Prefixes.{above_parent}
 use Rattle.ts_need.specs.Needs.{IsNamedAbove}
 
 -- the named paths strictly above p are at or above this one

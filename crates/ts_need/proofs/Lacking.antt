@@ -1,5 +1,5 @@
 -- Paths with a reason that are no entries.
-use Rattle.std.proofs.Common.{◌≡◌, ◌≢◌, ◌⊎◌, ℕ, zero, suc, ◌+◌, ◌<◌, ◌≤◌, Bool, true, false, cond, List, [], ◌∷◌, ◌++◌, length, get_or, count_by, MatchOption, IfSome, IfNone, Option, Some, None, Result, Ok, Err, slice_get, Less, Equal, Greater, sym, refl, ap, ◌∙◌, subst, inl, inr, append-nil, arith}
+use Rattle.std.proofs.Common.{◌≡◌, ◌≢◌, ◌⊎◌, ℕ, zero, suc, ◌+◌, ◌<◌, ◌≤◌, Bool, true, false, cond, List, [], ◌∷◌, length, get_or, count_by, MatchOption, IfSome, IfNone, Option, Some, None, Result, Ok, Err, slice_get, Less, Equal, Greater, sym, refl, ap, ◌∙◌, subst, inl, inr, arith}
 use Rattle.std.specs.Ordering.{is_lt, ordering_index}
 use Rattle.std.specs.List.Sorted.{IsBinarySearchResult, IsSearchInRange, IsNonDecreasingBy}
 use Rattle.std.specs.Result.{result_err}
@@ -7,48 +7,38 @@ use Rattle.std.proofs.lemmas.Bool.{cases_eq, cases_lt}
 use Rattle.std.proofs.lemmas.Cmp.{tied_itself}
 use Rattle.std.proofs.lemmas.List.Sums.{sum_by-cons}
 use Rattle.std.proofs.lemmas.Option.{same_Some, slice_get_within, get_or_from_slice_get}
-use Rattle.ts_name.specs.Paths.{Path, IsBefore, path_cmp}
+use Rattle.ts_name.specs.Paths.{Path, path_cmp}
 use Rattle.ts_table.proofs.Found.{rises}
-use Rattle.ts_table.proofs.Paths.{path_total, tied_paths}
-use Rattle.ts_laws.proofs.Basics.{stable, same_stamp_at, by_each}
-use Rattle.ts_laws.proofs.Paths.{decide_before, before_trans, IsRooted-from_tree, nothing_below}
-use Rattle.ts_laws.proofs.Paths.{snoc_not_empty}
-use Rattle.ts_model.specs.Sync.{Snapshot, IsSnapshot, Because, HasReason, listed_snapshot}
+use Rattle.ts_name.specs.Laws.{path_total, tied_paths}
+use Rattle.ts_name.proofs.Prefixes.{snoc_not_empty}
+use Rattle.ts_laws.proofs.Basics.{same_stamp_at}
+use Rattle.ts_model.specs.Sync.{Snapshot, listed_snapshot}
+use Rattle.ts_laws.proofs.Reasons.{IsWhole-from_snapshot}
+use Rattle.ts_laws.proofs.Rules.{nowhere_no_reason}
 use Rattle.ts_model.specs.Plans.{IsOutOfOrder, Lacks}
-use Rattle.ts_model.specs.Trees.{Listing, IsListing, IsTree, Print, at, sub}
+use Rattle.ts_model.specs.Trees.{Listing, IsListing, at}
 use Rattle.ts_model.specs.declared.hold.Rule.{Rule}
 use Rattle.ts_model.specs.declared.plan.Entry.{Entry}
-use Rattle.ts_model.specs.declared.plan.Reason.{Reason}
-use Rattle.ts_model.specs.declared.plan.Reason.TheVariants as reason
-use Rattle.ts_model.specs.declared.row.Content.{Content}
 use Rattle.ts_model.specs.declared.row.Content.TheVariants.{Absent, Dir}
 use Rattle.ts_model.specs.declared.row.Row.{Row}
 use Rattle.ts_model.specs.declared.row.Stamp.{Stamp}
-use Rattle.ts_need.proofs.Listed.{held_at, listed_row, at_listed}
+use Rattle.ts_need.proofs.Listed.{listed_row, at_listed}
+use Rattle.ts_laws.proofs.Lists.{element_at}
+use Rattle.ts_laws.proofs.Plans.{entries_in_order}
 use Rattle.ts_need.proofs.Touches.{listed_lawful}
 use Rattle.ts_need.specs.Needs.{IsFirst, LacksAt, LacksAmong, lesser_of}
 
 -- ---- entries in order
 
 module _ (entries : List Entry) (order : (k : ℕ) → ¬ IsOutOfOrder entries k) where
-  -- each entry comes before the next, and before each later one
-  pub in_order : (k l : ℕ) (x y : Entry) → slice_get entries k ≡ Some x → slice_get entries l ≡ Some y → k < l → IsBefore x.path y.path
-  in_order k zero x y is_x is_y h = absurd (omega arith)
-  in_order k (suc l) x y is_x is_y h = elim (cases_eq k l) [
-    | inl e ↦ stable (decide_before x.path y.path) (λ n. order (suc l) (l, x, y, omega arith, subst (λ z. slice_get entries z ≡ Some x) e is_x, is_y, n))
-    | inr differ ↦ (
-        let here = held_at entries l (let within = slice_get_within entries (suc l) y is_y in omega arith) in
-        before_trans x.path here.0.path y.path (in_order k l x here.0 is_x here.1 (omega arith)) (stable (decide_before here.0.path y.path) (λ n. order (suc l) (l, here.0, y, omega arith, here.1, is_y, n))))
-  ]
-
   -- the answers of comparisons with one path rise
   pub entries_rise : (p : Path) → IsNonDecreasingBy (λ (entry : Entry). ordering_index (path_cmp entry.path p)) entries
   entries_rise p i j d le under = elim (cases_eq i j) [
     | inl same ↦ (let f = ap (λ k. ordering_index (path_cmp (get_or entries k d).path p)) same in omega (arith, f))
     | inr differ ↦ (
-        let x = held_at entries i (omega arith) in
-        let y = held_at entries j under in
-        let before = in_order i j x.0 y.0 x.1 y.1 (omega arith) in
+        let x = element_at entries i (omega arith) in
+        let y = element_at entries j under in
+        let before = entries_in_order entries order i j x.0 y.0 x.1 y.1 (omega arith) in
         let two : Listing Stamp = record { path = x.0.path; content = Dir } ∷ record { path = y.0.path; content = Dir } ∷ [] in
         let h = rises two p (before, tt) 0 1 (record { path = x.0.path; content = Dir }) (omega arith) (omega arith) in
         subst (λ (z : Entry). ordering_index (path_cmp z.path p) ≤ ordering_index (path_cmp (get_or entries j d).path p)) (sym (get_or_from_slice_get entries i x.0 d x.1))
@@ -58,7 +48,7 @@ module _ (entries : List Entry) (order : (k : ℕ) → ¬ IsOutOfOrder entries k
   -- what a search for a path finds
   pub entry_there : (p : Path) (i : ℕ) → i < length entries → ((d : Entry) → path_cmp (get_or entries i d).path p ≡ Equal) → (k : ℕ) × (entry : Entry) × (slice_get entries k ≡ Some entry) × (entry.path ≡ p)
   entry_there p i within tied =
-      let x = held_at entries i within in
+      let x = element_at entries i within in
       (i, x.0, x.1, tied_paths x.0.path p (subst (λ (z : Entry). path_cmp z.path p ≡ Equal) (get_or_from_slice_get entries i x.0 x.0 x.1) (tied x.0)))
 
 -- counting what passes before a place, where nothing passes from there on
@@ -115,25 +105,6 @@ pub search_absent : (entries : List Entry) (p : Path) (o : Option ℕ) → Match
     → IfSome o (λ _. (k : ℕ) (entry : Entry) → slice_get entries k ≡ Some entry → entry.path ≢ p) × IfSome o (λ place. place ≡ count_by (λ e. is_lt (path_cmp e.path p)) entries)
 search_absent entries p None h = (tt, tt)
 search_absent entries p (Some k) h = h
-
--- nothing at a path and nothing below it: no reason
-nowhere : (s : Snapshot) → IsSnapshot s → (p : Path) → s.first p ≡ Absent → s.second p ≡ Absent → s.archive p ≡ Absent → (r : Reason) → ¬ HasReason s p r
-nowhere s lawful p no_first no_second no_archive r has = go r has.1
-  where
-    empty : (t : Print) → IsTree t → t p ≡ Absent → (rest : Path) → t (p ++ rest) ≡ Absent
-    empty t tree none [] = ap t (append-nil p) ∙ none
-    empty t tree none (name ∷ rest) = nothing_below same_stamp_at (IsRooted-from_tree tree) p name rest (λ dir. let f : ◌≡◌ {A = Content Stamp} Dir Absent = sym dir ∙ none in cc)
-
-    agree : sub s.first p ≡ sub s.second p
-    agree = by_each (sub s.first p) (sub s.second p) (λ rest. empty s.first lawful.first no_first rest ∙ sym (empty s.second lawful.second no_second rest))
-
-    go : (r : Reason) → Because s p r → ⊥
-    go reason.Dir h = let e : ◌≡◌ {A = Content Stamp} Absent Dir = sym no_first ∙ h.0.0 in cc
-    go reason.Same h = h.2.1 (empty s.first lawful.first no_first h.2.0 ∙ sym (empty s.archive lawful.archive no_archive h.2.0))
-    go reason.First h = h.1 agree
-    go reason.Second h = h.1 agree
-    go reason.Conflict h = h.1 agree
-    go reason.Held h = h.1 agree
 
 -- ---- the least of several
 
@@ -192,7 +163,7 @@ module _ (xs ys zs : Listing Stamp) (rules : List Rule) (a : IsListing xs) (b : 
           | no there ↦ none (inr (inl (among zs lacks.0 some there place here)))
           | yes no_second ↦ elim (same_stamp_at (at xs lacks.0) Absent) [
             | no there ↦ none (inr (inr (among xs lacks.0 some there place here)))
-            | yes no_archive ↦ nowhere (listed_snapshot xs ys zs rules) (listed_lawful xs ys zs rules a b c) lacks.0 no_first no_second no_archive lacks.1 lacks.2
+            | yes no_archive ↦ nowhere_no_reason (listed_snapshot xs ys zs rules) (IsWhole-from_snapshot (listed_snapshot xs ys zs rules) (listed_lawful xs ys zs rules a b c)) lacks.0 lacks.1 no_first no_second no_archive lacks.2
           ]
         ]
       ]

@@ -1,4 +1,3 @@
-pub mod Between
 pub mod Listed
 pub mod Climbs
 pub mod Touches

@@ -1,5 +1,5 @@
 -- Elements of lists and rows of listings by their places.
-use Rattle.std.proofs.Common.{◌≡◌, ◌≢◌, ◌⊎◌, ℕ, zero, suc, ◌<◌, ◌≤◌, Bool, true, false, cond, List, [], ◌∷◌, ◌++◌, length, get_or, Any, All, Some, slice_get, sym, refl, ap₂, ◌∙◌, subst, arith}
+use Rattle.std.proofs.Common.{◌≡◌, ◌≢◌, ℕ, zero, suc, ◌<◌, Bool, true, false, cond, List, [], ◌∷◌, length, get_or, Any, All, Some, slice_get, sym, refl, ap₂, ◌∙◌, subst, arith}
 use Rattle.std.specs.List.{AllByRecursion}
 use Rattle.std.proofs.lemmas.List.Elements.{All-filter, filter_passes}
 use Rattle.std.proofs.lemmas.Option.{none-some, same_Some, slice_get_within, slice_get_read, slice_get-get_or, get_or_from_slice_get}
@@ -8,19 +8,13 @@ use Rattle.ts_model.specs.Trees.{Listing, IsListing, listed, at}
 use Rattle.ts_model.specs.declared.row.Content.TheVariants.{Absent}
 use Rattle.ts_model.specs.declared.row.Row.{Row}
 use Rattle.ts_model.specs.declared.row.Stamp.{Stamp}
-use Rattle.ts_table.proofs.Paths.{same_path_equal}
+use Rattle.ts_name.specs.Laws.{same_path_equal}
 use Rattle.ts_table.proofs.Listings.{listed_at, listed_below, is_above_gives}
 use Rattle.ts_table.specs.Tables.{rows_below, is_above}
 
 -- what a loop reads of a list
 pub item_at : {A : Type 0} (xs : List A) (i : ℕ) (x : A) → i < length xs → x ≡ get_or xs i x → slice_get xs i ≡ Some x
 item_at {A} xs i x h e = slice_get_read xs (length xs) i x refl h e
-
--- a place within a list holds something
-pub held_at : {A : Type 0} (xs : List A) (k : ℕ) → k < length xs → (x : A) × (slice_get xs k ≡ Some x)
-held_at [] k h = absurd (omega arith)
-held_at (x ∷ xs) zero h = (x, refl)
-held_at (x ∷ xs) (suc k) h = held_at xs k (omega arith)
 
 -- lists with the same elements in the same places are the same
 pub same_lists : {A : Type 0} (xs ys : List A) → length xs ≡ length ys → ((k : ℕ) → k < length xs → slice_get xs k ≡ slice_get ys k) → xs ≡ ys

@@ -10,7 +10,7 @@ use Rattle.ts_model.specs.declared.row.Content.TheVariants.{Absent, Dir}
 use Rattle.ts_model.specs.declared.row.Row.{Row}
 use Rattle.ts_model.specs.declared.row.Stamp.{Stamp}
 use Rattle.ts_table.specs.Tables.{rows_below}
-use Rattle.ts_laws.proofs.Paths.{snoc_not_empty}
+use Rattle.ts_name.proofs.Prefixes.{snoc_not_empty}
 use Rattle.ts_laws.proofs.Listings.{IsTree-from_listing}
 use Rattle.ts_laws.proofs.Reasons.{IsWhole-from_snapshot, dirs_above_relevant}
 use Rattle.ts_need.proofs.Listed.{any_below, below_any}

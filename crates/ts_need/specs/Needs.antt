@@ -2,7 +2,7 @@
 --     snapshot_of state            the snapshot that the prints and the rules are of
 --     IsReasonOf s p found         the reason of p, or none where it has none
 --     FirstBroken s entries found  the lesser of the two rules about reasons that is broken, with its least place
-use Rattle.std.specs.Prelude.{◌≡◌, ◌≢◌, ◌⊎◌, Any, ℕ, ◌<◌, Bool, cond, ◌&&◌, List, [], ◌∷◌, ◌++◌, Option, Some, None, slice_get, min, count_by}
+use Rattle.std.specs.Prelude.{◌≡◌, ◌≢◌, ◌⊎◌, Any, ℕ, ◌<◌, Bool, cond, ◌&&◌, List, ◌∷◌, ◌++◌, Option, Some, None, slice_get, min, count_by}
 use Rattle.std.specs.Ordering.{is_lt}
 use Rattle.ts_name.specs.Paths.{Name, Path, path_cmp}
 use Rattle.ts_model.specs.declared.plan.PlanRule.TheVariants.{ReasonsHold, EntriesComplete}

@@ -7,7 +7,8 @@ use Rattle.ts_model.specs.declared.plan.Entry.{Entry}
 use Rattle.ts_model.specs.declared.plan.Kind.{Kind}
 use Rattle.ts_model.specs.declared.plan.Action.{Action}
 use Rattle.ts_model.specs.declared.plan.Plan.{Plan}
-use Rattle.ts_laws.proofs.Words.{all_append}
+use Rattle.ts_name.proofs.Spelling.{cons_parts}
+use Rattle.ts_name.proofs.Utf8.{all_append}
 use Rattle.ts_plan.specs.PlanLines.{line_text, LineFits}
 use Rattle.ts_plan.specs.Progress.{Progress, all_actions, plan_of, start, body_lines, fed_in, fed, step, step_in}
 use Rattle.ts_plan.specs.Reading.{IsLarge, IsProgress, Begins}
@@ -94,9 +95,6 @@ large q is = record {
 }
 
 -- ---- one list of lines has one spelling
-
-pub cons_parts : {A : Type 0} (x y : A) (xs ys : List A) → x ∷ xs ≡ y ∷ ys → (x ≡ y) × (xs ≡ ys)
-cons_parts x y xs ys e = (cc, cc)
 
 -- lines that begin as others do, and go on with one more
 begun : (xs ys : Lines) (one : Line) (rest : List Line) → AllFit xs → AllFit ys → map line_text xs ≡ map line_text ys ++ one ∷ rest

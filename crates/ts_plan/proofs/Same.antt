@@ -1,44 +1,15 @@
 -- A line is one line's.
-use Rattle.std.proofs.Common.{◌≡◌, ℕ, ◌+◌, ◌*◌, ◌^◌, ◌<◌, ◌==◌, if◌then◌else◌, List, ◌∷◌, ◌++◌, length, get_or, decimal, refl, sym, ap, ap₂, ◌∙◌, arith}
+use Rattle.std.proofs.Common.{◌≡◌, ℕ, ◌∷◌, ◌++◌, decimal, refl, sym, ap, ap₂, ◌∙◌, arith}
 use Rattle.std.proofs.lemmas.Fmt.{decimal_injective}
 use Rattle.ts_name.specs.Paths.{path_text}
+use Rattle.ts_name.proofs.Spelling.{cut_at, one_path}
 use Rattle.ts_model.specs.Texts.{reason_text}
-use Rattle.ts_model.specs.declared.plan.Reason.{Reason}
-use Rattle.ts_model.specs.declared.plan.Reason.TheVariants as reason
+use Rattle.ts_model.proofs.Spelling.{one_reason_text}
 use Rattle.ts_model.specs.declared.plan.Kind.TheVariants.{Piece, Commit, Mark}
-use Rattle.ts_laws.proofs.Words.{one_path}
-use Rattle.ts_plan.proofs.Words.{cut_word, number_parts, reason_word, front, tail, front_word, line_split}
+use Rattle.ts_plan.proofs.Words.{front, front_word, key, line_split, number_parts, reason_word, tail, wide}
 use Rattle.ts_plan.specs.PlanLines.{line_text, LineFits}
 use Rattle.ts_plan.specs.declared.line.PlanLine.{PlanLine}
 use Rattle.ts_plan.specs.declared.line.PlanLine.TheVariants as line
-
--- what a reason's text has to tell it by
-reason_key : List ℕ → ℕ
-reason_key text = 10 * length text + get_or text 0 0
-
--- the reason that it tells
-reason_of_key : ℕ → Reason
-reason_of_key n = if n == 155 then reason.Same else if n == 152 then reason.First else if n == 175 then reason.Second
-    else if n == 179 then reason.Conflict else if n == 144 then reason.Held else reason.Dir
-
-reason_back : (r : Reason) → reason_of_key (reason_key (reason_text r)) ≡ r
-unfolding reason_of_key reason_key
-reason_back reason.Same = refl
-reason_back reason.First = refl
-reason_back reason.Second = refl
-reason_back reason.Conflict = refl
-reason_back reason.Held = refl
-reason_back reason.Dir = refl
-
-one_reason : (r q : Reason) → reason_text r ≡ reason_text q → r ≡ q
-one_reason r q e = sym (reason_back r) ∙ ap (λ z. reason_of_key (reason_key z)) e ∙ reason_back q
-
-wide : (n : ℕ) → n < 2 ^ 32 → n < 2 ^ 64
-wide n small = omega (arith, small)
-
--- what tells the first words of lines apart
-key : List ℕ → ℕ
-key word = 1000 * length word + get_or word 0 0
 
 same_tail : (l m : PlanLine) → LineFits l → LineFits m → front l ≡ front m → tail l ≡ tail m → l ≡ m
 unfolding key
@@ -51,8 +22,8 @@ same_tail line.Header (line.Pred f) fits_l fits_m h t = absurd (let k : ◌≡�
 same_tail line.Header (line.End f n_m) fits_l fits_m h t = absurd (let k : ◌≡◌ {A = ℕ} 12116 3101 = ap key h in omega arith)
 same_tail (line.Entry e) line.Header fits_l fits_m h t = absurd (let k : ◌≡◌ {A = ℕ} 5101 12116 = ap key h in omega arith)
 same_tail (line.Entry e) (line.Entry f) fits_l fits_m h t =
-    let parts = cut_word (reason_text e.reason) (reason_text f.reason) (path_text e.path) (path_text f.path) (reason_word e.reason) (reason_word f.reason) t in
-    let reasons = one_reason e.reason f.reason parts.0 in
+    let parts = cut_at 32 (reason_text e.reason) (reason_text f.reason) (path_text e.path) (path_text f.path) (reason_word e.reason) (reason_word f.reason) t in
+    let reasons = one_reason_text e.reason f.reason parts.0 in
     let paths = one_path e.path f.path fits_l.0 fits_m.0 parts.1 in
     λ i. line.Entry (record { path = paths i; reason = reasons i })
 same_tail (line.Entry e) (line.Action (Piece f offset_m size_m p_m)) fits_l fits_m h t = absurd (let k : ◌≡◌ {A = ℕ} 5101 5112 = ap key h in omega arith)
@@ -106,5 +77,5 @@ same_tail (line.End e n_l) (line.End f n_m) fits_l fits_m h t =
 -- no two lines are spelled alike
 pub one_line : (l m : PlanLine) → LineFits l → LineFits m → line_text l ≡ line_text m → l ≡ m
 one_line l m fits_l fits_m e =
-    let parts = cut_word (front l) (front m) (tail l) (tail m) (front_word l) (front_word m) (sym (line_split l) ∙ e ∙ line_split m) in
+    let parts = cut_at 32 (front l) (front m) (tail l) (tail m) (front_word l) (front_word m) (sym (line_split l) ∙ e ∙ line_split m) in
     same_tail l m fits_l fits_m parts.0 parts.1

@@ -10,7 +10,7 @@ use Rattle.ts_model.specs.declared.plan.Action.{Action}
 use Rattle.ts_model.specs.declared.plan.Plan.{Plan}
 use Rattle.ts_text.proofs.Sinks.{front_longer, front_after}
 use Rattle.ts_plan.specs.Sends.{Sends, entry_chunk, pred_chunk, action_chunk}
-use Rattle.ts_plan.proofs.Texts.{text_append}
+use Rattle.ts_model.proofs.Lines.{text_append}
 use Rattle.ts_plan.specs.declared.fault.PlanFault.{PlanFault}
 use Rattle.ts_plan.specs.declared.fault.PlanFault.TheVariants.{OutOfMemory, Failed, NotCanonical, PastLimit}
 
@@ -89,13 +89,27 @@ plan_sent q =
         ∙ append_assoc ((codes "twosync-plan 1" ++ 10 ∷ []) ++ f) b d
         ∙ append_assoc (codes "twosync-plan 1" ++ 10 ∷ []) f (b ++ d)
 
--- the same in the order of the encoder's writes
-pub plan_parts : (q : Plan) (es : List Entry) (acts : List Action) (m n : ℕ) → es ≡ q.entries → acts ≡ q.actions → m ≡ length es → n ≡ length acts
-    → (codes "twosync-plan 1" ++ 10 ∷ []) ++ (flat_map entry_chunk es ++ (flat_map action_chunk acts ++ ((codes "end " ++ (decimal m ++ 32 ∷ decimal n)) ++ 10 ∷ []))) ≡ text (plan_lines q)
-plan_parts q es acts m n same_e same_a same_m same_n =
-    (λ i. (codes "twosync-plan 1" ++ 10 ∷ []) ++ (flat_map entry_chunk es ++ (flat_map action_chunk acts ++ ((codes "end " ++ (decimal (same_m i) ++ 32 ∷ decimal (same_n i))) ++ 10 ∷ []))))
-    ∙ (λ i. (codes "twosync-plan 1" ++ 10 ∷ []) ++ (flat_map entry_chunk (same_e i) ++ (flat_map action_chunk (same_a i) ++ ((codes "end " ++ (decimal (length (same_e i)) ++ 32 ∷ decimal (length (same_a i)))) ++ 10 ∷ []))))
-    ∙ sym (plan_sent q)
+-- the first line
+abbrev pub title : List ℕ
+title = codes "twosync-plan 1" ++ 10 ∷ []
+
+-- what follows the entries: the actions, and the last line
+abbrev pub last_parts : List Entry → List Action → List ℕ
+last_parts es acts = flat_map action_chunk acts ++ ((codes "end " ++ (decimal (length es) ++ 32 ∷ decimal (length acts))) ++ 10 ∷ [])
+
+-- what went out of these parts went out of the plan's text
+pub parts_sent : (q : Plan) (es : List Entry) (acts : List Action) → es ≡ q.entries → acts ≡ q.actions → (old new : Option (List ℕ)) (a c : ℕ) (r : Result (Unit {0}) PlanFault)
+    → Sends old new a c (title ++ (flat_map entry_chunk es ++ last_parts es acts)) r → Sends old new a c (text (plan_lines q)) r
+parts_sent q es acts same_e same_a old new a c r sends =
+    subst (λ z. Sends old new a c z r) ((λ i. title ++ (flat_map entry_chunk (same_e i) ++ last_parts (same_e i) (same_a i))) ∙ sym (plan_sent q)) sends
+
+-- the first line and the entries went out, and then what follows
+pub sent_behind : (es : List Entry) (acts : List Action) (h₀ h₁ h₂ h₃ : Option (List ℕ)) (f₀ f₁ f₂ f₃ : ℕ) (r : Result (Unit {0}) PlanFault)
+    → Appends h₀ h₁ title × (f₁ ≡ f₀) → Appends h₁ h₂ (flat_map entry_chunk es) × (f₂ ≡ f₁) → Sends h₂ h₃ f₂ f₃ (last_parts es acts) r
+    → Sends h₀ h₃ f₀ f₃ (title ++ (flat_map entry_chunk es ++ last_parts es acts)) r
+sent_behind es acts h₀ h₁ h₂ h₃ f₀ f₁ f₂ f₃ r first entries sends =
+    sent_after h₀ h₁ h₃ f₀ f₁ f₃ title (flat_map entry_chunk es ++ last_parts es acts) r first.0 first.1
+    (sent_after h₁ h₂ h₃ f₁ f₂ f₃ (flat_map entry_chunk es) (last_parts es acts) r entries.0 entries.1 sends)
 
 -- an element is the same whatever stands past the end
 pub same_element : (xs : List ℕ) (i d e : ℕ) → i < length xs → get_or xs i d ≡ get_or xs i e

@@ -1,8 +1,11 @@
 -- What the decoder knows of a source's bytes.
-use Rattle.std.proofs.Common.{◌≡◌, ◌≢◌, ◌⊎◌, ℕ, List, [], ◌∷◌, ◌++◌, append_assoc, Option, Some, None, IfSome, Result, Ok, Err, refl, sym, ap, ap₂, ◌∙◌, subst, inl, inr, append-nil}
+use Rattle.std.proofs.Common.{◌≡◌, ◌≢◌, ◌⊎◌, ℕ, List, [], ◌∷◌, ◌++◌, append_assoc, Option, Some, None, IfSome, Result, Ok, Err, refl, sym, ap, ◌∙◌, subst, inl, inr, append-nil}
 use Rattle.std.specs.Io.KnownBytes.{Keeps, Consumes, IsAtEnd}
 use Rattle.std.proofs.KnownBytes.{Consumes-trans, Consumes-kept, Consumes-nil}
 use Rattle.ts_model.specs.Texts.{Line, text, plan_lines}
+use Rattle.ts_name.proofs.Spelling.{cut_at}
+use Rattle.ts_name.proofs.Utf8.{all_append, all_parts}
+use Rattle.ts_model.proofs.Lines.{Fronts, fronts, longer, no_lines, no_text, shorter, text_cons, text_front, text_push}
 use Rattle.ts_model.specs.declared.plan.Plan.{Plan}
 use Rattle.ts_text.specs.Lines.{Reading, IsLine, HasNoLine, Answers, GivesLine}
 use Rattle.ts_text.specs.declared.fault.TextFault.{TextFault}
@@ -14,7 +17,7 @@ use Rattle.ts_plan.specs.Decoding.{fault_of_text, Decodes, IsPastLimit}
 use Rattle.ts_plan.specs.declared.fault.PlanFault.{PlanFault}
 use Rattle.ts_plan.specs.declared.fault.PlanFault.TheVariants.{OutOfMemory, Failed, NotCanonical, PastLimit}
 use Rattle.ts_plan.proofs.Grammar.{large}
-use Rattle.ts_plan.proofs.Texts.{AreTextLines, cut_line, text_cons, text_push, text_front, no_lines, plan_are_lines}
+use Rattle.ts_plan.proofs.Texts.{AreTextLines, plan_are_lines}
 
 -- lines were given, and nothing else happened
 pub record Given (old now : Reading) (lines : List Line) : Type 0 where
@@ -27,14 +30,10 @@ pub record Given (old now : Reading) (lines : List Line) : Type 0 where
 pub given_none : (old : Reading) → Given old old []
 given_none old = record { are = tt; bytes = Consumes-nil old.left; failures = refl; state = inr refl }
 
-lines_push : (xs : List Line) (x : Line) → AreTextLines xs → IsLine x → AreTextLines (xs ++ x ∷ [])
-lines_push [] x are is = (is, tt)
-lines_push (y ∷ xs) x are is = (are.0, lines_push xs x are.1 is)
-
 -- and then one more
 pub given_more : (old now new : Reading) (lines next : List Line) → Given old now lines → GivesLine now new → next ≡ lines ++ new.line ∷ [] → Given old new next
 given_more old now new lines next given gives same = subst (λ z. Given old new z) (sym same) (record {
-  are = lines_push lines new.line given.are gives.line;
+  are = all_append IsLine lines (new.line ∷ []) given.are (gives.line, tt);
   bytes = subst (λ z. Consumes old.left new.left z) (sym (text_push lines new.line)) (Consumes-trans old.left now.left new.left (text lines) (new.line ++ 10 ∷ []) given.bytes gives.bytes);
   failures = gives.failures ∙ given.failures;
   state = inl gives.going.1;
@@ -45,7 +44,7 @@ behind : (left : Option (List ℕ)) (bytes : List ℕ) (lines : List Line) (q : 
     → (more : List Line) × (plan_lines q ≡ lines ++ more) × IfSome left (λ rest. rest ≡ text more)
 behind None bytes lines q are is consumed same = absurd consumed
 behind (Some rest) bytes lines q are is consumed same =
-    let found = text_front (plan_lines q) lines rest (plan_are_lines q is) are (sym same ∙ consumed) in
+    let found = text_front IsLine (λ x is. is.one) (plan_lines q) lines rest (plan_are_lines q is) are (sym same ∙ consumed) in
     (found.more, found.lines, sym found.spelled)
 
 -- no line of a text stands where there is none
@@ -54,45 +53,11 @@ no_more None more are same none bytes c consumed = consumed
 no_more (Some rest) [] are same none bytes c consumed = none.some same
 no_more (Some rest) (x ∷ more) are same none bytes c consumed = none.none x (text more) are.0 (same ∙ text_cons x more)
 
-lines_behind : (xs ys zs : List Line) → xs ≡ ys ++ zs → AreTextLines xs → AreTextLines zs
-lines_behind xs [] zs e are = subst (λ l. AreTextLines l) e are
-lines_behind [] (y ∷ ys) zs e are = absurd cc
-lines_behind (x ∷ xs) (y ∷ ys) zs e are = let rest : xs ≡ ys ++ zs = cc in lines_behind xs ys zs rest are.1
-
 if_known : {Q : List ℕ → Type 0} (known : Option (List ℕ)) → ((bytes : List ℕ) → known ≡ Some bytes → Q bytes) → IfSome known Q
 if_known None f = tt
 if_known (Some bytes) f = f bytes refl
 
 -- ---- a line past a limit comes behind the lines that were read
-
--- of two fronts of the same bytes one begins with the other
-data Fronts (xs ys : List Line) (u v : List ℕ) : Type 0 where
-  longer : (more : List Line) → xs ≡ ys ++ more → Fronts xs ys u v
-  shorter : (m : Line) (more : List Line) → ys ≡ xs ++ m ∷ more → u ≡ m ++ 10 ∷ (text more ++ v) → IsLine m → Fronts xs ys u v
-
-fronts : (xs ys : List Line) (u v : List ℕ) → AreTextLines xs → AreTextLines ys → text xs ++ u ≡ text ys ++ v → Fronts xs ys u v
-fronts xs [] u v are_x are_y e = longer xs refl
-fronts [] (y ∷ ys) u v are_x are_y e = shorter y ys refl (e ∙ ap (λ z. z ++ v) (text_cons y ys) ∙ append_assoc y (10 ∷ text ys) v) are_y.0
-fronts (x ∷ xs) (y ∷ ys) u v are_x are_y e =
-    let cut = cut_line x y (text xs ++ u) (text ys ++ v) are_x.0.one are_y.0.one
-    (sym (append_assoc x (10 ∷ text xs) u) ∙ ap (λ z. z ++ u) (sym (text_cons x xs)) ∙ e ∙ ap (λ z. z ++ v) (text_cons y ys) ∙ append_assoc y (10 ∷ text ys) v) in
-    go cut.0 (fronts xs ys u v are_x.1 are_y.1 cut.1)
-  where
-    go : x ≡ y → Fronts xs ys u v → Fronts (x ∷ xs) (y ∷ ys) u v
-    go same (longer more e) = longer more (ap₂ ◌∷◌ same e)
-    go same (shorter m more e rest is) = shorter m more (ap₂ ◌∷◌ (sym same) e) rest is
-
-some_line : (x rest : List ℕ) → x ++ 10 ∷ rest ≢ []
-some_line [] rest e = cc
-some_line (b ∷ x) rest e = cc
-
-lines_before : (xs ys zs : List Line) → xs ≡ ys ++ zs → AreTextLines xs → AreTextLines ys
-lines_before xs [] zs e are = tt
-lines_before [] (y ∷ ys) zs e are = absurd cc
-lines_before (x ∷ xs) (y ∷ ys) zs e are =
-    let first : x ≡ y = cc in
-    let rest : xs ≡ ys ++ zs = cc in
-    (subst (λ z. IsLine z) first are.0, lines_before xs ys zs rest are.1)
 
 -- that line, and what is left with it
 record Behind (lines : List Line) (left : List ℕ) (q : Plan) : Type 0 where
@@ -106,16 +71,16 @@ record Behind (lines : List Line) (left : List ℕ) (q : Plan) : Type 0 where
 past_behind : (p : Progress) (bytes left : List ℕ) (past : IsPastLimit bytes) → AreTextLines (fed p) → IsBegun p → bytes ≡ text (fed p) ++ left → Behind (fed p) left past.begins.0
 past_behind p bytes left past are begun e =
     let q = past.begins.0 in
-    let front_are = lines_before (plan_lines q) past.front past.begins.2.0 past.begins.2.1 (plan_are_lines q past.begins.1) in
-    go (fronts (fed p) past.front left past.rest are front_are (sym e ∙ past.split))
+    let front_are = (all_parts IsLine past.front past.begins.2.0 (subst (λ z. AreTextLines z) past.begins.2.1 (plan_are_lines q past.begins.1))).0 in
+    go front_are (fronts IsLine (λ x is. is.one) (fed p) past.front left past.rest are front_are (sym e ∙ past.split))
   where
-    go : Fronts (fed p) past.front left past.rest → Behind (fed p) left past.begins.0
-    go (longer more same) = absurd (past.none begun.0 begun.1 (more ++ begun.2.0, begun.2.1 ∙ ap (λ z. z ++ begun.2.0) same ∙ append_assoc past.front more begun.2.0))
-    go (shorter m more same rest is) = record {
+    go : AreTextLines past.front → Fronts (fed p) past.front left past.rest → Behind (fed p) left past.begins.0
+    go front_are (longer more same left_is) = absurd (past.none begun.0 begun.1 (more ++ begun.2.0, begun.2.1 ∙ ap (λ z. z ++ begun.2.0) same ∙ append_assoc past.front more begun.2.0))
+    go front_are (shorter m more same rest) = record {
       line = m;
       more = more;
       rest = text more ++ past.rest;
-      is_line = is;
+      is_line = (all_parts IsLine (fed p) (m ∷ more) (subst (λ z. AreTextLines z) same front_are)).1.0;
       begins = (more ++ past.begins.2.0, past.begins.2.1 ∙ ap (λ z. z ++ past.begins.2.0) (same ∙ sym (append_assoc (fed p) (m ∷ []) more)) ∙ append_assoc (fed p ++ m ∷ []) more past.begins.2.0);
       left_is = rest;
     }
@@ -137,7 +102,7 @@ text_refused old now new p text_fault.NotCanonical given begun h = if_known old.
     record {
       none = λ q is same.
           let found = behind new.left bytes (fed p) q given.are is consumed same in
-          no_more new.left found.0 (lines_behind (plan_lines q) (fed p) found.0 found.1 (plan_are_lines q is)) found.2 h.none bytes (text (fed p)) consumed;
+          no_more new.left found.0 (all_parts IsLine (fed p) found.0 (subst (λ z. AreTextLines z) found.1 (plan_are_lines q is))).1 found.2 h.none bytes (text (fed p)) consumed;
       within = λ past. none_stands new.left bytes past consumed h.none;
     })
   where
@@ -168,9 +133,9 @@ line_refused old now p next one NotCanonical given begun h = if_known old.left (
     other_line None bytes past consumed = consumed
     other_line (Some left) bytes past consumed =
         let split = consumed ∙ ap (λ z. z ++ left) (text_push (fed p) one) ∙ append_assoc (text (fed p)) (one ++ 10 ∷ []) left ∙ ap (λ z. text (fed p) ++ z) (append_assoc one (10 ∷ []) left) in
-        let found = past_behind p bytes (one ++ 10 ∷ left) past (lines_before (fed p ++ one ∷ []) (fed p) (one ∷ []) refl given.are) begun split in
-        let is_one = (lines_behind (fed p ++ one ∷ []) (fed p) (one ∷ []) refl given.are).0 in
-        let same = cut_line one found.line left found.rest is_one.one found.is_line.one found.left_is in
+        let found = past_behind p bytes (one ++ 10 ∷ left) past (all_parts IsLine (fed p) (one ∷ []) given.are).0 begun split in
+        let is_one = (all_parts IsLine (fed p) (one ∷ []) given.are).1.0 in
+        let same = cut_at 10 one found.line left found.rest is_one.one found.is_line.one found.left_is in
         h.1 past.begins.0 past.begins.1 (subst (λ z. Begins past.begins.0 (fed p ++ z ∷ [])) (sym same.0) found.begins)
 line_refused old now p next one PastLimit given begun h = if_known old.left (λ bytes known.
     let consumed = subst (λ z. Consumes z now.left (text (fed p ++ one ∷ []))) known given.bytes in
@@ -214,5 +179,5 @@ finished old now new p (Err NotCanonical) given begun kept end h = if_known old.
   where
     nothing_left : (left : Option (List ℕ)) (bytes : List ℕ) → IsPastLimit bytes → Consumes (Some bytes) left (text (fed p)) → IsAtEnd left → ⊥
     nothing_left None bytes past consumed end = consumed
-    nothing_left (Some left) bytes past consumed end = let found = past_behind p bytes left past given.are begun consumed in some_line found.line found.rest (sym found.left_is ∙ end)
+    nothing_left (Some left) bytes past consumed end = let found = past_behind p bytes left past given.are begun consumed in no_text found.line found.rest (sym found.left_is ∙ end)
 finished old now new p (Err PastLimit) given begun kept end h = absurd h

@@ -7,7 +7,7 @@ use Rattle.ts_model.specs.declared.plan.Kind.{Kind}
 use Rattle.ts_model.specs.declared.plan.Action.{Action}
 use Rattle.std.specs.List.{AllByRecursion}
 use Rattle.ts_model.specs.Texts.{KindFits}
-use Rattle.ts_laws.proofs.Words.{all_append, all_parts}
+use Rattle.ts_name.proofs.Utf8.{all_append, all_parts}
 use Rattle.ts_plan.specs.declared.text.OpenAction.{OpenAction}
 use Rattle.ts_plan.specs.Readers.{open_action}
 use Rattle.ts_plan.specs.Reading.{IsProgress}

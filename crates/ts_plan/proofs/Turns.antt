@@ -11,7 +11,7 @@ use Rattle.ts_model.specs.declared.plan.Entry.{Entry}
 use Rattle.ts_model.specs.declared.plan.Kind.{Kind}
 use Rattle.ts_model.specs.declared.plan.Action.{Action}
 use Rattle.ts_model.specs.declared.plan.Plan.{Plan}
-use Rattle.ts_laws.proofs.Words.{all_append, all_parts}
+use Rattle.ts_name.proofs.Utf8.{all_append, all_parts}
 use Rattle.ts_plan.specs.PlanLines.{line_text, LineFits, ReadsLine}
 use Rattle.ts_plan.specs.Progress.{Progress, all_actions, plan_of, start, body_lines, fed_in, fed, step, step_in}
 use Rattle.ts_plan.specs.Reading.{IsLarge, IsProgress, Begins, Takes, ReadsNext, IsBegun}

@@ -1,18 +1,18 @@
 -- The words of a plan's lines.
-use Rattle.std.proofs.Common.{◌≡◌, ◌≢◌, ℕ, ◌+◌, ◌*◌, ◌^◌, ◌<◌, List, [], ◌∷◌, ◌++◌, length, get_or, eqb, Bool, false, Err, codes, decimal, refl, sym, ap, ap₂, ◌∙◌, arith}
-use Rattle.std.specs.List.{AllByRecursion}
+use Rattle.std.proofs.Common.{◌≡◌, ◌≢◌, ℕ, ◌+◌, ◌*◌, ◌^◌, ◌<◌, List, ◌∷◌, ◌++◌, length, get_or, eqb, Bool, false, Err, codes, decimal, refl, sym, ap, ◌∙◌, arith, true}
 use Rattle.std.specs.Cmp.Lexicographic.{pointwise}
 use Rattle.std.proofs.lemmas.Bool.{false≢true}
 use Rattle.std.proofs.lemmas.Bool.Decides.{Decides-eqb}
 use Rattle.std.proofs.lemmas.Slice.Eq.{slice_eq-Decides}
 use Rattle.std.proofs.lemmas.Fmt.{decimal_injective}
 use Rattle.ts_name.specs.Paths.{Path, path_text}
+use Rattle.ts_name.specs.Buffers.{HasNo}
+use Rattle.ts_name.proofs.Spelling.{IsClean, clean_decimal, clean_from_test, cut_at, is_clean, no_space}
 use Rattle.ts_model.specs.Texts.{reason_text, PathFits, KindFits}
+use Rattle.ts_model.proofs.Spelling.{clean_reason}
 use Rattle.ts_model.specs.declared.plan.Reason.{Reason}
-use Rattle.ts_model.specs.declared.plan.Reason.TheVariants as reason
 use Rattle.ts_model.specs.declared.plan.Entry.{Entry}
 use Rattle.ts_model.specs.declared.plan.Kind.TheVariants.{Piece, Commit, Mark}
-use Rattle.ts_laws.proofs.Words.{IsClean, clean_decimal, clean_from_test}
 use Rattle.ts_plan.specs.PathFields.{ReadsPath}
 use Rattle.ts_plan.specs.PlanLines.{line_text, LineFits, ReadsLine}
 use Rattle.ts_plan.specs.declared.fault.PlanFault.{PlanFault}
@@ -20,52 +20,28 @@ use Rattle.ts_plan.specs.declared.fault.PlanFault.TheVariants.{OutOfMemory, Fail
 use Rattle.ts_plan.specs.declared.line.PlanLine.{PlanLine}
 use Rattle.ts_plan.specs.declared.line.PlanLine.TheVariants as line
 
--- no space in the word
-abbrev pub IsWord : List ℕ → Type 0
-IsWord word = AllByRecursion (λ b. b ≢ 32) word
+-- a short number is a number
+pub wide : (n : ℕ) → n < 2 ^ 32 → n < 2 ^ 64
+wide n small = omega (arith, small)
 
--- clean words have no space
-clean_word : (word : List ℕ) → IsClean word → IsWord word
-clean_word [] clean = tt
-clean_word (b ∷ word) clean = (λ e. omega (arith, clean.0, e), clean_word word clean.1)
+-- numbers have no space
+pub decimal_word : (n : ℕ) → n < 2 ^ 64 → HasNo 32 (decimal n)
+decimal_word n small = no_space (decimal n) (clean_decimal n small)
 
--- numbers are words
-pub decimal_word : (n : ℕ) → n < 2 ^ 64 → IsWord (decimal n)
-decimal_word n small = clean_word (decimal n) (clean_decimal n small)
-
--- so are short ones
-pub short_word : (n : ℕ) → n < 2 ^ 32 → IsWord (decimal n)
-short_word n small = decimal_word n (omega (arith, small))
+-- nor have short ones
+pub short_word : (n : ℕ) → n < 2 ^ 32 → HasNo 32 (decimal n)
+short_word n small = decimal_word n (wide n small)
 
 -- and reasons
-pub reason_word : (r : Reason) → IsWord (reason_text r)
-reason_word reason.Same = clean_word (codes "same") (clean_from_test (codes "same") refl)
-reason_word reason.First = clean_word (codes "first") (clean_from_test (codes "first") refl)
-reason_word reason.Second = clean_word (codes "second") (clean_from_test (codes "second") refl)
-reason_word reason.Conflict = clean_word (codes "conflict") (clean_from_test (codes "conflict") refl)
-reason_word reason.Held = clean_word (codes "held") (clean_from_test (codes "held") refl)
-reason_word reason.Dir = clean_word (codes "dir") (clean_from_test (codes "dir") refl)
+pub reason_word : (r : Reason) → HasNo 32 (reason_text r)
+reason_word r = no_space (reason_text r) (clean_reason r)
 
--- a line has one first word
-pub cut_word : (x y u v : List ℕ) → IsWord x → IsWord y → x ++ 32 ∷ u ≡ y ++ 32 ∷ v → (x ≡ y) × (u ≡ v)
-cut_word [] [] u v word_x word_y e = (refl, cc)
-cut_word [] (b ∷ y) u v word_x word_y e = absurd (word_y.0 (let same : 32 ≡ b = cc in sym same))
-cut_word (b ∷ x) [] u v word_x word_y e = absurd (word_x.0 (let same : b ≡ 32 = cc in same))
-cut_word (b ∷ x) (d ∷ y) u v word_x word_y e =
-    let same : b ≡ d = cc in
-    let rest : x ++ 32 ∷ u ≡ y ++ 32 ∷ v = cc in
-    let more = cut_word x y u v word_x.1 word_y.1 rest in
-    (ap₂ ◌∷◌ same more.0, more.1)
-
--- a word isn't cut
-pub word_no_cut : (word x u : List ℕ) → IsWord word → word ≢ x ++ 32 ∷ u
-word_no_cut [] [] u is e = cc
-word_no_cut [] (b ∷ x) u is e = cc
-word_no_cut (d ∷ word) [] u is e = is.0 (let same : d ≡ 32 = cc in same)
-word_no_cut (d ∷ word) (b ∷ x) u is e = word_no_cut word x u is.1 (let rest : word ≡ x ++ 32 ∷ u = cc in rest)
+-- a word of which a test tells that it is clean
+tested_word : (word : List ℕ) → is_clean word ≡ true → HasNo 32 word
+tested_word word e = no_space word (clean_from_test word e)
 
 -- what tells the first words of lines apart
-key : List ℕ → ℕ
+unfoldable pub key : List ℕ → ℕ
 key word = 1000 * length word + get_or word 0 0
 
 -- the first word
@@ -98,96 +74,100 @@ line_split (line.Action (Mark e)) = refl
 line_split (line.Pred j) = refl
 line_split (line.End m n) = refl
 
--- which is a word
-pub front_word : (l : PlanLine) → IsWord (front l)
-front_word line.Header = clean_word (codes "twosync-plan") (clean_from_test (codes "twosync-plan") refl)
-front_word (line.Entry e) = clean_word (codes "entry") (clean_from_test (codes "entry") refl)
-front_word (line.Action (Piece e offset size p)) = clean_word (codes "piece") (clean_from_test (codes "piece") refl)
-front_word (line.Action (Commit e)) = clean_word (codes "commit") (clean_from_test (codes "commit") refl)
-front_word (line.Action (Mark e)) = clean_word (codes "mark") (clean_from_test (codes "mark") refl)
-front_word (line.Pred j) = clean_word (codes "p") (clean_from_test (codes "p") refl)
-front_word (line.End m n) = clean_word (codes "end") (clean_from_test (codes "end") refl)
+-- which is clean
+pub clean_front : (l : PlanLine) → IsClean (front l)
+clean_front line.Header = clean_from_test (codes "twosync-plan") refl
+clean_front (line.Entry e) = clean_from_test (codes "entry") refl
+clean_front (line.Action (Piece e offset size p)) = clean_from_test (codes "piece") refl
+clean_front (line.Action (Commit e)) = clean_from_test (codes "commit") refl
+clean_front (line.Action (Mark e)) = clean_from_test (codes "mark") refl
+clean_front (line.Pred j) = clean_from_test (codes "p") refl
+clean_front (line.End m n) = clean_from_test (codes "end") refl
+
+-- and so has no space
+pub front_word : (l : PlanLine) → HasNo 32 (front l)
+front_word l = no_space (front l) (clean_front l)
 
 -- the parts of a line
-pub line_parts : (word rest : List ℕ) (l : PlanLine) → IsWord word → word ++ 32 ∷ rest ≡ line_text l → (word ≡ front l) × (rest ≡ tail l)
-line_parts word rest l is e = cut_word word (front l) rest (tail l) is (front_word l) (e ∙ line_split l)
+pub line_parts : (word rest : List ℕ) (l : PlanLine) → HasNo 32 word → word ++ 32 ∷ rest ≡ line_text l → (word ≡ front l) × (rest ≡ tail l)
+line_parts word rest l is e = cut_at 32 word (front l) rest (tail l) is (front_word l) (e ∙ line_split l)
 
 -- no line of an entry
 pub refuse_entry : (fields : List ℕ) → ((e : Entry) → PathFits e.path → fields ≢ reason_text e.reason ++ 32 ∷ path_text e.path) → (l : PlanLine) → LineFits l → codes "entry" ++ 32 ∷ fields ≢ line_text l
 unfolding key
-refuse_entry fields none line.Header fits same = absurd (let k : ◌≡◌ {A = ℕ} 5101 12116 = ap key (line_parts (codes "entry") fields line.Header (clean_word (codes "entry") (clean_from_test (codes "entry") refl)) same).0 in omega arith)
-refuse_entry fields none (line.Entry e) fits same = none e fits (line_parts (codes "entry") fields (line.Entry e) (clean_word (codes "entry") (clean_from_test (codes "entry") refl)) same).1
-refuse_entry fields none (line.Action (Piece e offset size p)) fits same = absurd (let k : ◌≡◌ {A = ℕ} 5101 5112 = ap key (line_parts (codes "entry") fields (line.Action (Piece e offset size p)) (clean_word (codes "entry") (clean_from_test (codes "entry") refl)) same).0 in omega arith)
-refuse_entry fields none (line.Action (Commit e)) fits same = absurd (let k : ◌≡◌ {A = ℕ} 5101 6099 = ap key (line_parts (codes "entry") fields (line.Action (Commit e)) (clean_word (codes "entry") (clean_from_test (codes "entry") refl)) same).0 in omega arith)
-refuse_entry fields none (line.Action (Mark e)) fits same = absurd (let k : ◌≡◌ {A = ℕ} 5101 4109 = ap key (line_parts (codes "entry") fields (line.Action (Mark e)) (clean_word (codes "entry") (clean_from_test (codes "entry") refl)) same).0 in omega arith)
-refuse_entry fields none (line.Pred j) fits same = absurd (let k : ◌≡◌ {A = ℕ} 5101 1112 = ap key (line_parts (codes "entry") fields (line.Pred j) (clean_word (codes "entry") (clean_from_test (codes "entry") refl)) same).0 in omega arith)
-refuse_entry fields none (line.End m n) fits same = absurd (let k : ◌≡◌ {A = ℕ} 5101 3101 = ap key (line_parts (codes "entry") fields (line.End m n) (clean_word (codes "entry") (clean_from_test (codes "entry") refl)) same).0 in omega arith)
+refuse_entry fields none line.Header fits same = absurd (let k : ◌≡◌ {A = ℕ} 5101 12116 = ap key (line_parts (codes "entry") fields line.Header (tested_word (codes "entry") refl) same).0 in omega arith)
+refuse_entry fields none (line.Entry e) fits same = none e fits (line_parts (codes "entry") fields (line.Entry e) (tested_word (codes "entry") refl) same).1
+refuse_entry fields none (line.Action (Piece e offset size p)) fits same = absurd (let k : ◌≡◌ {A = ℕ} 5101 5112 = ap key (line_parts (codes "entry") fields (line.Action (Piece e offset size p)) (tested_word (codes "entry") refl) same).0 in omega arith)
+refuse_entry fields none (line.Action (Commit e)) fits same = absurd (let k : ◌≡◌ {A = ℕ} 5101 6099 = ap key (line_parts (codes "entry") fields (line.Action (Commit e)) (tested_word (codes "entry") refl) same).0 in omega arith)
+refuse_entry fields none (line.Action (Mark e)) fits same = absurd (let k : ◌≡◌ {A = ℕ} 5101 4109 = ap key (line_parts (codes "entry") fields (line.Action (Mark e)) (tested_word (codes "entry") refl) same).0 in omega arith)
+refuse_entry fields none (line.Pred j) fits same = absurd (let k : ◌≡◌ {A = ℕ} 5101 1112 = ap key (line_parts (codes "entry") fields (line.Pred j) (tested_word (codes "entry") refl) same).0 in omega arith)
+refuse_entry fields none (line.End m n) fits same = absurd (let k : ◌≡◌ {A = ℕ} 5101 3101 = ap key (line_parts (codes "entry") fields (line.End m n) (tested_word (codes "entry") refl) same).0 in omega arith)
 
 -- no line of a piece
 pub refuse_piece : (fields : List ℕ) → ((e offset size : ℕ) (p : Path) → KindFits (Piece e offset size p) → fields ≢ decimal e ++ 32 ∷ (decimal offset ++ 32 ∷ (decimal size ++ 32 ∷ path_text p))) → (l : PlanLine) → LineFits l → codes "piece" ++ 32 ∷ fields ≢ line_text l
 unfolding key
-refuse_piece fields none line.Header fits same = absurd (let k : ◌≡◌ {A = ℕ} 5112 12116 = ap key (line_parts (codes "piece") fields line.Header (clean_word (codes "piece") (clean_from_test (codes "piece") refl)) same).0 in omega arith)
-refuse_piece fields none (line.Entry e) fits same = absurd (let k : ◌≡◌ {A = ℕ} 5112 5101 = ap key (line_parts (codes "piece") fields (line.Entry e) (clean_word (codes "piece") (clean_from_test (codes "piece") refl)) same).0 in omega arith)
-refuse_piece fields none (line.Action (Piece e offset size p)) fits same = none e offset size p fits (line_parts (codes "piece") fields (line.Action (Piece e offset size p)) (clean_word (codes "piece") (clean_from_test (codes "piece") refl)) same).1
-refuse_piece fields none (line.Action (Commit e)) fits same = absurd (let k : ◌≡◌ {A = ℕ} 5112 6099 = ap key (line_parts (codes "piece") fields (line.Action (Commit e)) (clean_word (codes "piece") (clean_from_test (codes "piece") refl)) same).0 in omega arith)
-refuse_piece fields none (line.Action (Mark e)) fits same = absurd (let k : ◌≡◌ {A = ℕ} 5112 4109 = ap key (line_parts (codes "piece") fields (line.Action (Mark e)) (clean_word (codes "piece") (clean_from_test (codes "piece") refl)) same).0 in omega arith)
-refuse_piece fields none (line.Pred j) fits same = absurd (let k : ◌≡◌ {A = ℕ} 5112 1112 = ap key (line_parts (codes "piece") fields (line.Pred j) (clean_word (codes "piece") (clean_from_test (codes "piece") refl)) same).0 in omega arith)
-refuse_piece fields none (line.End m n) fits same = absurd (let k : ◌≡◌ {A = ℕ} 5112 3101 = ap key (line_parts (codes "piece") fields (line.End m n) (clean_word (codes "piece") (clean_from_test (codes "piece") refl)) same).0 in omega arith)
+refuse_piece fields none line.Header fits same = absurd (let k : ◌≡◌ {A = ℕ} 5112 12116 = ap key (line_parts (codes "piece") fields line.Header (tested_word (codes "piece") refl) same).0 in omega arith)
+refuse_piece fields none (line.Entry e) fits same = absurd (let k : ◌≡◌ {A = ℕ} 5112 5101 = ap key (line_parts (codes "piece") fields (line.Entry e) (tested_word (codes "piece") refl) same).0 in omega arith)
+refuse_piece fields none (line.Action (Piece e offset size p)) fits same = none e offset size p fits (line_parts (codes "piece") fields (line.Action (Piece e offset size p)) (tested_word (codes "piece") refl) same).1
+refuse_piece fields none (line.Action (Commit e)) fits same = absurd (let k : ◌≡◌ {A = ℕ} 5112 6099 = ap key (line_parts (codes "piece") fields (line.Action (Commit e)) (tested_word (codes "piece") refl) same).0 in omega arith)
+refuse_piece fields none (line.Action (Mark e)) fits same = absurd (let k : ◌≡◌ {A = ℕ} 5112 4109 = ap key (line_parts (codes "piece") fields (line.Action (Mark e)) (tested_word (codes "piece") refl) same).0 in omega arith)
+refuse_piece fields none (line.Pred j) fits same = absurd (let k : ◌≡◌ {A = ℕ} 5112 1112 = ap key (line_parts (codes "piece") fields (line.Pred j) (tested_word (codes "piece") refl) same).0 in omega arith)
+refuse_piece fields none (line.End m n) fits same = absurd (let k : ◌≡◌ {A = ℕ} 5112 3101 = ap key (line_parts (codes "piece") fields (line.End m n) (tested_word (codes "piece") refl) same).0 in omega arith)
 
 -- no line of a commit
 pub refuse_commit : (fields : List ℕ) → ((n : ℕ) → n < 2 ^ 32 → fields ≢ decimal n) → (l : PlanLine) → LineFits l → codes "commit" ++ 32 ∷ fields ≢ line_text l
 unfolding key
-refuse_commit fields none line.Header fits same = absurd (let k : ◌≡◌ {A = ℕ} 6099 12116 = ap key (line_parts (codes "commit") fields line.Header (clean_word (codes "commit") (clean_from_test (codes "commit") refl)) same).0 in omega arith)
-refuse_commit fields none (line.Entry e) fits same = absurd (let k : ◌≡◌ {A = ℕ} 6099 5101 = ap key (line_parts (codes "commit") fields (line.Entry e) (clean_word (codes "commit") (clean_from_test (codes "commit") refl)) same).0 in omega arith)
-refuse_commit fields none (line.Action (Piece e offset size p)) fits same = absurd (let k : ◌≡◌ {A = ℕ} 6099 5112 = ap key (line_parts (codes "commit") fields (line.Action (Piece e offset size p)) (clean_word (codes "commit") (clean_from_test (codes "commit") refl)) same).0 in omega arith)
-refuse_commit fields none (line.Action (Commit e)) fits same = none e fits (line_parts (codes "commit") fields (line.Action (Commit e)) (clean_word (codes "commit") (clean_from_test (codes "commit") refl)) same).1
-refuse_commit fields none (line.Action (Mark e)) fits same = absurd (let k : ◌≡◌ {A = ℕ} 6099 4109 = ap key (line_parts (codes "commit") fields (line.Action (Mark e)) (clean_word (codes "commit") (clean_from_test (codes "commit") refl)) same).0 in omega arith)
-refuse_commit fields none (line.Pred j) fits same = absurd (let k : ◌≡◌ {A = ℕ} 6099 1112 = ap key (line_parts (codes "commit") fields (line.Pred j) (clean_word (codes "commit") (clean_from_test (codes "commit") refl)) same).0 in omega arith)
-refuse_commit fields none (line.End m n) fits same = absurd (let k : ◌≡◌ {A = ℕ} 6099 3101 = ap key (line_parts (codes "commit") fields (line.End m n) (clean_word (codes "commit") (clean_from_test (codes "commit") refl)) same).0 in omega arith)
+refuse_commit fields none line.Header fits same = absurd (let k : ◌≡◌ {A = ℕ} 6099 12116 = ap key (line_parts (codes "commit") fields line.Header (tested_word (codes "commit") refl) same).0 in omega arith)
+refuse_commit fields none (line.Entry e) fits same = absurd (let k : ◌≡◌ {A = ℕ} 6099 5101 = ap key (line_parts (codes "commit") fields (line.Entry e) (tested_word (codes "commit") refl) same).0 in omega arith)
+refuse_commit fields none (line.Action (Piece e offset size p)) fits same = absurd (let k : ◌≡◌ {A = ℕ} 6099 5112 = ap key (line_parts (codes "commit") fields (line.Action (Piece e offset size p)) (tested_word (codes "commit") refl) same).0 in omega arith)
+refuse_commit fields none (line.Action (Commit e)) fits same = none e fits (line_parts (codes "commit") fields (line.Action (Commit e)) (tested_word (codes "commit") refl) same).1
+refuse_commit fields none (line.Action (Mark e)) fits same = absurd (let k : ◌≡◌ {A = ℕ} 6099 4109 = ap key (line_parts (codes "commit") fields (line.Action (Mark e)) (tested_word (codes "commit") refl) same).0 in omega arith)
+refuse_commit fields none (line.Pred j) fits same = absurd (let k : ◌≡◌ {A = ℕ} 6099 1112 = ap key (line_parts (codes "commit") fields (line.Pred j) (tested_word (codes "commit") refl) same).0 in omega arith)
+refuse_commit fields none (line.End m n) fits same = absurd (let k : ◌≡◌ {A = ℕ} 6099 3101 = ap key (line_parts (codes "commit") fields (line.End m n) (tested_word (codes "commit") refl) same).0 in omega arith)
 
 -- no line of a mark
 pub refuse_mark : (fields : List ℕ) → ((n : ℕ) → n < 2 ^ 32 → fields ≢ decimal n) → (l : PlanLine) → LineFits l → codes "mark" ++ 32 ∷ fields ≢ line_text l
 unfolding key
-refuse_mark fields none line.Header fits same = absurd (let k : ◌≡◌ {A = ℕ} 4109 12116 = ap key (line_parts (codes "mark") fields line.Header (clean_word (codes "mark") (clean_from_test (codes "mark") refl)) same).0 in omega arith)
-refuse_mark fields none (line.Entry e) fits same = absurd (let k : ◌≡◌ {A = ℕ} 4109 5101 = ap key (line_parts (codes "mark") fields (line.Entry e) (clean_word (codes "mark") (clean_from_test (codes "mark") refl)) same).0 in omega arith)
-refuse_mark fields none (line.Action (Piece e offset size p)) fits same = absurd (let k : ◌≡◌ {A = ℕ} 4109 5112 = ap key (line_parts (codes "mark") fields (line.Action (Piece e offset size p)) (clean_word (codes "mark") (clean_from_test (codes "mark") refl)) same).0 in omega arith)
-refuse_mark fields none (line.Action (Commit e)) fits same = absurd (let k : ◌≡◌ {A = ℕ} 4109 6099 = ap key (line_parts (codes "mark") fields (line.Action (Commit e)) (clean_word (codes "mark") (clean_from_test (codes "mark") refl)) same).0 in omega arith)
-refuse_mark fields none (line.Action (Mark e)) fits same = none e fits (line_parts (codes "mark") fields (line.Action (Mark e)) (clean_word (codes "mark") (clean_from_test (codes "mark") refl)) same).1
-refuse_mark fields none (line.Pred j) fits same = absurd (let k : ◌≡◌ {A = ℕ} 4109 1112 = ap key (line_parts (codes "mark") fields (line.Pred j) (clean_word (codes "mark") (clean_from_test (codes "mark") refl)) same).0 in omega arith)
-refuse_mark fields none (line.End m n) fits same = absurd (let k : ◌≡◌ {A = ℕ} 4109 3101 = ap key (line_parts (codes "mark") fields (line.End m n) (clean_word (codes "mark") (clean_from_test (codes "mark") refl)) same).0 in omega arith)
+refuse_mark fields none line.Header fits same = absurd (let k : ◌≡◌ {A = ℕ} 4109 12116 = ap key (line_parts (codes "mark") fields line.Header (tested_word (codes "mark") refl) same).0 in omega arith)
+refuse_mark fields none (line.Entry e) fits same = absurd (let k : ◌≡◌ {A = ℕ} 4109 5101 = ap key (line_parts (codes "mark") fields (line.Entry e) (tested_word (codes "mark") refl) same).0 in omega arith)
+refuse_mark fields none (line.Action (Piece e offset size p)) fits same = absurd (let k : ◌≡◌ {A = ℕ} 4109 5112 = ap key (line_parts (codes "mark") fields (line.Action (Piece e offset size p)) (tested_word (codes "mark") refl) same).0 in omega arith)
+refuse_mark fields none (line.Action (Commit e)) fits same = absurd (let k : ◌≡◌ {A = ℕ} 4109 6099 = ap key (line_parts (codes "mark") fields (line.Action (Commit e)) (tested_word (codes "mark") refl) same).0 in omega arith)
+refuse_mark fields none (line.Action (Mark e)) fits same = none e fits (line_parts (codes "mark") fields (line.Action (Mark e)) (tested_word (codes "mark") refl) same).1
+refuse_mark fields none (line.Pred j) fits same = absurd (let k : ◌≡◌ {A = ℕ} 4109 1112 = ap key (line_parts (codes "mark") fields (line.Pred j) (tested_word (codes "mark") refl) same).0 in omega arith)
+refuse_mark fields none (line.End m n) fits same = absurd (let k : ◌≡◌ {A = ℕ} 4109 3101 = ap key (line_parts (codes "mark") fields (line.End m n) (tested_word (codes "mark") refl) same).0 in omega arith)
 
 -- no line of a predecessor
 pub refuse_pred : (fields : List ℕ) → ((n : ℕ) → n < 2 ^ 32 → fields ≢ decimal n) → (l : PlanLine) → LineFits l → codes "p" ++ 32 ∷ fields ≢ line_text l
 unfolding key
-refuse_pred fields none line.Header fits same = absurd (let k : ◌≡◌ {A = ℕ} 1112 12116 = ap key (line_parts (codes "p") fields line.Header (clean_word (codes "p") (clean_from_test (codes "p") refl)) same).0 in omega arith)
-refuse_pred fields none (line.Entry e) fits same = absurd (let k : ◌≡◌ {A = ℕ} 1112 5101 = ap key (line_parts (codes "p") fields (line.Entry e) (clean_word (codes "p") (clean_from_test (codes "p") refl)) same).0 in omega arith)
-refuse_pred fields none (line.Action (Piece e offset size p)) fits same = absurd (let k : ◌≡◌ {A = ℕ} 1112 5112 = ap key (line_parts (codes "p") fields (line.Action (Piece e offset size p)) (clean_word (codes "p") (clean_from_test (codes "p") refl)) same).0 in omega arith)
-refuse_pred fields none (line.Action (Commit e)) fits same = absurd (let k : ◌≡◌ {A = ℕ} 1112 6099 = ap key (line_parts (codes "p") fields (line.Action (Commit e)) (clean_word (codes "p") (clean_from_test (codes "p") refl)) same).0 in omega arith)
-refuse_pred fields none (line.Action (Mark e)) fits same = absurd (let k : ◌≡◌ {A = ℕ} 1112 4109 = ap key (line_parts (codes "p") fields (line.Action (Mark e)) (clean_word (codes "p") (clean_from_test (codes "p") refl)) same).0 in omega arith)
-refuse_pred fields none (line.Pred j) fits same = none j fits (line_parts (codes "p") fields (line.Pred j) (clean_word (codes "p") (clean_from_test (codes "p") refl)) same).1
-refuse_pred fields none (line.End m n) fits same = absurd (let k : ◌≡◌ {A = ℕ} 1112 3101 = ap key (line_parts (codes "p") fields (line.End m n) (clean_word (codes "p") (clean_from_test (codes "p") refl)) same).0 in omega arith)
+refuse_pred fields none line.Header fits same = absurd (let k : ◌≡◌ {A = ℕ} 1112 12116 = ap key (line_parts (codes "p") fields line.Header (tested_word (codes "p") refl) same).0 in omega arith)
+refuse_pred fields none (line.Entry e) fits same = absurd (let k : ◌≡◌ {A = ℕ} 1112 5101 = ap key (line_parts (codes "p") fields (line.Entry e) (tested_word (codes "p") refl) same).0 in omega arith)
+refuse_pred fields none (line.Action (Piece e offset size p)) fits same = absurd (let k : ◌≡◌ {A = ℕ} 1112 5112 = ap key (line_parts (codes "p") fields (line.Action (Piece e offset size p)) (tested_word (codes "p") refl) same).0 in omega arith)
+refuse_pred fields none (line.Action (Commit e)) fits same = absurd (let k : ◌≡◌ {A = ℕ} 1112 6099 = ap key (line_parts (codes "p") fields (line.Action (Commit e)) (tested_word (codes "p") refl) same).0 in omega arith)
+refuse_pred fields none (line.Action (Mark e)) fits same = absurd (let k : ◌≡◌ {A = ℕ} 1112 4109 = ap key (line_parts (codes "p") fields (line.Action (Mark e)) (tested_word (codes "p") refl) same).0 in omega arith)
+refuse_pred fields none (line.Pred j) fits same = none j fits (line_parts (codes "p") fields (line.Pred j) (tested_word (codes "p") refl) same).1
+refuse_pred fields none (line.End m n) fits same = absurd (let k : ◌≡◌ {A = ℕ} 1112 3101 = ap key (line_parts (codes "p") fields (line.End m n) (tested_word (codes "p") refl) same).0 in omega arith)
 
 -- no last line
 pub refuse_end : (fields : List ℕ) → ((m n : ℕ) → m < 2 ^ 64 → n < 2 ^ 64 → fields ≢ decimal m ++ 32 ∷ decimal n) → (l : PlanLine) → LineFits l → codes "end" ++ 32 ∷ fields ≢ line_text l
 unfolding key
-refuse_end fields none line.Header fits same = absurd (let k : ◌≡◌ {A = ℕ} 3101 12116 = ap key (line_parts (codes "end") fields line.Header (clean_word (codes "end") (clean_from_test (codes "end") refl)) same).0 in omega arith)
-refuse_end fields none (line.Entry e) fits same = absurd (let k : ◌≡◌ {A = ℕ} 3101 5101 = ap key (line_parts (codes "end") fields (line.Entry e) (clean_word (codes "end") (clean_from_test (codes "end") refl)) same).0 in omega arith)
-refuse_end fields none (line.Action (Piece e offset size p)) fits same = absurd (let k : ◌≡◌ {A = ℕ} 3101 5112 = ap key (line_parts (codes "end") fields (line.Action (Piece e offset size p)) (clean_word (codes "end") (clean_from_test (codes "end") refl)) same).0 in omega arith)
-refuse_end fields none (line.Action (Commit e)) fits same = absurd (let k : ◌≡◌ {A = ℕ} 3101 6099 = ap key (line_parts (codes "end") fields (line.Action (Commit e)) (clean_word (codes "end") (clean_from_test (codes "end") refl)) same).0 in omega arith)
-refuse_end fields none (line.Action (Mark e)) fits same = absurd (let k : ◌≡◌ {A = ℕ} 3101 4109 = ap key (line_parts (codes "end") fields (line.Action (Mark e)) (clean_word (codes "end") (clean_from_test (codes "end") refl)) same).0 in omega arith)
-refuse_end fields none (line.Pred j) fits same = absurd (let k : ◌≡◌ {A = ℕ} 3101 1112 = ap key (line_parts (codes "end") fields (line.Pred j) (clean_word (codes "end") (clean_from_test (codes "end") refl)) same).0 in omega arith)
-refuse_end fields none (line.End m n) fits same = none m n fits.0 fits.1 (line_parts (codes "end") fields (line.End m n) (clean_word (codes "end") (clean_from_test (codes "end") refl)) same).1
+refuse_end fields none line.Header fits same = absurd (let k : ◌≡◌ {A = ℕ} 3101 12116 = ap key (line_parts (codes "end") fields line.Header (tested_word (codes "end") refl) same).0 in omega arith)
+refuse_end fields none (line.Entry e) fits same = absurd (let k : ◌≡◌ {A = ℕ} 3101 5101 = ap key (line_parts (codes "end") fields (line.Entry e) (tested_word (codes "end") refl) same).0 in omega arith)
+refuse_end fields none (line.Action (Piece e offset size p)) fits same = absurd (let k : ◌≡◌ {A = ℕ} 3101 5112 = ap key (line_parts (codes "end") fields (line.Action (Piece e offset size p)) (tested_word (codes "end") refl) same).0 in omega arith)
+refuse_end fields none (line.Action (Commit e)) fits same = absurd (let k : ◌≡◌ {A = ℕ} 3101 6099 = ap key (line_parts (codes "end") fields (line.Action (Commit e)) (tested_word (codes "end") refl) same).0 in omega arith)
+refuse_end fields none (line.Action (Mark e)) fits same = absurd (let k : ◌≡◌ {A = ℕ} 3101 4109 = ap key (line_parts (codes "end") fields (line.Action (Mark e)) (tested_word (codes "end") refl) same).0 in omega arith)
+refuse_end fields none (line.Pred j) fits same = absurd (let k : ◌≡◌ {A = ℕ} 3101 1112 = ap key (line_parts (codes "end") fields (line.Pred j) (tested_word (codes "end") refl) same).0 in omega arith)
+refuse_end fields none (line.End m n) fits same = none m n fits.0 fits.1 (line_parts (codes "end") fields (line.End m n) (tested_word (codes "end") refl) same).1
 
 -- no first line
 pub refuse_header : (fields : List ℕ) → (fields ≢ codes "1") → (l : PlanLine) → LineFits l → codes "twosync-plan" ++ 32 ∷ fields ≢ line_text l
 unfolding key
-refuse_header fields none line.Header fits same = none (line_parts (codes "twosync-plan") fields line.Header (clean_word (codes "twosync-plan") (clean_from_test (codes "twosync-plan") refl)) same).1
-refuse_header fields none (line.Entry e) fits same = absurd (let k : ◌≡◌ {A = ℕ} 12116 5101 = ap key (line_parts (codes "twosync-plan") fields (line.Entry e) (clean_word (codes "twosync-plan") (clean_from_test (codes "twosync-plan") refl)) same).0 in omega arith)
-refuse_header fields none (line.Action (Piece e offset size p)) fits same = absurd (let k : ◌≡◌ {A = ℕ} 12116 5112 = ap key (line_parts (codes "twosync-plan") fields (line.Action (Piece e offset size p)) (clean_word (codes "twosync-plan") (clean_from_test (codes "twosync-plan") refl)) same).0 in omega arith)
-refuse_header fields none (line.Action (Commit e)) fits same = absurd (let k : ◌≡◌ {A = ℕ} 12116 6099 = ap key (line_parts (codes "twosync-plan") fields (line.Action (Commit e)) (clean_word (codes "twosync-plan") (clean_from_test (codes "twosync-plan") refl)) same).0 in omega arith)
-refuse_header fields none (line.Action (Mark e)) fits same = absurd (let k : ◌≡◌ {A = ℕ} 12116 4109 = ap key (line_parts (codes "twosync-plan") fields (line.Action (Mark e)) (clean_word (codes "twosync-plan") (clean_from_test (codes "twosync-plan") refl)) same).0 in omega arith)
-refuse_header fields none (line.Pred j) fits same = absurd (let k : ◌≡◌ {A = ℕ} 12116 1112 = ap key (line_parts (codes "twosync-plan") fields (line.Pred j) (clean_word (codes "twosync-plan") (clean_from_test (codes "twosync-plan") refl)) same).0 in omega arith)
-refuse_header fields none (line.End m n) fits same = absurd (let k : ◌≡◌ {A = ℕ} 12116 3101 = ap key (line_parts (codes "twosync-plan") fields (line.End m n) (clean_word (codes "twosync-plan") (clean_from_test (codes "twosync-plan") refl)) same).0 in omega arith)
+refuse_header fields none line.Header fits same = none (line_parts (codes "twosync-plan") fields line.Header (tested_word (codes "twosync-plan") refl) same).1
+refuse_header fields none (line.Entry e) fits same = absurd (let k : ◌≡◌ {A = ℕ} 12116 5101 = ap key (line_parts (codes "twosync-plan") fields (line.Entry e) (tested_word (codes "twosync-plan") refl) same).0 in omega arith)
+refuse_header fields none (line.Action (Piece e offset size p)) fits same = absurd (let k : ◌≡◌ {A = ℕ} 12116 5112 = ap key (line_parts (codes "twosync-plan") fields (line.Action (Piece e offset size p)) (tested_word (codes "twosync-plan") refl) same).0 in omega arith)
+refuse_header fields none (line.Action (Commit e)) fits same = absurd (let k : ◌≡◌ {A = ℕ} 12116 6099 = ap key (line_parts (codes "twosync-plan") fields (line.Action (Commit e)) (tested_word (codes "twosync-plan") refl) same).0 in omega arith)
+refuse_header fields none (line.Action (Mark e)) fits same = absurd (let k : ◌≡◌ {A = ℕ} 12116 4109 = ap key (line_parts (codes "twosync-plan") fields (line.Action (Mark e)) (tested_word (codes "twosync-plan") refl) same).0 in omega arith)
+refuse_header fields none (line.Pred j) fits same = absurd (let k : ◌≡◌ {A = ℕ} 12116 1112 = ap key (line_parts (codes "twosync-plan") fields (line.Pred j) (tested_word (codes "twosync-plan") refl) same).0 in omega arith)
+refuse_header fields none (line.End m n) fits same = absurd (let k : ◌≡◌ {A = ℕ} 12116 3101 = ap key (line_parts (codes "twosync-plan") fields (line.End m n) (tested_word (codes "twosync-plan") refl) same).0 in omega arith)
 
 -- a line of another first word
 pub record IsOther (word : List ℕ) : Type 0 where
@@ -199,7 +179,7 @@ pub record IsOther (word : List ℕ) : Type 0 where
   pub end : word ≢ codes "end"
   pub header : word ≢ codes "twosync-plan"
 
-pub refuse_other : (word rest : List ℕ) → IsWord word → IsOther word → (l : PlanLine) → LineFits l → word ++ 32 ∷ rest ≢ line_text l
+pub refuse_other : (word rest : List ℕ) → HasNo 32 word → IsOther word → (l : PlanLine) → LineFits l → word ++ 32 ∷ rest ≢ line_text l
 refuse_other word rest is other line.Header fits same = other.header (line_parts word rest line.Header is same).0
 refuse_other word rest is other (line.Entry e) fits same = other.entry (line_parts word rest (line.Entry e) is same).0
 refuse_other word rest is other (line.Action (Piece e offset size p)) fits same = other.piece (line_parts word rest (line.Action (Piece e offset size p)) is same).0
@@ -215,7 +195,7 @@ refuse_whole bytes none l fits same = none (front l) (tail l) (same ∙ line_spl
 -- a number before a space, and what stands behind it
 pub number_parts : (m n : ℕ) (u v : List ℕ) → m < 2 ^ 64 → n < 2 ^ 64 → decimal m ++ 32 ∷ u ≡ decimal n ++ 32 ∷ v → (m ≡ n) × (u ≡ v)
 number_parts m n u v small_m small_n e =
-    let p = cut_word (decimal m) (decimal n) u v (decimal_word m small_m) (decimal_word n small_n) e in
+    let p = cut_at 32 (decimal m) (decimal n) u v (decimal_word m small_m) (decimal_word n small_n) e in
     (decimal_injective m n small_m small_n p.0, p.1)
 
 -- a line whose path can't be read

@@ -1,10 +1,10 @@
 -- A built plan has a text: its paths are lawful, and its numbers fit.
-use Rattle.std.proofs.Common.{◌≡◌, ◌≢◌, ◌⊎◌, ℕ, zero, suc, ◌+◌, ◌-◌, ◌*◌, ◌^◌, ◌<◌, ◌≤◌, min, sum_by, Bool, true, false, cond, List, [], ◌∷◌, ◌++◌, length, Some, slice_get, refl, sym, ◌∙◌, subst, inl, inr, arith}
+use Rattle.std.proofs.Common.{◌≡◌, ◌≢◌, ℕ, zero, suc, ◌+◌, ◌-◌, ◌*◌, ◌^◌, ◌<◌, ◌≤◌, min, sum_by, Bool, true, false, cond, List, [], ◌∷◌, length, Some, slice_get, refl, sym, ◌∙◌, subst, inl, inr, arith}
 use Rattle.std.proofs.lemmas.Option.{none-some, slice_get_within}
 use Rattle.std.specs.List.{AllByRecursion}
 use Rattle.ts_name.specs.Paths.{Path, IsPath, same_path}
 use Rattle.ts_name.specs.Laws.{same_path_equal}
-use Rattle.ts_name.proofs.Prefixes.{push_not_empty}
+use Rattle.ts_name.proofs.Prefixes.{snoc_not_empty}
 use Rattle.ts_model.specs.Trees.{Listing, listed, at, IsListing}
 use Rattle.ts_model.specs.Sync.{listed_snapshot, HasReason}
 use Rattle.ts_model.specs.Plans.{EntryIs, ActionIs, AscendBelow}
@@ -60,7 +60,7 @@ reason_path : (A F S : Listing Stamp) (rules : List Rule) → IsListing A → Is
 reason_path A F S rules lists_a lists_f lists_s p r has = (lawful, not_root)
   where
     not_root : p ≢ []
-    not_root e = push_not_empty has.0.0 has.0.1 (sym has.0.2 ∙ e)
+    not_root e = snoc_not_empty has.0.0 has.0.1 (sym has.0.2 ∙ e)
 
     lawful : IsPath p
     lawful = elim (same_content (at A p) Absent) [

@@ -1,5 +1,5 @@
 -- A built plan breaks no rule.
-use Rattle.std.proofs.Common.{◌≡◌, ◌≢◌, ◌⊎◌, ℕ, zero, suc, ◌+◌, ◌-◌, ◌*◌, ◌%◌, ◌<◌, ◌≤◌, sum_by, List, [], ◌∷◌, ◌++◌, length, Option, Some, None, Contains, slice_get, refl, sym, ap, ◌∙◌, subst, inl, inr, arith}
+use Rattle.std.proofs.Common.{◌≡◌, ◌≢◌, ◌⊎◌, ℕ, zero, suc, ◌+◌, ◌*◌, ◌<◌, ◌≤◌, sum_by, List, [], ◌∷◌, ◌++◌, length, Option, Some, None, Contains, slice_get, refl, sym, ap, ◌∙◌, subst, inl, inr, arith}
 use Rattle.std.proofs.lemmas.Bool.{cases_order}
 use Rattle.std.proofs.lemmas.Option.{none-some, slice_get_within, slice_get-get_or, get_or_from_slice_get}
 use Rattle.ts_name.specs.Paths.{Path, IsAbove, IsBefore}
@@ -129,25 +129,19 @@ module _ (F S : Listing Stamp) (plan : Plan) (w : IsBuilt F S plan.entries plan.
       alone : source entry.reason ≡ None → ¬ IsSkipped entry.reason → (j : ℕ) → i ≡ length l.before + j → slice_get (mark_of e l.above None ∷ []) j ≡ Some a → View e entry l i a
       alone none plain j at here = let one = get_one (mark_of e l.above None) j a here in is_mark none plain (let z : j ≡ 0 = one.0 in omega arith) one.1
 
-      go : (r : Reason) → entry.reason ≡ r → (j : ℕ) × (i ≡ length l.before + j) × (slice_get (block F S e entry.path entry.reason l.above (length l.before)) j ≡ Some a) → View e entry l i a
-      go reason.First is found = copied side.First (ap source is) found.0 found.1 (copy_at e (rows_below entry.path F) l.above (length l.before) found.0 a (subst (λ (r : Reason). slice_get (block F S e entry.path r l.above (length l.before)) found.0 ≡ Some a) is found.2))
-      go reason.Second is found = copied side.Second (ap source is) found.0 found.1 (copy_at e (rows_below entry.path S) l.above (length l.before) found.0 a (subst (λ (r : Reason). slice_get (block F S e entry.path r l.above (length l.before)) found.0 ≡ Some a) is found.2))
-      go reason.Same is found = alone (ap source is) (subst (λ (r : Reason). ¬ IsSkipped r) (sym is) (λ skipped. elim skipped [ inl f ↦ same_conflict f | inr f ↦ same_held f ])) found.0 found.1 (subst (λ (r : Reason). slice_get (block F S e entry.path r l.above (length l.before)) found.0 ≡ Some a) is found.2)
+      go : (r : Reason) → entry.reason ≡ r → (j : ℕ) × (i ≡ length l.before + j) × (slice_get (block F S e entry.path r l.above (length l.before)) j ≡ Some a) → View e entry l i a
+      go reason.First is found = copied side.First (ap source is) found.0 found.1 (copy_at e (rows_below entry.path F) l.above (length l.before) found.0 a found.2)
+      go reason.Second is found = copied side.Second (ap source is) found.0 found.1 (copy_at e (rows_below entry.path S) l.above (length l.before) found.0 a found.2)
+      go reason.Same is found = alone (ap source is) (λ skipped. not_same (subst IsSkipped is skipped)) found.0 found.1 found.2
         where
-          same_conflict : reason.Same ≢ reason.Conflict
-          same_conflict f = cc
-
-          same_held : reason.Same ≢ reason.Held
-          same_held f = cc
-      go reason.Dir is found = alone (ap source is) (subst (λ (r : Reason). ¬ IsSkipped r) (sym is) (λ skipped. elim skipped [ inl f ↦ dir_conflict f | inr f ↦ dir_held f ])) found.0 found.1 (subst (λ (r : Reason). slice_get (block F S e entry.path r l.above (length l.before)) found.0 ≡ Some a) is found.2)
+          not_same : ¬ IsSkipped reason.Same
+          not_same skipped = elim skipped [ inl f ↦ cc | inr f ↦ cc ]
+      go reason.Dir is found = alone (ap source is) (λ skipped. not_dir (subst IsSkipped is skipped)) found.0 found.1 found.2
         where
-          dir_conflict : reason.Dir ≢ reason.Conflict
-          dir_conflict f = cc
-
-          dir_held : reason.Dir ≢ reason.Held
-          dir_held f = cc
-      go reason.Conflict is found = absurd (none-some a (subst (λ (r : Reason). slice_get (block F S e entry.path r l.above (length l.before)) found.0 ≡ Some a) is found.2))
-      go reason.Held is found = absurd (none-some a (subst (λ (r : Reason). slice_get (block F S e entry.path r l.above (length l.before)) found.0 ≡ Some a) is found.2))
+          not_dir : ¬ IsSkipped reason.Dir
+          not_dir skipped = elim skipped [ inl f ↦ cc | inr f ↦ cc ]
+      go reason.Conflict is found = absurd (none-some a found.2)
+      go reason.Held is found = absurd (none-some a found.2)
 
   -- a copied entry's block
   copied_block : (e : ℕ) (entry : Entry) (from : Side) (above : Option ℕ) (at : ℕ) → source entry.reason ≡ Some from → block F S e entry.path entry.reason above at ≡ copy_block e (rows_below entry.path (side_rows F S from)) above at
@@ -155,13 +149,8 @@ module _ (F S : Listing Stamp) (plan : Plan) (w : IsBuilt F S plan.entries plan.
     where
       go : (r : Reason) (from : Side) → source r ≡ Some from → block F S e entry.path r above at ≡ copy_block e (rows_below entry.path (side_rows F S from)) above at
       go reason.First side.First h = refl
-      go reason.First side.Second h = cc
-      go reason.Second side.First h = cc
       go reason.Second side.Second h = refl
-      go reason.Same from h = cc
-      go reason.Dir from h = cc
-      go reason.Conflict from h = cc
-      go reason.Held from h = cc
+      go _ _ h = cc
 
   commit_here : (e : ℕ) (entry : Entry) (l : IsLocated F S plan.entries plan.actions e entry) (from : Side) → source entry.reason ≡ Some from
       → ActionIs plan (length l.before + length (pieces e entry from)) (commit_of e (length l.before) (length (pieces e entry from)))
@@ -178,6 +167,10 @@ module _ (F S : Listing Stamp) (plan : Plan) (w : IsBuilt F S plan.entries plan.
   -- the kind of an action tells its entry
   pub of_kind : (a : Action) (kind : Kind) (e : ℕ) → a.kind ≡ kind → entry_of kind ≡ e → entry_of a.kind ≡ e
   of_kind a kind e is f = ap entry_of is ∙ f
+
+  -- so there is an entry for it
+  entry_by : (e i : ℕ) (a : Action) (kind : Kind) → ActionIs plan i a → a.kind ≡ kind → entry_of kind ≡ e → (entry : Entry) × EntryIs plan e entry
+  entry_by e i a kind h is f = let found = entry_here i a h in (found.0, subst (λ (n : ℕ). EntryIs plan n found.0) (of_kind a kind e is f) found.1)
 
   -- a commit is that of a copied entry
   record CommitAt (e : ℕ) (entry : Entry) (l : IsLocated F S plan.entries plan.actions e entry) (i : ℕ) (a : Action) : Type 0 where
@@ -199,10 +192,9 @@ module _ (F S : Listing Stamp) (plan : Plan) (w : IsBuilt F S plan.entries plan.
   -- the entry of a commit, and where the commit stands
   commit_found : (e i : ℕ) (a : Action) → ActionIs plan i a → a.kind ≡ Commit e → (entry : Entry) × ((is : EntryIs plan e entry) × CommitAt e entry (located e entry is) i a)
   commit_found e i a h k =
-      let of : entry_of a.kind ≡ e = of_kind a (Commit e) e k refl in
-      let found = entry_here i a h in
-      let is : EntryIs plan e found.0 = subst (λ (n : ℕ). EntryIs plan n found.0) of found.1 in
-      (found.0, (is, commit_at e found.0 (located e found.0 is) i a k (view e found.0 (located e found.0 is) i a h of)))
+      let found = entry_by e i a (Commit e) h k refl in
+      let l = located e found.0 found.1 in
+      (found.0, (found.1, commit_at e found.0 l i a k (view e found.0 l i a h (of_kind a (Commit e) e k refl))))
 
   -- the places of a commit are one
   one_commit_place : (e i j : ℕ) (a b : Action) (entry : Entry) (is : EntryIs plan e entry) → ActionIs plan j b → b.kind ≡ Commit e → CommitAt e entry (located e entry is) i a → i ≡ j
@@ -246,18 +238,14 @@ module _ (F S : Listing Stamp) (plan : Plan) (w : IsBuilt F S plan.entries plan.
 
   mark_found : (e i : ℕ) (a : Action) → ActionIs plan i a → a.kind ≡ Mark e → (entry : Entry) × ((is : EntryIs plan e entry) × MarkAt e entry (located e entry is) i a)
   mark_found e i a h k =
-      let of : entry_of a.kind ≡ e = of_kind a (Mark e) e k refl in
-      let found = entry_here i a h in
-      let is : EntryIs plan e found.0 = subst (λ (n : ℕ). EntryIs plan n found.0) of found.1 in
-      (found.0, (is, mark_at e found.0 (located e found.0 is) i a k (view e found.0 (located e found.0 is) i a h of)))
+      let found = entry_by e i a (Mark e) h k refl in
+      let l = located e found.0 found.1 in
+      (found.0, (found.1, mark_at e found.0 l i a k (view e found.0 l i a h (of_kind a (Mark e) e k refl))))
 
   source_cases : (r : Reason) → (source r ≡ None) ⊎ ((from : Side) × (source r ≡ Some from))
-  source_cases reason.Same = inl refl
   source_cases reason.First = inr (side.First, refl)
   source_cases reason.Second = inr (side.Second, refl)
-  source_cases reason.Conflict = inl refl
-  source_cases reason.Held = inl refl
-  source_cases reason.Dir = inl refl
+  source_cases _ = inl refl
 
   one_mark_place : (e i j : ℕ) (a b : Action) (entry : Entry) (is : EntryIs plan e entry) → ActionIs plan j b → b.kind ≡ Mark e → MarkAt e entry (located e entry is) i a → i ≡ j
   one_mark_place e i j a b entry is h k first =
@@ -415,7 +403,7 @@ module _ (F S : Listing Stamp) (plan : Plan) (w : IsBuilt F S plan.entries plan.
       on_side side.Second p stamp f = f
 
       piece_entry : (e offset len : ℕ) (p : Path) (i : ℕ) (a : Action) → ActionIs plan i a → a.kind ≡ Piece e offset len p → (entry : Entry) × EntryIs plan e entry
-      piece_entry e offset len p i a is k = let found = entry_here i a is in (found.0, subst (λ (n : ℕ). EntryIs plan n found.0) (of_kind a (Piece e offset len p) e k refl) found.1)
+      piece_entry e offset len p i a is k = entry_by e i a (Piece e offset len p) is k refl
 
       piece_lawful : (e offset len : ℕ) (p : Path) (i : ℕ) (a : Action) → a.kind ≡ Piece e offset len p → (entry : Entry) (is : EntryIs plan e entry) → View e entry (located e entry is) i a
           → (from : Side) × (source entry.reason ≡ Some from) × IsLawful (side_rows F S from) entry.path e offset len p
@@ -455,9 +443,8 @@ module _ (F S : Listing Stamp) (plan : Plan) (w : IsBuilt F S plan.entries plan.
       let a = h.4.0 in
       let b = h.5.3.0 in
       let k : b.kind ≡ Piece h.0 h.1 h.5.4.0 h.3 = h.5.3.2 ∙ h.5.4.1 in
-      let found = entry_here place a h.4.1 in
-      let is : EntryIs plan h.0 found.0 = subst (λ (n : ℕ). EntryIs plan n found.0) (of_kind a (Piece h.0 h.1 h.2 h.3) h.0 h.4.2 refl) found.1 in
-      let l = located h.0 found.0 is in
+      let found = entry_by h.0 place a (Piece h.0 h.1 h.2 h.3) h.4.1 h.4.2 refl in
+      let l = located h.0 found.0 found.1 in
       let one = piece_at h.0 h.1 h.2 h.3 found.0 l place a h.4.2 (view h.0 found.0 l place a h.4.1 (of_kind a (Piece h.0 h.1 h.2 h.3) h.0 h.4.2 refl)) in
       let two = piece_at h.0 h.1 h.5.4.0 h.3 found.0 l h.5.0 b k (view h.0 found.0 l h.5.0 b h.5.3.1 (of_kind b (Piece h.0 h.1 h.5.4.0 h.3) h.0 k refl)) in
       let same : place ≡ h.5.0 = one_piece_place lists_f lists_s h.0 h.1 h.2 h.5.4.0 h.3 found.0 l place h.5.0 a b h.4.2 k one two in

@@ -1,6 +1,6 @@
 -- The actions of an entry, which stand side by side in a built plan.
 --     block F S e entry above base    the actions of entry e, the first of them with the number base
-use Rattle.std.specs.Prelude.{◌≡◌, ◌≢◌, ℕ, zero, suc, ◌+◌, ◌-◌, ◌*◌, ◌/◌, ◌<◌, ◌==◌, min, cond, List, [], ◌∷◌, ◌++◌, length, flat_map, Option, Some, None}
+use Rattle.std.specs.Prelude.{ℕ, zero, suc, ◌+◌, ◌-◌, ◌*◌, ◌/◌, ◌==◌, min, cond, List, [], ◌∷◌, ◌++◌, length, flat_map, Option, Some, None}
 use Rattle.ts_name.specs.Paths.{Path}
 use Rattle.ts_model.specs.Trees.{Listing}
 use Rattle.ts_model.specs.Plans.{piece_size}

@@ -1,12 +1,10 @@
 -- Assemblies: rows whose contents change while their kinds stay.
-use Rattle.std.proofs.Common.{◌≡◌, ◌≢◌, ℕ, zero, suc, ◌<◌, ◌≤◌, Bool, true, false, cond, List, [], ◌∷◌, ◌++◌, length, map, get_or, take, drop, Some, None, Less, Equal, Greater, refl, sym, ap, ap₂, ◌∙◌, subst, arith, lit<, ◌⊎◌, inl, inr, Result, Ok, Err, OnOk, OnErr}
+use Rattle.std.proofs.Common.{◌≡◌, ◌≢◌, ℕ, zero, suc, ◌<◌, Bool, true, false, cond, List, [], ◌∷◌, ◌++◌, length, map, get_or, Some, None, refl, sym, ap, ap₂, ◌∙◌, subst, arith, lit<, ◌⊎◌, inl, inr, Result, Ok, Err, OnOk, OnErr}
 use Rattle.std.proofs.Math.ListN.{set}
 use Rattle.std.proofs.lemmas.Bool.{cond-true, cond-false}
-use Rattle.std.proofs.lemmas.Cmp.{tied_itself}
-use Rattle.std.proofs.lemmas.List.{set-get_or, take-append-drop}
+use Rattle.std.proofs.lemmas.List.{set-get_or, append_cancel_left}
 use Rattle.std.specs.List.{AllByRecursion}
-use Rattle.std.specs.List.Sorted.{IsPartitionPoint}
-use Rattle.ts_name.specs.Paths.{Path, IsPath, IsBefore, below, path_cmp, same_path}
+use Rattle.ts_name.specs.Paths.{Path, IsPath, IsBefore, below, same_path}
 use Rattle.ts_model.specs.Texts.{FileFits}
 use Rattle.ts_model.specs.Trees.{Listing, Ascend, IsSubListing, listed, print_of}
 use Rattle.ts_model.specs.declared.row.Content.{Content}
@@ -17,8 +15,11 @@ use Rattle.ts_print.specs.Assemblies.{Assembly, HasSoFar, begun, begun_rows, mor
 use Rattle.ts_print.specs.Prints.{stamped_rows}
 use Rattle.ts_print.proofs.Stamping.{listed-stamped}
 use Rattle.ts_table.proofs.Listings.{listed_at}
-use Rattle.ts_table.proofs.Paths.{append_same, below_append, below_gives, before_itself, path_total, same_path_differ, same_path_equal, same_path_itself}
-use Rattle.ts_table.proofs.Rows.{all_before, all_from, ascend_first, ascend_pair, ascend_rest, by_each, listed_none, weaker}
+use Rattle.ts_name.specs.Laws.{same_path_differ, same_path_equal, same_path_itself}
+use Rattle.ts_name.proofs.Prefixes.{below_append, below_gives}
+use Rattle.ts_name.proofs.Order.{before_itself}
+use Rattle.ts_name.proofs.Basics.{by_each, weaker}
+use Rattle.ts_table.proofs.Rows.{ascend_first, ascend_pair, ascend_rest}
 
 -- ---- rows whose contents change
 
@@ -114,7 +115,7 @@ more_else : (top rest : Path) (bytes : List ℕ) (rows : Listing (List ℕ)) →
 more_else top rest bytes [] h = refl
 more_else top rest bytes (row ∷ rows) h =
     ap₂ (λ x xs. record { path = row.path; content = x } ∷ xs)
-    (cond-false _ _ _ (same_path_differ (top ++ row.path) (top ++ rest) (λ e. h.0 (append_same top row.path rest e))))
+    (cond-false _ _ _ (same_path_differ (top ++ row.path) (top ++ rest) (λ e. h.0 (append_cancel_left top row.path rest e))))
     (more_else top rest bytes rows h.1)
 
 -- writing over the row of the file is the same
@@ -129,7 +130,7 @@ set_more top rest bytes (row ∷ rows) zero d up under is =
 set_more top rest bytes (row ∷ rows) (suc i) d up under is =
     let before : IsBefore row.path (get_or rows i d).path = ascend_pair (row ∷ rows) up 0 (suc i) d (omega arith) under in
     ap₂ (λ x xs. record { path = row.path; content = x } ∷ xs)
-    (sym (cond-false _ _ _ (same_path_differ (top ++ row.path) (top ++ rest) (λ e. before_itself rest (subst (λ z. IsBefore z rest) (append_same top row.path rest e) (subst (λ z. IsBefore row.path z) is before))))))
+    (sym (cond-false _ _ _ (same_path_differ (top ++ row.path) (top ++ rest) (λ e. before_itself rest (subst (λ z. IsBefore z rest) (append_cancel_left top row.path rest e) (subst (λ z. IsBefore row.path z) is before))))))
     (set_more top rest bytes rows i d (ascend_rest row rows up) (omega arith) is)
 
 pub all_get_or : {A : Type 0} (P : A → Type 0) (xs : List A) (i : ℕ) (d : A) → i < length xs → AllByRecursion P xs → P (get_or xs i d)
@@ -170,7 +171,7 @@ still_rows rest bytes rows i row x lists under is at_rest (inr e) =
 
 pub far_path : (a : Assembly) (path rest : Path) (n : ℕ) → HasSoFar a path n → below a.top path ≡ Some rest → (had : List ℕ) × (listed a.made rest ≡ File had) × (length had ≡ n)
 far_path a path rest n far is =
-    let same : far.0 ≡ rest = append_same a.top far.0 rest (sym far.2 ∙ below_gives a.top path rest is) in
+    let same : far.0 ≡ rest = append_cancel_left a.top far.0 rest (sym far.2 ∙ below_gives a.top path rest is) in
     (far.1, subst (λ z. listed a.made z ≡ File far.1) same far.3, far.4)
 
 pub far_below : (a : Assembly) (path : Path) (n : ℕ) → HasSoFar a path n → below a.top path ≢ None
@@ -191,24 +192,6 @@ far_none a path rest n is gone far = let found = far_path a path rest n far is i
 pub no_file : (x : Content (List ℕ)) (had : List ℕ) → (x ≡ Absent) ⊎ (x ≡ Dir) → x ≢ File had
 no_file x had (inl e) f = let g : ◌≡◌ {A = Content (List ℕ)} Absent (File had) = sym e ∙ f in cc
 no_file x had (inr e) f = let g : ◌≡◌ {A = Content (List ℕ)} Dir (File had) = sym e ∙ f in cc
-
--- ---- a search
-
--- where rows come before a path up to a place and after it from there on, nothing is there
-pub nowhere : {F : Type 0} (rows : Listing F) (p : Path) (i : ℕ) → i ≤ length rows → IsPartitionPoint (λ row. path_cmp row.path p ≡ Less) (λ row. path_cmp row.path p ≡ Greater) rows i → listed rows p ≡ Absent
-nowhere {F} rows p i under parted = ap (λ z. listed z p) (sym (take-append-drop i rows)) ∙ listed_none (take i rows ++ drop i rows) p differ
-  where
-    both : (xs ys : Listing F) → AllByRecursion (λ row. row.path ≢ p) xs → AllByRecursion (λ row. row.path ≢ p) ys → AllByRecursion (λ row. row.path ≢ p) (xs ++ ys)
-    both [] ys h k = k
-    both (x ∷ xs) ys h k = (h.0, both xs ys h.1 k)
-
-    tied : (row : Row F) → row.path ≡ p → path_cmp row.path p ≡ Equal
-    tied row e = subst (λ z. path_cmp z p ≡ Equal) (sym e) (tied_itself path_total p)
-
-    differ : AllByRecursion (λ row. row.path ≢ p) (take i rows ++ drop i rows)
-    differ = both (take i rows) (drop i rows)
-        (weaker (λ (row : Row F). path_cmp row.path p ≡ Less) (λ row. row.path ≢ p) (λ row h e. let f = tied row e in cc) (take i rows) (all_before _ rows i under parted.0))
-        (weaker (λ (row : Row F). path_cmp row.path p ≡ Greater) (λ row. row.path ≢ p) (λ row h e. let f = tied row e in cc) (drop i rows) (all_from _ rows i under parted.1))
 
 -- ---- prints of what is staged
 

@@ -1,16 +1,16 @@
 -- The row that a print's next line spells.
-use Rattle.std.proofs.Common.{◌≡◌, ◌≢◌, ℕ, ◌+◌, ◌^◌, ◌<◌, suc, List, [], ◌∷◌, ◌++◌, length, drop, get_or, decimal, Option, Some, None, MatchOption, refl, sym, ap, ◌∙◌, subst, append_assoc, arith, add-one, drop-cons}
+use Rattle.std.proofs.Common.{◌≡◌, ◌≢◌, ℕ, List, [], ◌∷◌, ◌++◌, decimal, Option, Some, None, MatchOption, refl, sym, ap, ◌∙◌, subst, append_assoc, arith}
 use Rattle.hex.specs.Hex.{encode_lower}
 use Rattle.ts_name.specs.Paths.{Path, path_text}
+use Rattle.ts_name.specs.Buffers.{HasNo}
+use Rattle.ts_name.proofs.Spelling.{cut_at, no_cut}
 use Rattle.ts_model.specs.Trees.{Listing, IsListing}
 use Rattle.ts_model.specs.Texts.{Line, StampFits, print_row_lines, print_lines, IsPrintBody}
 use Rattle.ts_model.specs.declared.row.Content.{Content}
 use Rattle.ts_model.specs.declared.row.Content.TheVariants.{Absent, Dir, File}
-use Rattle.ts_model.specs.declared.row.Row.{Row}
 use Rattle.ts_model.specs.declared.row.Stamp.{Stamp}
 use Rattle.ts_table.proofs.Cuts.{IsListing-front}
-use Rattle.ts_tree.specs.Fields.{SpellsNoPath, Without}
-use Rattle.ts_tree.proofs.Words.{cut_at, no_cut}
+use Rattle.ts_tree.specs.Fields.{SpellsNoPath}
 use Rattle.ts_tree.proofs.Fields.{path_text_word}
 use Rattle.ts_print.specs.Fields.{RowFits, IsNoRow}
 use Rattle.ts_print.specs.Readers.{BeginsNoPrint}
@@ -38,14 +38,14 @@ refuses_tree P Q tree.Failed h r = r
 refuses_tree P Q tree.NotCanonical h r = h r
 
 -- the first word of a line that is cut after it
-pub first_word : {A : Type 0} (o : Option A) (now : A → List ℕ) (line word x u : List ℕ) → Without 32 word → MatchOption o (line ≡ word) (λ rest. line ≡ word ++ 32 ∷ now rest) → Without 32 x → line ≡ x ++ 32 ∷ u → word ≡ x
-first_word None now line word x u is_word split is_x e = absurd (no_cut 32 x u (subst (λ z. Without 32 z) (sym split ∙ e) is_word))
+pub first_word : {A : Type 0} (o : Option A) (now : A → List ℕ) (line word x u : List ℕ) → HasNo 32 word → MatchOption o (line ≡ word) (λ rest. line ≡ word ++ 32 ∷ now rest) → HasNo 32 x → line ≡ x ++ 32 ∷ u → word ≡ x
+first_word None now line word x u is_word split is_x e = absurd (no_cut 32 word x u is_word (sym split ∙ e))
 first_word (Some rest) now line word x u is_word split is_x e = (cut_at 32 word x (now rest) u is_word is_x (sym split ∙ e)).0
 
 -- ---- one line
 
 -- a file's line has a stamp
-pub no_file_line : (fields : List ℕ) → ((path : List ℕ) (stamp : Stamp) → Without 32 path → StampFits (File stamp) → fields ≢ path ++ 32 ∷ (decimal stamp.size ++ 32 ∷ encode_lower stamp.digest))
+pub no_file_line : (fields : List ℕ) → ((path : List ℕ) (stamp : Stamp) → HasNo 32 path → StampFits (File stamp) → fields ≢ path ++ 32 ∷ (decimal stamp.size ++ 32 ∷ encode_lower stamp.digest))
     → IsNoRow (102 ∷ 32 ∷ fields)
 no_file_line fields none p Absent fits e = fits.1 refl
 no_file_line fields none p Dir fits e =
@@ -57,7 +57,7 @@ no_file_line fields none p (File stamp) fits e =
     none (path_text p) stamp (path_text_word p fits.0.0) fits.2 rest
 
 -- and a path before it
-pub no_file_path : (path more : List ℕ) → Without 32 path → SpellsNoPath path → IsNoRow (102 ∷ 32 ∷ (path ++ 32 ∷ more))
+pub no_file_path : (path more : List ℕ) → HasNo 32 path → SpellsNoPath path → IsNoRow (102 ∷ 32 ∷ (path ++ 32 ∷ more))
 no_file_path path more word none p Absent fits e = fits.1 refl
 no_file_path path more word none p Dir fits e =
     let k : (100 ∷ 32 ∷ path_text p) ∷ [] ≡ (102 ∷ 32 ∷ (path ++ 32 ∷ more)) ∷ [] = e in
@@ -85,16 +85,11 @@ one_line p (File stamp) u line rest fits e =
     let k : (102 ∷ 32 ∷ (path_text p ++ 32 ∷ (decimal stamp.size ++ 32 ∷ encode_lower stamp.digest))) ∷ u ≡ line ∷ rest = e in
     let first : 102 ∷ 32 ∷ (path_text p ++ 32 ∷ (decimal stamp.size ++ 32 ∷ encode_lower stamp.digest)) ≡ line = cc in ap (λ z. z ∷ []) first
 
-later_fit : (ys more : Listing Stamp) → texts.RowsFit (ys ++ more) → texts.RowsFit more
-later_fit [] more fit = fit
-later_fit (y ∷ ys) more fit = later_fit ys more fit.1
-
 next_row : (rows whole : Listing Stamp) (line : Line) (rest : List Line) → IsPrintBody rows → IsPrintBody whole → print_lines whole ≡ (print_lines rows ++ line ∷ []) ++ rest → NextRow rows line
-next_row rows whole line rest is is_whole e = go (texts.rows_front whole rows (line ∷ rest) fit (texts.rows_fit rows is) (e ∙ append_assoc (print_lines rows) (line ∷ []) rest))
+next_row rows whole line rest is is_whole e =
+    let found = texts.rows_front whole rows (line ∷ rest) (texts.rows_fit whole is_whole) (texts.rows_fit rows is) (e ∙ append_assoc (print_lines rows) (line ∷ []) rest) in
+    at_more found.more found.rows found.fit found.lines
   where
-    fit : texts.RowsFit whole
-    fit = texts.rows_fit whole is_whole
-
     at_more : (more : Listing Stamp) → whole ≡ rows ++ more → texts.RowsFit more → print_lines more ≡ line ∷ rest → NextRow rows line
     at_more [] all fits e = absurd cc
     at_more (row ∷ more) all fits e = record {
@@ -104,9 +99,6 @@ next_row rows whole line rest is is_whole e = go (texts.rows_front whole rows (l
       told = one_line row.path row.content (print_lines more) line rest fits.0 e;
       listing = IsListing-front (rows ++ row ∷ []) more (subst (λ z. IsListing z) (all ∙ sym (append_assoc rows (row ∷ []) more)) is_whole.listing);
     }
-
-    go : texts.RowsFollow whole rows (line ∷ rest) → NextRow rows line
-    go found = at_more found.more found.rows (later_fit rows found.more (subst (λ z. texts.RowsFit z) found.rows fit)) found.lines
 
 -- a line that spells no row
 pub no_row_next : (rows : Listing Stamp) (line : Line) → IsPrintBody rows → IsNoRow line → BeginsNoPrint (print_lines rows ++ line ∷ [])
@@ -121,10 +113,3 @@ no_room rows line p x is fits told none whole rest is_whole e =
     let next = next_row rows whole line rest is is_whole e in
     let same = texts.one_row next.path p next.content x [] [] next.fits (fits.0.0, fits.0.1, fits.1, fits.2) (ap (λ z. z ++ []) (next.told ∙ sym told)) in
     none next.content (subst (λ q. IsListing (rows ++ record { path = q; content = next.content } ∷ [])) same.0 next.listing)
-
--- ---- writing
-
--- a row, and the rows after it
-pub rows_step : (rows : Listing Stamp) (i : ℕ) (row : Row Stamp) → i < length rows → row ≡ get_or rows i row
-    → print_lines (drop i rows) ≡ print_row_lines row.path row.content ++ print_lines (drop (i + 1) rows)
-rows_step rows i row within is = rw (add-one, drop-cons rows i row within) (ap (λ (r : Row Stamp). print_row_lines r.path r.content ++ print_lines (drop (suc i) rows)) (sym is))

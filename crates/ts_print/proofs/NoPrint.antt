@@ -1,5 +1,5 @@
 -- Why a decoder answers no print.
-use Rattle.std.proofs.Common.{◌≡◌, ◌≢◌, ℕ, List, [], ◌∷◌, ◌++◌, Err, ◌∙◌}
+use Rattle.std.proofs.Common.{◌≡◌, ◌≢◌, List, ◌++◌, Err}
 use Rattle.ts_text.specs.Lines.{Reading, Answers}
 use Rattle.ts_text.specs.declared.fault.TextFault.{TextFault}
 use Rattle.ts_text.specs.declared.fault.TextFault.TheVariants as text_fault

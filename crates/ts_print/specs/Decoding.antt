@@ -1,6 +1,6 @@
 -- What a decoder answers for the bytes that a line reader has left.
 --     DecodesPrint, FindsNoPrint    the answer of a print's decoder
-use Rattle.std.specs.Prelude.{ℕ, IfSome}
+use Rattle.std.specs.Prelude.{IfSome}
 use Rattle.ts_text.specs.Lines.{Reading}
 use Rattle.ts_text.specs.declared.fault.TextFault.{TextFault}
 use Rattle.ts_text.specs.declared.fault.TextFault.TheVariants as text

@@ -1,5 +1,5 @@
 -- The line of a row of a print.
-use Rattle.std.specs.Prelude.{◌≡◌, ◌≢◌, ℕ, [], ◌∷◌}
+use Rattle.std.specs.Prelude.{◌≢◌, [], ◌∷◌}
 use Rattle.ts_name.specs.Paths.{Path}
 use Rattle.ts_model.specs.Texts.{Line, StampFits, print_row_lines}
 use Rattle.ts_model.specs.declared.row.Content.{Content}

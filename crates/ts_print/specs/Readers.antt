@@ -1,5 +1,5 @@
 -- What a reader of a print's lines refuses.
-use Rattle.std.specs.Prelude.{◌≡◌, ◌≢◌, List, ◌++◌}
+use Rattle.std.specs.Prelude.{◌≢◌, List, ◌++◌}
 use Rattle.ts_model.specs.Texts.{Line, print_lines, IsPrintBody}
 use Rattle.ts_model.specs.Trees.{Listing}
 use Rattle.ts_model.specs.declared.row.Stamp.{Stamp}

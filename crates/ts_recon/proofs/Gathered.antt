@@ -1,25 +1,24 @@
 -- The entries that a walk over an archive and two replicas has gathered so far.
 use Rattle.std.proofs.Common.{◌≡◌, ◌≢◌, ◌⊎◌, ◌↔◌, ℕ, ◌+◌, ◌-◌, ◌<◌, ◌≤◌, min, Bool, true, false, cond, List, [], ◌∷◌, ◌++◌, length, length-append, get_or, Contains, Option, Some, None, refl, sym, ap, ◌∙◌, subst, inl, inr, arith, IsTrue, append-nil, append_assoc}
-use Rattle.std.proofs.lemmas.List.Elements.{Contains-get_or, Contains-push_cases, Contains-push, Contains-append_left}
+use Rattle.std.proofs.lemmas.List.Elements.{Contains-push, Contains-append_left}
 use Rattle.ts_name.specs.Paths.{Name, Path, IsAbove, IsBefore}
-use Rattle.ts_model.specs.Trees.{Listing, listed, at, sub, IsListing}
-use Rattle.ts_model.specs.Sync.{Snapshot, listed_snapshot, AreBothDirs, IsBelowDirs, Agree, Because, HasReason}
+use Rattle.ts_model.specs.Trees.{Listing, at, IsListing}
+use Rattle.ts_model.specs.Sync.{Snapshot, listed_snapshot, AreBothDirs, IsBelowDirs, HasReason}
 use Rattle.ts_model.specs.declared.hold.Rule.{Rule}
 use Rattle.ts_model.specs.declared.row.Content.{Content}
 use Rattle.ts_model.specs.declared.row.Content.TheVariants.{Absent, Dir, File}
 use Rattle.ts_model.specs.declared.row.Stamp.{Stamp}
 use Rattle.ts_model.specs.declared.plan.Entry.{Entry}
 use Rattle.ts_model.specs.declared.plan.Reason.{Reason}
-use Rattle.ts_model.specs.declared.plan.Reason.TheVariants as reason
 use Rattle.ts_dirty.specs.Walks.{Left, IsWalkStep}
-use Rattle.ts_dirty.proofs.Rows.{IsRest, rest_all, rest_step, rest_between, rest_here, rest_forward}
-use Rattle.ts_name.proofs.Order.{before_itself, decide_before, before_turned, before_below}
-use Rattle.ts_name.proofs.Prefixes.{above_trans, last_name, push_not_empty, same_parent}
-use Rattle.ts_dirty.proofs.Order.{upto_before, above_between}
+use Rattle.ts_name.proofs.Order.{decide_before, before_turned, before_below}
+use Rattle.ts_name.proofs.Prefixes.{above_trans, last_name, snoc_not_empty, same_parent, snoc_not_empty}
+use Rattle.ts_dirty.proofs.Order.{above_between}
+use Rattle.ts_dirty.proofs.Walks.{IsLeft, IsThere, left_all, left_none, step_forward, step_left, step_there, step_between}
 use Rattle.ts_dirty.proofs.Dirt.{same_content}
-use Rattle.ts_dirty.proofs.Upto.{push_pairs, upto_later, stands, upto, inside, same}
+use Rattle.ts_dirty.proofs.Upto.{upto_later, upto_next, upto_root, ascending_more, each_more}
 use Rattle.ts_recon.specs.Reasons.{AreReasons, IsReasonOf, IsSeen, with_reason}
-use Rattle.ts_recon.proofs.Why.{one_because}
+use Rattle.ts_model.proofs.Reasons.{one_because, nothing_no_reason}
 
 -- ---- paths
 
@@ -65,43 +64,31 @@ pub record IsGathered (s : Snapshot) (b : Path) (entries : List Entry) : Type 0 
   pub each : (e : Entry) → Contains entries e → HasReason s e.path e.reason × (¬ IsBefore b e.path)
   pub all : (p : Path) (r : Reason) → HasReason s p r → ¬ IsBefore b p → Contains entries (record { path = p; reason = r })
 
-ascending_more : (es : List Entry) (e : Entry) → ((i j : ℕ) (d : Entry) → i < j → j < length es → IsBefore (get_or es i d).path (get_or es j d).path) → ((x : Entry) → Contains es x → IsBefore x.path e.path)
-    → (i j : ℕ) (d : Entry) → i < j → j < length (es ++ e ∷ []) → IsBefore (get_or (es ++ e ∷ []) i d).path (get_or (es ++ e ∷ []) j d).path
-ascending_more es e old earlier = push_pairs (λ (x y : Entry). IsBefore x.path y.path) es e old (λ i d l. earlier (get_or es i d) (Contains-get_or es i d l))
-
 -- one more path, with what was found of it
 pub gathered_step : (s : Snapshot) (b p : Path) (entries : List Entry) (found : Option Reason) → ((x y : Reason) → HasReason s p x → HasReason s p y → x ≡ y) → IsGathered s b entries → IsBefore b p
     → ((q : Path) (r : Reason) → IsBefore b q → IsBefore q p → ¬ HasReason s q r) → IsReasonOf s p found → IsGathered s p (with_reason entries p found)
 gathered_step s b p entries None one h less none is = record {
   ascending = h.ascending;
   each = λ e c. ((h.each e c).0, upto_later b p e.path less (h.each e c).1);
-  all = λ q r has n. elim (stands b p q n) [
-    | upto m ↦ h.all q r has m
-    | inside after before ↦ absurd (none q r after before has)
-    | same e ↦ absurd (is r (subst (λ (z : Path). HasReason s z r) e has))
-  ];
+  all = λ q r. upto_next (λ z. HasReason s z r) (λ z. Contains entries (record { path = z; reason = r })) b p (λ z after before. none z r after before) (λ z. h.all z r) (λ has. absurd (is r has)) q;
 }
 gathered_step s b p entries (Some x) one h less none is = record {
-  ascending = ascending_more entries (record { path = p; reason = x }) h.ascending (λ e c. upto_before e.path b p (h.each e c).1 less);
-  each = λ e c. elim (Contains-push_cases entries (record { path = p; reason = x }) e c) [
-    | inl old ↦ ((h.each e old).0, upto_later b p e.path less (h.each e old).1)
-    | inr f ↦ subst (λ (z : Entry). HasReason s z.path z.reason × (¬ IsBefore p z.path)) f (is, before_itself p)
-  ];
-  all = λ q r has n. elim (stands b p q n) [
-    | upto m ↦ Contains-append_left entries (record { path = p; reason = x } ∷ []) (record { path = q; reason = r }) (h.all q r has m)
-    | inside after before ↦ absurd (none q r after before has)
-    | same e ↦ subst (λ (z : Entry). Contains (entries ++ record { path = p; reason = x } ∷ []) z) (λ i. record { path = sym e i; reason = one x r is (subst (λ (z : Path). HasReason s z r) e has) i }) (Contains-push entries (record { path = p; reason = x }))
-  ];
+  ascending = ascending_more (λ e. e.path) (λ e. HasReason s e.path e.reason) b new entries less h.each h.ascending;
+  each = each_more (λ e. e.path) (λ e. HasReason s e.path e.reason) b new entries less h.each is;
+  all = λ q r. upto_next (λ z. HasReason s z r) (λ z. Contains (entries ++ new ∷ []) (record { path = z; reason = r })) b p (λ z after before. none z r after before)
+      (λ z has m. Contains-append_left entries (new ∷ []) (record { path = z; reason = r }) (h.all z r has m))
+      (λ has. subst (λ (y : Reason). Contains (entries ++ new ∷ []) (record { path = p; reason = y })) (one x r is has) (Contains-push entries new)) q;
 }
+  where
+    new : Entry
+    new = record { path = p; reason = x }
 
 -- ---- a walk over an archive and two replicas
 
 -- what was gathered up to the path b, with this left; b leads down as many directories of both replicas
 pub record IsReasoned (A F S : Listing Stamp) (rules : List Rule) (left : Left) (shared : ℕ) (entries : List Entry) : Type 0 where
   pub b : Path
-  pub archive_left : IsRest b A left.archive
-  pub first_left : IsRest b F left.first
-  pub second_left : IsRest b S left.second
+  pub is_left : IsLeft A F S b left
   pub leads : (q : Path) → IsAbove q b → AreBothDirs (at F) (at S) q ↔ (length q ≤ shared)
   pub gathered : IsGathered (listed_snapshot A F S rules) b entries
 
@@ -111,33 +98,8 @@ module _ (A F S : Listing Stamp) (rules : List Rule) (lists_a : IsListing A) (li
 
   -- what is nowhere has no reason
   pub no_reason : (p : Path) → at A p ≡ Absent → at F p ≡ Absent → at S p ≡ Absent → (r : Reason) → ¬ HasReason s p r
-  no_reason p a f e r has = why r has.1
-    where
-      agree : (t u : Path → Content Stamp) → ((rest : Path) → t (p ++ rest) ≡ Absent) → ((rest : Path) → u (p ++ rest) ≡ Absent) → sub t p ≡ sub u p
-      agree t u x y = λ i. λ rest. same rest i
-        where
-          same : (rest : Path) → t (p ++ rest) ≡ u (p ++ rest)
-          same rest = x rest ∙ sym (y rest)
-
-      no_f : (rest : Path) → at F (p ++ rest) ≡ Absent
-      no_f rest = absent_below F lists_f p rest f
-
-      no_s : (rest : Path) → at S (p ++ rest) ≡ Absent
-      no_s rest = absent_below S lists_s p rest e
-
-      no_a : (rest : Path) → at A (p ++ rest) ≡ Absent
-      no_a rest = absent_below A lists_a p rest a
-
-      both : Agree s p
-      both = agree (at F) (at S) no_f no_s
-
-      why : (r : Reason) → ¬ Because s p r
-      why reason.Dir h = not_absent (at F p) h.0.0 f
-      why reason.Same h = h.2.1 (no_f h.2.0 ∙ sym (no_a h.2.0))
-      why reason.First h = h.1 both
-      why reason.Second h = h.1 both
-      why reason.Conflict h = h.1 both
-      why reason.Held h = h.1 both
+  no_reason p a f e r has =
+      nothing_no_reason s p (λ rest. absent_below F lists_f p rest f) (λ rest. absent_below S lists_s p rest e) (λ rest. absent_below A lists_a p rest a) r has.1
 
   not_before_root : (p : Path) → ¬ IsBefore p []
   not_before_root [] h = cc
@@ -145,9 +107,7 @@ module _ (A F S : Listing Stamp) (rules : List Rule) (lists_a : IsListing A) (li
 
   pub record AtStep (w_b p : Path) (shared : ℕ) (c_archive c_first c_second : Content Stamp) : Type 0 where
     pub less : IsBefore w_b p
-    pub archive_here : at A p ≡ c_archive
-    pub first_here : at F p ≡ c_first
-    pub second_here : at S p ≡ c_second
+    pub here : IsThere A F S p c_archive c_first c_second
     pub parent : Path
     pub name : Name
     pub is_child : p ≡ parent ++ name ∷ []
@@ -190,13 +150,13 @@ module _ (A F S : Listing Stamp) (rules : List Rule) (lists_a : IsListing A) (li
       go true is (inl e) =
           let same : q ≡ p = e ∙ sym h.is_child in
           let both = is.0 refl in
-          (λ _. let l : length q ≡ length p = ap length same in omega arith, λ _. (ap (at F) same ∙ h.first_here ∙ both.0, ap (at S) same ∙ h.second_here ∙ both.1))
+          (λ _. let l : length q ≡ length p = ap length same in omega arith, λ _. (ap (at F) same ∙ h.here.first ∙ both.0, ap (at S) same ∙ h.here.second ∙ both.1))
       go true is (inr up) =
           let both = is.0 refl in
-          (λ _. let l : length q ≤ length h.parent = above_length q h.parent up in omega (arith, n), λ _. (down F lists_f (h.first_here ∙ both.0) up, down S lists_s (h.second_here ∙ both.1) up))
+          (λ _. let l : length q ≤ length h.parent = above_length q h.parent up in omega (arith, n), λ _. (down F lists_f (h.here.first ∙ both.0) up, down S lists_s (h.here.second ∙ both.1) up))
       go false is (inl e) =
           let same : q ≡ p = e ∙ sym h.is_child in (
-            λ dirs. absurd (false_true (is.1 (sym h.first_here ∙ ap (at F) (sym same) ∙ dirs.0, sym h.second_here ∙ ap (at S) (sym same) ∙ dirs.1))),
+            λ dirs. absurd (false_true (is.1 (sym h.here.first ∙ ap (at F) (sym same) ∙ dirs.0, sym h.here.second ∙ ap (at S) (sym same) ∙ dirs.1))),
             λ le. absurd (let l : length q ≡ length p = ap length same in omega (arith, n)),
           )
         where
@@ -211,9 +171,7 @@ module _ (A F S : Listing Stamp) (rules : List Rule) (lists_a : IsListing A) (li
   pub at_step : (old new : Left) (shared : ℕ) (entries : List Entry) (p : Path) (ca cf cs : Content Stamp) (w : IsReasoned A F S rules old shared entries) → IsWalkStep p ca cf cs old new → AtStep w.b p shared ca cf cs
   at_step old new shared entries p ca cf cs w step = record {
     less = less;
-    archive_here = here_a;
-    first_here = here_f;
-    second_here = here_s;
+    here = here;
     parent = named.0;
     name = named.1;
     is_child = named.2;
@@ -222,22 +180,10 @@ module _ (A F S : Listing Stamp) (rules : List Rule) (lists_a : IsListing A) (li
   }
     where
       less : IsBefore w.b p
-      less = elim step.some [
-        | inl there ↦ rest_forward w.b p ca A old.archive new.archive w.archive_left step.in_archive there
-        | inr more ↦ elim more [
-          | inl there ↦ rest_forward w.b p cf F old.first new.first w.first_left step.in_first there
-          | inr there ↦ rest_forward w.b p cs S old.second new.second w.second_left step.in_second there
-        ]
-      ]
+      less = step_forward A F S w.b p ca cf cs old new w.is_left step
 
-      here_a : at A p ≡ ca
-      here_a = rest_here w.b p ca A old.archive new.archive w.archive_left step.in_archive less
-
-      here_f : at F p ≡ cf
-      here_f = rest_here w.b p cf F old.first new.first w.first_left step.in_first less
-
-      here_s : at S p ≡ cs
-      here_s = rest_here w.b p cs S old.second new.second w.second_left step.in_second less
+      here : IsThere A F S p ca cf cs
+      here = step_there A F S w.b p ca cf cs old new w.is_left step
 
       named : (parent : Path) × (name : Name) × (p ≡ parent ++ name ∷ [])
       named = elim (last_name p) [
@@ -249,25 +195,27 @@ module _ (A F S : Listing Stamp) (rules : List Rule) (lists_a : IsListing A) (li
       child_before = subst (λ (z : Path). IsBefore named.0 z) (sym named.2) (before_below named.0 named.1 [])
 
       -- in the tree where p is, the parent is a directory, so no step leaves it out
-      not_between : (rows : Listing Stamp) → IsListing rows → (c : Content Stamp) → at rows p ≡ c → c ≢ Absent → (IsBefore w.b named.0 → at rows named.0 ≡ Absent) → ¬ IsBefore w.b named.0
-      not_between rows lists c here there none later =
-          not_absent (at rows named.0) (lists.parents named.0 named.1 (λ g. there (sym here ∙ ap (at rows) named.2 ∙ g))) (none later)
-
       none_between : ¬ IsBefore w.b named.0
-      none_between = elim step.some [
-        | inl there ↦ not_between A lists_a ca here_a there (λ later. rest_between w.b p named.0 ca A old.archive new.archive w.archive_left step.in_archive later child_before)
+      none_between later = elim step.some [
+        | inl there ↦ parent_there A lists_a ca here.archive there nothing.archive
         | inr more ↦ elim more [
-          | inl there ↦ not_between F lists_f cf here_f there (λ later. rest_between w.b p named.0 cf F old.first new.first w.first_left step.in_first later child_before)
-          | inr there ↦ not_between S lists_s cs here_s there (λ later. rest_between w.b p named.0 cs S old.second new.second w.second_left step.in_second later child_before)
+          | inl there ↦ parent_there F lists_f cf here.first there nothing.first
+          | inr there ↦ parent_there S lists_s cs here.second there nothing.second
         ]
       ]
+        where
+          nothing : IsThere A F S named.0 Absent Absent Absent
+          nothing = step_between A F S w.b p ca cf cs old new w.is_left step named.0 later child_before
+
+          parent_there : (rows : Listing Stamp) → IsListing rows → (c : Content Stamp) → at rows p ≡ c → c ≢ Absent → at rows named.0 ≢ Absent
+          parent_there rows lists c is there = not_absent (at rows named.0) (lists.parents named.0 named.1 (λ g. there (sym is ∙ ap (at rows) named.2 ∙ g)))
 
       parent_above : IsAbove named.0 w.b
       parent_above = above_between named.0 w.b p (named.1 ∷ [], named.2) none_between (before_turned w.b p less)
 
   -- what the step sees
   pub step_seen : (b p : Path) (shared : ℕ) (ca cf cs : Content Stamp) → AtStep b p shared ca cf cs → IsSeen s p ca cf cs
-  step_seen b p shared ca cf cs h = record { in_archive = h.archive_here; in_first = h.first_here; in_second = h.second_here }
+  step_seen b p shared ca cf cs h = record { in_archive = h.here.archive; in_first = h.here.first; in_second = h.here.second }
 
   pub reasoned_step : (old new : Left) (shared next : ℕ) (entries more : List Entry) (p : Path) (ca cf cs : Content Stamp) (found : Option Reason) (is_shared : Bool)
       → IsReasoned A F S rules old shared entries → IsWalkStep p ca cf cs old new
@@ -276,9 +224,7 @@ module _ (A F S : Listing Stamp) (rules : List Rule) (lists_a : IsListing A) (li
       → IsReasoned A F S rules new next more
   reasoned_step old new shared next entries more p ca cf cs found is_shared w step is e_more is_dirs e_next = record {
     b = p;
-    archive_left = rest_step w.b p ca A old.archive new.archive w.archive_left step.in_archive here.less;
-    first_left = rest_step w.b p cf F old.first new.first w.first_left step.in_first here.less;
-    second_left = rest_step w.b p cs S old.second new.second w.second_left step.in_second here.less;
+    is_left = step_left A F S w.b p ca cf cs old new w.is_left step;
     leads = λ q above. subst (λ (n : ℕ). AreBothDirs (at F) (at S) q ↔ (length q ≤ n)) (sym e_next) (step_leads w.b p shared ca cf cs is_shared here is_dirs q above);
     gathered = subst (λ (es : List Entry). IsGathered s p es) (sym e_more)
         (gathered_step s w.b p entries found (λ x y has_x has_y. one_because s p x y has_x.1 has_y.1) w.gathered here.less none (is (step_seen w.b p shared ca cf cs here) (step_relevant w.b p shared ca cf cs here)));
@@ -288,10 +234,7 @@ module _ (A F S : Listing Stamp) (rules : List Rule) (lists_a : IsListing A) (li
       here = at_step old new shared entries p ca cf cs w step
 
       none : (q : Path) (r : Reason) → IsBefore w.b q → IsBefore q p → ¬ HasReason s q r
-      none q r after before = no_reason q
-          (rest_between w.b p q ca A old.archive new.archive w.archive_left step.in_archive after before)
-          (rest_between w.b p q cf F old.first new.first w.first_left step.in_first after before)
-          (rest_between w.b p q cs S old.second new.second w.second_left step.in_second after before) r
+      none q r after before = let nothing = step_between A F S w.b p ca cf cs old new w.is_left step q after before in no_reason q nothing.archive nothing.first nothing.second r
 
   -- the beginning
   pub reasoned_start : (walk : Left) (shared : ℕ) (entries : List Entry) → walk ≡ record { archive = A; first = F; second = S } → shared ≡ 0 → entries ≡ [] → IsReasoned A F S rules walk shared entries
@@ -306,21 +249,18 @@ module _ (A F S : Listing Stamp) (rules : List Rule) (lists_a : IsListing A) (li
           empty : (rest : Path) → ¬ ([] ≡ x ∷ rest)
           empty rest g = cc
 
-      no_root : (q : Path) (r : Reason) → HasReason s q r → ¬ IsBefore [] q → ⊥
-      no_root [] r has n = push_not_empty has.0.0 has.0.1 (sym has.0.2)
-      no_root (x ∷ q) r has n = n refl
+      no_root : (r : Reason) → ¬ HasReason s [] r
+      no_root r has = snoc_not_empty has.0.0 has.0.1 (sym has.0.2)
 
       begin : IsReasoned A F S rules (record { archive = A; first = F; second = S }) 0 []
       begin = record {
         b = [];
-        archive_left = rest_all A lists_a;
-        first_left = rest_all F lists_f;
-        second_left = rest_all S lists_s;
+        is_left = left_all A F S lists_a lists_f lists_s;
         leads = λ q above. let e : q ≡ [] = root_only q above in (λ _. let l : length q ≡ 0 = ap length e in omega arith, λ _. (ap (at F) e, ap (at S) e));
         gathered = record {
           ascending = λ i j d less l. absurd (omega arith);
           each = λ e c. absurd (omega (arith, c.1));
-          all = λ q r has n. absurd (no_root q r has n);
+          all = λ q r has n. absurd (upto_root (λ z. HasReason s z r) (no_root r) q has n);
         };
       }
 
@@ -331,9 +271,6 @@ module _ (A F S : Listing Stamp) (rules : List Rule) (lists_a : IsListing A) (li
     each = λ e c. (w.gathered.each e c).0;
     all = λ p r has. elim (decide_before w.b p) [
       | no n ↦ w.gathered.all p r has n
-      | yes later ↦ absurd (no_reason p
-          (sym (w.archive_left.later p later) ∙ ap (λ (rows : Listing Stamp). listed rows p) ended.0)
-          (sym (w.first_left.later p later) ∙ ap (λ (rows : Listing Stamp). listed rows p) ended.1)
-          (sym (w.second_left.later p later) ∙ ap (λ (rows : Listing Stamp). listed rows p) ended.2) r has)
+      | yes later ↦ (let nothing = left_none A F S w.b left w.is_left ended p later in absurd (no_reason p nothing.archive nothing.first nothing.second r has))
     ];
   }

@@ -1,5 +1,5 @@
 -- The reason of a path, by tests.
-use Rattle.std.proofs.Common.{◌≡◌, ◌≢◌, ◌⊎◌, ◌↔◌, Bool, true, false, [], ◌∷◌, ◌++◌, Some, None, refl, sym, ◌∙◌, subst, inl, inr, IsTrue}
+use Rattle.std.proofs.Common.{◌≡◌, ◌≢◌, ◌↔◌, Bool, true, false, Some, None, refl, sym, ◌∙◌, subst, inl, inr, IsTrue}
 use Rattle.ts_name.specs.Paths.{Path}
 use Rattle.ts_model.specs.Trees.{sub}
 use Rattle.ts_model.specs.Sync.{Snapshot, AreBothDirs, Agree, IsChanged, TouchesHeld, Because}
@@ -9,12 +9,8 @@ use Rattle.ts_model.specs.declared.row.Stamp.{Stamp}
 use Rattle.ts_model.specs.declared.plan.Side.TheVariants as side
 use Rattle.ts_model.specs.declared.plan.Reason.{Reason}
 use Rattle.ts_model.specs.declared.plan.Reason.TheVariants as reason
-use Rattle.ts_dirty.proofs.Dirt.{same_content}
+use Rattle.ts_dirty.proofs.Dirt.{same_content, false_not_true}
 use Rattle.ts_recon.specs.Reasons.{IsBecause, IsSeen, differing_reason}
-
-false_not_true : (b : Bool) → b ≡ false → b ≢ true
-false_not_true true e f = cc
-false_not_true false e f = cc
 
 -- where neither replica changed they agree
 agree_unchanged : (s : Snapshot) (p : Path) → ¬ IsChanged s side.First p → ¬ IsChanged s side.Second p → Agree s p
@@ -46,61 +42,15 @@ pub because_dir : (s : Snapshot) (p : Path) → AreBothDirs s.first s.second p �
 because_dir s p dirs new = (dirs, new)
 
 -- and none, where the archive has one
-pub no_dir : (s : Snapshot) (p : Path) → AreBothDirs s.first s.second p → s.archive p ≡ Dir → (r : Reason) → ¬ Because s p r
+no_dir : (s : Snapshot) (p : Path) → AreBothDirs s.first s.second p → s.archive p ≡ Dir → (r : Reason) → ¬ Because s p r
 no_dir s p dirs old reason.Dir why = why.1 old
-no_dir s p dirs old reason.Same why = why.0 dirs
-no_dir s p dirs old reason.First why = why.0 dirs
-no_dir s p dirs old reason.Second why = why.0 dirs
-no_dir s p dirs old reason.Conflict why = why.0 dirs
-no_dir s p dirs old reason.Held why = why.0 dirs
+no_dir s p dirs old _ why = why.0 dirs
 
 -- where the replicas agree with one another and the archive there is none
-pub no_same : (s : Snapshot) (p : Path) → ¬ AreBothDirs s.first s.second p → Agree s p → ¬ IsChanged s side.First p → (r : Reason) → ¬ Because s p r
+no_same : (s : Snapshot) (p : Path) → ¬ AreBothDirs s.first s.second p → Agree s p → ¬ IsChanged s side.First p → (r : Reason) → ¬ Because s p r
 no_same s p no_dirs agree old reason.Dir why = no_dirs why.0
 no_same s p no_dirs agree old reason.Same why = old why.2
-no_same s p no_dirs agree old reason.First why = why.1 agree
-no_same s p no_dirs agree old reason.Second why = why.1 agree
-no_same s p no_dirs agree old reason.Conflict why = why.1 agree
-no_same s p no_dirs agree old reason.Held why = why.1 agree
-
--- a path has one reason
-pub one_because : (s : Snapshot) (p : Path) (x y : Reason) → Because s p x → Because s p y → x ≡ y
-one_because s p reason.Dir reason.Dir h k = refl
-one_because s p reason.Dir reason.Same h k = absurd (k.0 h.0)
-one_because s p reason.Dir reason.First h k = absurd (k.0 h.0)
-one_because s p reason.Dir reason.Second h k = absurd (k.0 h.0)
-one_because s p reason.Dir reason.Conflict h k = absurd (k.0 h.0)
-one_because s p reason.Dir reason.Held h k = absurd (k.0 h.0)
-one_because s p reason.Same reason.Dir h k = absurd (h.0 k.0)
-one_because s p reason.Same reason.Same h k = refl
-one_because s p reason.Same reason.First h k = absurd (k.1 h.1)
-one_because s p reason.Same reason.Second h k = absurd (k.1 h.1)
-one_because s p reason.Same reason.Conflict h k = absurd (k.1 h.1)
-one_because s p reason.Same reason.Held h k = absurd (k.1 h.1)
-one_because s p reason.First reason.Dir h k = absurd (h.0 k.0)
-one_because s p reason.First reason.Same h k = absurd (h.1 k.1)
-one_because s p reason.First reason.First h k = refl
-one_because s p reason.First reason.Second h k = absurd (h.3 (k.2))
-one_because s p reason.First reason.Conflict h k = absurd (h.3 (inl k.3))
-one_because s p reason.First reason.Held h k = absurd (h.3 (k.3))
-one_because s p reason.Second reason.Dir h k = absurd (h.0 k.0)
-one_because s p reason.Second reason.Same h k = absurd (h.1 k.1)
-one_because s p reason.Second reason.First h k = absurd (h.3 (k.2))
-one_because s p reason.Second reason.Second h k = refl
-one_because s p reason.Second reason.Conflict h k = absurd (h.3 (inl k.2))
-one_because s p reason.Second reason.Held h k = absurd (h.3 (k.2))
-one_because s p reason.Conflict reason.Dir h k = absurd (h.0 k.0)
-one_because s p reason.Conflict reason.Same h k = absurd (h.1 k.1)
-one_because s p reason.Conflict reason.First h k = absurd (k.3 (inl h.3))
-one_because s p reason.Conflict reason.Second h k = absurd (k.3 (inl h.2))
-one_because s p reason.Conflict reason.Conflict h k = refl
-one_because s p reason.Conflict reason.Held h k = absurd (k.4 (h.2, h.3))
-one_because s p reason.Held reason.Dir h k = absurd (h.0 k.0)
-one_because s p reason.Held reason.Same h k = absurd (h.1 k.1)
-one_because s p reason.Held reason.First h k = absurd (k.3 (h.3))
-one_because s p reason.Held reason.Second h k = absurd (k.3 (h.2))
-one_because s p reason.Held reason.Conflict h k = absurd (h.4 (k.2, k.3))
-one_because s p reason.Held reason.Held h k = refl
+no_same s p no_dirs agree old _ why = why.1 agree
 
 -- ---- of what a walk sees
 

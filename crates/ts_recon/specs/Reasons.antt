@@ -2,7 +2,7 @@
 --     AreReasons s entries     the paths that have a reason, each with it, in path order
 --     IsReasonOf s p found     the reason of p, where it has one
 --     IsSeen s p ..            what stands at p in the archive and the replicas
-use Rattle.std.specs.Prelude.{◌≡◌, ◌≢◌, ℕ, ◌<◌, Bool, true, false, List, [], ◌∷◌, ◌++◌, length, slice_index_or, Contains, Option, Some, None, MatchOption}
+use Rattle.std.specs.Prelude.{◌≡◌, ℕ, ◌<◌, Bool, true, false, List, [], ◌∷◌, ◌++◌, length, slice_index_or, Contains, Option, Some, None, MatchOption}
 use Rattle.ts_name.specs.Paths.{Path, IsBefore}
 use Rattle.ts_model.specs.Sync.{Snapshot, Because, HasReason}
 use Rattle.ts_model.specs.declared.row.Content.{Content}

@@ -1,11 +1,6 @@
--- What was written of a report.
-use Rattle.std.proofs.Common.{◌≡◌, ℕ, ◌+◌, ◌<◌, suc, List, [], ◌∷◌, ◌++◌, length, drop, get_or, Option, Err, refl, sym, ap₂, add-one, drop-cons}
-use Rattle.std.proofs.KnownBytes.{Appends-nil}
-use Rattle.ts_text.specs.Sources.{AppendsFront}
-use Rattle.std.specs.Io.KnownBytes.{Appends}
-use Rattle.ts_model.specs.Texts.{Line, text}
+-- The lines of entries and their fates, one by one.
+use Rattle.std.proofs.Common.{◌≡◌, ℕ, ◌+◌, ◌<◌, suc, List, [], ◌∷◌, ◌++◌, length, drop, get_or, sym, ap₂, add-one, drop-cons}
 use Rattle.ts_model.specs.declared.plan.Entry.{Entry}
-use Rattle.ts_tree.proofs.Writing.{writes_after}
 use Rattle.ts_report.specs.declared.fate.Fate.{Fate}
 use Rattle.ts_report.specs.Reports.{fate_line, fate_lines}
 
@@ -15,11 +10,3 @@ pub fates_step : (entries : List Entry) (all : List Fate) (i : ℕ) (entry : Ent
 fates_step entries all i entry became within within' is is' =
     rw (add-one, drop-cons entries i entry within, drop-cons all i became within')
     (ap₂ (λ (e : Entry) (f : Fate). fate_line e f ∷ fate_lines (drop (suc i) entries) (drop (suc i) all)) (sym is) (sym is'))
-
--- nothing is a beginning
-pub nothing_sent : (old : Option (List ℕ)) (bytes : List ℕ) → AppendsFront old old bytes
-nothing_sent old bytes = record { front = []; rest = bytes; split = refl; added = Appends-nil old }
-
--- some lines, and then a beginning of others
-pub begun_after : (old mid new : Option (List ℕ)) (lines rest : List Line) → Appends old mid (text lines) → AppendsFront mid new (text rest) → AppendsFront old new (text (lines ++ rest))
-begun_after old mid new lines rest first begun = writes_after {A = ℕ} {E = ℕ} old mid new lines rest (Err 0) first begun

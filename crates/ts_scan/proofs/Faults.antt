@@ -10,7 +10,6 @@ use Rattle.ts_folder.specs.declared.fault.Trouble.TheVariants as trouble
 use Rattle.ts_folder.specs.declared.folder.Call.{Call}
 use Rattle.ts_scan.specs.Faults.{Tells, MayFail}
 use Rattle.ts_scan.specs.Scans.{Told}
-use Rattle.ts_scan.specs.declared.fault.Refusal.{Refusal}
 use Rattle.ts_scan.specs.declared.fault.Refusal.TheVariants as refusal
 use Rattle.ts_scan.specs.declared.fault.ScanFault.{ScanFault}
 use Rattle.ts_scan.specs.declared.fault.ScanFault.TheVariants.{OutOfMemory, At}

@@ -1,5 +1,5 @@
 -- A scan goes down the levels of a folder, and through the children of each.
-use Rattle.std.proofs.Common.{◌≡◌, ℕ, ◌+◌, ◌-◌, ◌*◌, ◌/◌, ◌<◌, ◌≤◌, ◌^◌, [], ◌∷◌, ◌++◌, length, arith, length-append}
+use Rattle.std.proofs.Common.{◌≡◌, ℕ, ◌+◌, ◌-◌, ◌*◌, ◌<◌, ◌≤◌, ◌^◌, [], ◌∷◌, ◌++◌, length, arith, length-append}
 use Rattle.ts_name.specs.Paths.{Name, Path, IsPath}
 
 -- more than all children of a directory count for

@@ -1,5 +1,5 @@
 -- Rows of one name after another make the rows of a directory.
-use Rattle.std.proofs.Common.{◌≡◌, ◌≢◌, ◌⊎◌, Bool, true, false, cond, List, [], ◌∷◌, ◌++◌, Less, nat_cmp, refl, sym, ap, ◌∙◌, subst, inl, inr, append_assoc, append-nil}
+use Rattle.std.proofs.Common.{◌≡◌, ◌≢◌, ◌⊎◌, Bool, true, false, cond, [], ◌∷◌, ◌++◌, Less, nat_cmp, refl, sym, ap, ◌∙◌, subst, inl, inr, append_assoc, append-nil}
 use Rattle.std.specs.List.{AllByRecursion}
 use Rattle.std.specs.Cmp.Lexicographic.{slice_cmp}
 use Rattle.std.specs.Ordering.{ordering_then}
@@ -10,9 +10,12 @@ use Rattle.ts_model.specs.declared.row.Content.{Content}
 use Rattle.ts_model.specs.declared.row.Content.TheVariants.{Absent, Dir, File}
 use Rattle.ts_model.specs.declared.row.Row.{Row}
 use Rattle.ts_model.specs.declared.row.Stamp.{Stamp}
-use Rattle.ts_table.proofs.Paths.{above_trans, same_parent, same_path_equal, below_order, before_below, before_itself}
-use Rattle.ts_table.proofs.Listings.{decide_above}
-use Rattle.ts_table.proofs.Rows.{weaker, all_append, ascend_cons, ascend_join, listed_after, listed_here, listed_holds, AllBefore}
+use Rattle.ts_name.specs.Laws.{same_path_equal}
+use Rattle.ts_name.proofs.Prefixes.{above_trans, same_parent, decide_above}
+use Rattle.ts_name.proofs.Order.{cmp_below, before_below, before_itself}
+use Rattle.ts_name.proofs.Utf8.{all_append, all_parts}
+use Rattle.ts_name.proofs.Basics.{weaker}
+use Rattle.ts_table.proofs.Rows.{ascend_cons, ascend_join, listed_after, listed_here, listed_holds, AllBefore}
 use Rattle.ts_folder.specs.Folders.{InOrder}
 use Rattle.ts_folder.specs.declared.folder.Kind.{Kind}
 use Rattle.ts_scan.specs.Scans.{Children, IsUnder, AreBelow}
@@ -48,7 +51,7 @@ before_later : (p : Path) (m n : Name) (q r : Path) → slice_cmp nat_cmp m n �
 before_later p m n q r h of_q of_r =
     let x = above_is p m q of_q in
     let y = above_is p n r of_r in
-    let order : IsBefore (p ++ m ∷ x.0) (p ++ n ∷ y.0) = below_order p (m ∷ x.0) (n ∷ y.0) ∙ ap (λ o. ordering_then o (path_cmp x.0 y.0)) h in
+    let order : IsBefore (p ++ m ∷ x.0) (p ++ n ∷ y.0) = cmp_below p (m ∷ x.0) (n ∷ y.0) ∙ ap (λ o. ordering_then o (path_cmp x.0 y.0)) h in
     subst (λ z. IsBefore z r) (sym x.1) (subst (λ z. IsBefore (p ++ m ∷ x.0) z) (sym y.1) order)
 
 before_each : (p : Path) (child : Name × Kind) (children : Children) (q r : Path) → AllByRecursion (λ other. slice_cmp nat_cmp child.0 other.0 ≡ Less) children → IsAbove (p ++ child.0 ∷ []) q → IsUnder p children r → IsBefore q r
@@ -56,14 +59,10 @@ before_each p child [] q r h above under = absurd under
 before_each p child (other ∷ children) q r h above (inl here) = before_later p child.0 other.0 q r h.0 above here
 before_each p child (other ∷ children) q r h above (inr later) = before_each p child children q r h.1 above later
 
-all_right : {A : Type 0} (P : A → Type 0) (xs ys : List A) → AllByRecursion P (xs ++ ys) → AllByRecursion P ys
-all_right P [] ys h = h
-all_right P (x ∷ xs) ys h = all_right P xs ys h.1
-
 -- what is under earlier children comes before what is under later ones
 pub under_before : (p : Path) (xs ys : Children) (q r : Path) → InOrder (xs ++ ys) → IsUnder p xs q → IsUnder p ys r → IsBefore q r
 under_before p [] ys q r up of_q of_r = absurd of_q
-under_before p (x ∷ xs) ys q r up (inl here) of_r = before_each p x ys q r (all_right _ xs ys (first_child x (xs ++ ys) up)) here of_r
+under_before p (x ∷ xs) ys q r up (inl here) of_r = before_each p x ys q r (all_parts _ xs ys (first_child x (xs ++ ys) up)).1 here of_r
 under_before p (x ∷ xs) ys q r up (inr later) of_r = under_before p xs ys q r (other_children x (xs ++ ys) up) later of_r
 
 -- ---- under children
@@ -97,8 +96,8 @@ under_more p (child ∷ children) q more (inr later) = inr (under_more p childre
 pub decide_under : (p : Path) (children : Children) (q : Path) → IsUnder p children q ⊎ (¬ IsUnder p children q)
 decide_under p [] q = inr (λ h. h)
 decide_under p (child ∷ children) q = elim (decide_above (p ++ child.0 ∷ []) q) [
-  | inl here ↦ inl (inl here)
-  | inr off ↦ elim (decide_under p children q) [
+  | yes here ↦ inl (inl here)
+  | no off ↦ elim (decide_under p children q) [
     | inl later ↦ inl (inr later)
     | inr none ↦ inr (λ h. elim h [ inl here ↦ off here | inr later ↦ none later ])
   ]

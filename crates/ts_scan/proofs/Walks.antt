@@ -1,11 +1,13 @@
 -- What a scan finds, put together.
-use Rattle.std.proofs.Common.{◌≡◌, ◌≢◌, ◌⊎◌, ◌↔◌, ℕ, zero, suc, ◌<◌, ◌^◌, Bool, true, false, cond, List, [], ◌∷◌, ◌++◌, length, get_or, Option, Some, None, IfSome, Result, Ok, Err, IfErr, refl, sym, ap, ◌∙◌, subst, inl, inr, append_assoc, append-nil, arith}
+use Rattle.std.proofs.Common.{◌≡◌, ◌≢◌, ℕ, zero, suc, ◌<◌, ◌^◌, Bool, true, false, cond, List, [], ◌∷◌, ◌++◌, length, get_or, Option, Some, None, IfSome, Result, Ok, Err, IfErr, refl, sym, ap, ◌∙◌, subst, inl, inr, append_assoc, append-nil, arith}
 use Rattle.std.proofs.lemmas.List.Elements.{recursion_from_All}
 use Rattle.std.specs.List.{AllByRecursion}
 use Rattle.std.specs.Result.{IsErrAnd}
 use Rattle.ts_name.specs.Paths.{Name, Path, IsPath, same_path}
-use Rattle.ts_table.proofs.Paths.{snoc_not_empty}
-use Rattle.ts_table.proofs.Rows.{weaker, all_left, all_right, listed_holds}
+use Rattle.ts_name.proofs.Prefixes.{snoc_not_empty}
+use Rattle.ts_name.proofs.Utf8.{all_parts}
+use Rattle.ts_name.proofs.Basics.{weaker}
+use Rattle.ts_table.proofs.Rows.{listed_holds}
 use Rattle.ts_model.specs.Texts.{IsTreeBody, FileFits}
 use Rattle.ts_model.specs.Trees.{Tree, Listing, at, listed, IsListing, print_of}
 use Rattle.ts_model.specs.declared.row.Content.{Content}
@@ -107,7 +109,7 @@ pub found_join : (told : Told) (p : Path) (xs ys : Children) (front back : Listi
 found_join told p xs ys front back up f g = record {
   below = joined p xs ys front back up f.below g.below;
   print = both_some _ _ (λ tree. AreThere (at tree) p (xs ++ ys) → ArePrinted (at tree) p (xs ++ ys) (front ++ back)) told
-      (λ tree h k there. joined_print (at tree) p xs ys front back up f.below g.below (h (all_left _ xs ys there)) (k (all_right _ xs ys there))) f.print g.print;
+      (λ tree h k there. joined_print (at tree) p xs ys front back up f.below g.below (h (all_parts _ xs ys there).0) (k (all_parts _ xs ys there).1)) f.print g.print;
 }
 
 -- rows after rows
@@ -161,11 +163,11 @@ found_print told rows inner = three told inner.lawful inner.all inner.found.prin
 -- children that are there are so in each part
 pub there_left : (told : Told) (p : Path) (xs ys all : Children) → all ≡ xs ++ ys → IfSome told (λ tree. AreThere (at tree) p all) → IfSome told (λ tree. AreThere (at tree) p xs)
 there_left told p xs ys all e =
-    map_some _ _ told (λ tree there. all_left (λ (child : Name × Kind). HasKind (at tree (p ++ child.0 ∷ [])) child.1) xs ys (subst (AreThere (at tree) p) e there))
+    map_some _ _ told (λ tree there. (all_parts (λ (child : Name × Kind). HasKind (at tree (p ++ child.0 ∷ [])) child.1) xs ys (subst (AreThere (at tree) p) e there)).0)
 
 pub there_right : (told : Told) (p : Path) (xs ys all : Children) → all ≡ xs ++ ys → IfSome told (λ tree. AreThere (at tree) p all) → IfSome told (λ tree. AreThere (at tree) p ys)
 there_right told p xs ys all e =
-    map_some _ _ told (λ tree there. all_right (λ (child : Name × Kind). HasKind (at tree (p ++ child.0 ∷ [])) child.1) xs ys (subst (AreThere (at tree) p) e there))
+    map_some _ _ told (λ tree there. (all_parts (λ (child : Name × Kind). HasKind (at tree (p ++ child.0 ∷ [])) child.1) xs ys (subst (AreThere (at tree) p) e there)).1)
 
 pub there_first : (told : Told) (p : Path) (child : Name × Kind) (others rest : Children) → rest ≡ child ∷ others → IfSome told (λ tree. AreThere (at tree) p rest) → IfSome told (λ tree. HasKind (at tree (p ++ child.0 ∷ [])) child.1)
 there_first told p child others rest e = map_some _ _ told (λ tree there. (subst (AreThere (at tree) p) e there).0)

@@ -8,9 +8,13 @@ use Rattle.ts_model.specs.declared.row.Content.{Content}
 use Rattle.ts_model.specs.declared.row.Content.TheVariants.{Absent, Dir}
 use Rattle.ts_model.specs.declared.row.Row.{Row}
 use Rattle.ts_table.specs.Tables.{placed, IsPlace, IsCut}
-use Rattle.ts_table.proofs.Paths.{before_trans, before_itself, below_gives, not_above, append_same, last_name, same_parent, snoc_not_empty, before_below, before_all_below, below_before}
+use Rattle.ts_name.proofs.Prefixes.{below_gives, not_above, last_name, same_parent, snoc_not_empty}
+use Rattle.ts_name.proofs.Order.{before_trans, before_itself, before_below, before_all_below, below_before}
+use Rattle.ts_name.proofs.Utf8.{all_append, all_parts}
+use Rattle.ts_name.proofs.Basics.{weaker}
+use Rattle.std.proofs.lemmas.List.{append_cancel_left}
 use Rattle.ts_table.proofs.Found.{whole}
-use Rattle.ts_table.proofs.Rows.{weaker, all_append, all_left, all_right, ascend_left, ascend_right, AllBefore, ascend_join, ascend_across, listed_holds, listed_none, listed_after, listed_before, listed_here, placed_below, placed_ascend, graft_at_rows}
+use Rattle.ts_table.proofs.Rows.{ascend_left, ascend_right, AllBefore, ascend_join, ascend_across, listed_holds, listed_none, listed_after, listed_before, listed_here, placed_below, placed_ascend, graft_at_rows}
 
 -- ---- parents
 
@@ -32,7 +36,7 @@ graft_parents {F} t content p of_t of_content place q name there = go (below p q
         absurd (not_above p (q ++ name ∷ []) f (rest ++ name ∷ [], is))
     joined rest e (Some more) f k =
         let is : q ++ name ∷ [] ≡ p ++ (rest ++ name ∷ []) = ap (λ z. z ++ name ∷ []) (below_gives p q rest e) ∙ append_assoc p rest (name ∷ []) in
-        let same : more ≡ rest ++ name ∷ [] = append_same p more (rest ++ name ∷ []) (sym (below_gives p (q ++ name ∷ []) more f) ∙ is) in
+        let same : more ≡ rest ++ name ∷ [] = append_cancel_left p more (rest ++ name ∷ []) (sym (below_gives p (q ++ name ∷ []) more f) ∙ is) in
         of_content rest name (λ gone. k (ap content same ∙ gone))
 
     apart : below p q ≡ None → (o : Option Path) → below p (q ++ name ∷ []) ≡ o → chosen (t (q ++ name ∷ [])) content o ≢ Absent → t q ≡ Dir
@@ -54,7 +58,7 @@ graft_parents {F} t content p of_t of_content place q name there = go (below p q
 pub IsListing-placed : {F : Type 0} (p : Path) (front mid back part : Listing F) → IsListing (front ++ (mid ++ back)) → IsCut p front mid back → IsPlace (at (front ++ (mid ++ back))) p → IsSubListing part → AllByRecursion (λ row. IsPath row.path) (placed p part) → IsListing (front ++ (placed p part ++ back))
 IsListing-placed {F} p front mid back part lists cut place of_part paths = record {
   ascending = ascend_join front (placed p part ++ back) (ascend_left front (mid ++ back) lists.ascending) below_up front_first;
-  rows_are = all_append IsRow front (placed p part ++ back) (all_left IsRow front (mid ++ back) lists.rows_are) (all_append IsRow (placed p part) back placed_are back_are);
+  rows_are = all_append IsRow front (placed p part ++ back) (all_parts IsRow front (mid ++ back) lists.rows_are).0 (all_append IsRow (placed p part) back placed_are back_are);
   parents = parents;
 }
   where
@@ -83,7 +87,7 @@ IsListing-placed {F} p front mid back part lists cut place of_part paths = recor
         front cut.before
 
     back_are : AllByRecursion IsRow back
-    back_are = all_right IsRow mid back (all_right IsRow front (mid ++ back) lists.rows_are)
+    back_are = (all_parts IsRow mid back (all_parts IsRow front (mid ++ back) lists.rows_are).1).1
 
     not_root : (rest : Path) → p ++ rest ≢ []
     not_root rest e = empty p rest place.not_root e
@@ -155,7 +159,7 @@ IsNext-from_push {F} rows row lists = record {
 }
   where
     is_row : (IsPath row.path × (row.path ≢ []) × (row.content ≢ Absent)) × Unit {0}
-    is_row = all_right (λ (other : Row F). IsPath other.path × (other.path ≢ []) × (other.content ≢ Absent)) rows (row ∷ []) lists.rows_are
+    is_row = (all_parts (λ (other : Row F). IsPath other.path × (other.path ≢ []) × (other.content ≢ Absent)) rows (row ∷ []) lists.rows_are).1
 
     before : AllByRecursion (λ other. IsBefore other.path row.path) rows
     before = weaker (λ (other : Row F). IsBefore other.path row.path × Unit {0}) (λ other. IsBefore other.path row.path) (λ other h. h.0) rows (ascend_across rows (row ∷ []) lists.ascending)
@@ -191,7 +195,7 @@ listed_stays {F} (x ∷ xs) ys p there = go (same_path x.path p) there (listed_s
 pub IsListing-front : {F : Type 0} (xs ys : Listing F) → IsListing (xs ++ ys) → IsListing xs
 IsListing-front {F} xs ys lists = record {
   ascending = ascend_left xs ys lists.ascending;
-  rows_are = all_left (λ (row : Row F). IsPath row.path × (row.path ≢ []) × (row.content ≢ Absent)) xs ys lists.rows_are;
+  rows_are = (all_parts (λ (row : Row F). IsPath row.path × (row.path ≢ []) × (row.content ≢ Absent)) xs ys lists.rows_are).0;
   parents = parents;
 }
   where

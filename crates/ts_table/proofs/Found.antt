@@ -4,41 +4,24 @@ use Rattle.std.proofs.lemmas.Bool.{false≢true, cases_lt}
 use Rattle.std.specs.List.{AllByRecursion, AllWithin}
 use Rattle.std.specs.List.Sorted.{IsNonDecreasingBy, IsPartitionedBy, IsPartitionPoint}
 use Rattle.std.specs.Ordering.{ordering_index, is_lt}
-use Rattle.std.proofs.lemmas.Cmp.{tied_itself}
 use Rattle.std.proofs.lemmas.List.{take-append-drop, get_or-drop, length-drop, drop-drop}
 use Rattle.ts_name.specs.Paths.{Path, IsAbove, IsBefore, path_cmp}
 use Rattle.ts_model.specs.Trees.{Listing, listed, at, Ascend}
 use Rattle.ts_model.specs.declared.row.Content.TheVariants.{Absent}
 use Rattle.ts_model.specs.declared.row.Row.{Row}
 use Rattle.ts_table.specs.Tables.{is_above, rows_below, IsCut}
-use Rattle.ts_table.proofs.Paths.{path_total, tied_paths, before_cases, before_trans, before_itself, below_before, before_not_below}
-use Rattle.ts_table.proofs.Rows.{weaker, all_both, all_before, all_from, ascend_pair, listed_none}
-use Rattle.ts_table.proofs.Listings.{listed_at, is_above_yes, is_above_gives, is_above_no, not_above_gives, decide_above, rows_below_mid}
+use Rattle.ts_name.specs.Laws.{tied_paths}
+use Rattle.ts_name.proofs.Order.{before_cases, before_trans, before_itself, before_flip, late_between, before_not_below}
+use Rattle.ts_name.proofs.Basics.{weaker, all_both}
+use Rattle.ts_table.proofs.Rows.{all_before, all_from, ascend_pair}
+use Rattle.ts_table.proofs.Looked.{listed_found, not_listed}
+use Rattle.ts_table.proofs.Listings.{is_above_yes, is_above_gives, is_above_no, not_above_gives, rows_below_mid}
 
 -- ---- a path that is sought
 
 -- two indexes in order are equal, or one is less
 same_or_less : (i j : ℕ) → i ≤ j → (i ≡ j) ⊎ (i < j)
 same_or_less i j h = elim (cases_lt i j) [ inl lt ↦ inr lt | inr ge ↦ inl (omega arith) ]
-
--- what comes after a path doesn't come before it
-after_is_Greater : (p q : Path) → IsBefore p q → path_cmp q p ≡ Greater
-after_is_Greater p q h = go (path_cmp q p) refl
-  where
-    go : (o : Ordering) → path_cmp q p ≡ o → path_cmp q p ≡ Greater
-    go Less e = absurd (before_itself p (before_trans p q p h e))
-    go Equal e = absurd (before_itself p (subst (λ z. IsBefore p z) (tied_paths q p e) h))
-    go Greater e = e
-
--- and what does not come before or tie comes after
-Greater_is_after : (p q : Path) → path_cmp q p ≡ Greater → IsBefore p q
-Greater_is_after p q h = elim (before_cases p q) [
-  | inl before ↦ before
-  | inr more ↦ elim more [
-    | inl e ↦ (let same : path_cmp q p ≡ Equal = subst (λ z. path_cmp z p ≡ Equal) e (tied_itself path_total p) in cc)
-    | inr after ↦ cc
-  ]
-]
 
 -- the answers of comparisons with one path rise
 pub rises : {F : Type 0} (rows : Listing F) (p : Path) → Ascend rows → IsNonDecreasingBy (λ row. ordering_index (path_cmp row.path p)) rows
@@ -52,8 +35,8 @@ rises {F} rows p up i j d le under = elim (same_or_less i j le) [
     go Equal e Less f before = absurd (before_itself p (before_trans p (get_or rows j d).path p (subst (λ z. IsBefore z (get_or rows j d).path) (tied_paths (get_or rows i d).path p e) before) f))
     go Equal e Equal f before = omega arith
     go Equal e Greater f before = omega arith
-    go Greater e Less f before = absurd (before_itself p (before_trans p (get_or rows i d).path p (Greater_is_after p (get_or rows i d).path e) (before_trans (get_or rows i d).path (get_or rows j d).path p before f)))
-    go Greater e Equal f before = absurd (before_itself p (before_trans p (get_or rows i d).path p (Greater_is_after p (get_or rows i d).path e) (subst (λ z. IsBefore (get_or rows i d).path z) (tied_paths (get_or rows j d).path p f) before)))
+    go Greater e Less f before = absurd (before_itself p (before_trans p (get_or rows i d).path p (before_flip (get_or rows i d).path p e) (before_trans (get_or rows i d).path (get_or rows j d).path p before f)))
+    go Greater e Equal f before = absurd (before_itself p (before_trans p (get_or rows i d).path p (before_flip (get_or rows i d).path p e) (subst (λ z. IsBefore (get_or rows i d).path z) (tied_paths (get_or rows j d).path p f) before)))
     go Greater e Greater f before = omega arith
 
 -- below the root, what is there is what is listed
@@ -63,24 +46,11 @@ at_listed rows (n ∷ p) some = refl
 
 -- a row of the path says what is there
 pub found : {F : Type 0} (rows : Listing F) (p : Path) (i : ℕ) (row : Row F) → Ascend rows → p ≢ [] → i < length rows → row ≡ get_or rows i row → path_cmp (get_or rows i row).path p ≡ Equal → row.content ≡ at rows p
-found rows p i row up some under is tied =
-    ap (λ r. r.content) is ∙ sym (listed_at rows i row up under) ∙ ap (listed rows) (tied_paths (get_or rows i row).path p tied) ∙ sym (at_listed rows p some)
+found rows p i row up some under is tied = listed_found rows p i row up under is tied ∙ sym (at_listed rows p some)
 
 -- and where rows come before it up to a place and after it from there on, nothing is there
 pub not_found : {F : Type 0} (rows : Listing F) (p : Path) (i : ℕ) → p ≢ [] → i ≤ length rows → IsPartitionPoint (λ row. path_cmp row.path p ≡ Less) (λ row. path_cmp row.path p ≡ Greater) rows i → Absent ≡ at rows p
-not_found {F} rows p i some under parted = sym (at_listed rows p some ∙ ap (λ z. listed z p) (sym (take-append-drop i rows)) ∙ listed_none (take i rows ++ drop i rows) p differ)
-  where
-    both : (xs ys : Listing F) → AllByRecursion (λ row. row.path ≢ p) xs → AllByRecursion (λ row. row.path ≢ p) ys → AllByRecursion (λ row. row.path ≢ p) (xs ++ ys)
-    both [] ys h k = k
-    both (x ∷ xs) ys h k = (h.0, both xs ys h.1 k)
-
-    tied : (row : Row F) → row.path ≡ p → path_cmp row.path p ≡ Equal
-    tied row e = subst (λ z. path_cmp z p ≡ Equal) (sym e) (tied_itself path_total p)
-
-    differ : AllByRecursion (λ row. row.path ≢ p) (take i rows ++ drop i rows)
-    differ = both (take i rows) (drop i rows)
-        (weaker (λ (row : Row F). path_cmp row.path p ≡ Less) (λ row. row.path ≢ p) (λ row h e. let f = tied row e in cc) (take i rows) (all_before _ rows i under parted.0))
-        (weaker (λ (row : Row F). path_cmp row.path p ≡ Greater) (λ row. row.path ≢ p) (λ row h e. let f = tied row e in cc) (drop i rows) (all_from _ rows i under parted.1))
+not_found rows p i some under parted = not_listed rows p i under parted ∙ sym (at_listed rows p some)
 
 -- ---- the rows at or below a path
 
@@ -97,19 +67,6 @@ before_parts {F} rows p up i j d le under h = elim (same_or_less i j le) [
   | inr lt ↦ ap is_lt (before_trans (get_or rows i d).path (get_or rows j d).path p (ascend_pair rows up i j d lt under) (is_lt_Less _ h))
 ]
 
--- what lies between a path and something below it is below it
-pub between : (p q r : Path) → is_lt (path_cmp q p) ≡ false → IsBefore q r → IsAbove p r → IsAbove p q
-between p q r late before above = elim (decide_above p q) [
-  | inl h ↦ h
-  | inr off ↦ elim (before_cases p q) [
-    | inl after ↦ absurd (before_itself q (before_trans q r q before (subst (λ z. IsBefore z q) (sym above.1) (below_before p above.0 q after off))))
-    | inr more ↦ elim more [
-      | inl e ↦ absurd (off ([], sym e ∙ sym (append-nil p)))
-      | inr early ↦ (let f : is_lt (path_cmp q p) ≡ true = ap is_lt early in cc)
-    ]
-  ]
-]
-
 -- and of the others those below it
 pub below_parts : {F : Type 0} (rows : Listing F) (p : Path) (n : ℕ) → Ascend rows → n ≤ length rows → AllWithin (λ row. is_lt (path_cmp row.path p) ≡ false) rows n (length rows) → IsPartitionedBy (λ row. is_above p row.path) (drop n rows)
 below_parts {F} rows p n up short late i j d le under h = elim (same_or_less i j le) [
@@ -120,7 +77,7 @@ below_parts {F} rows p n up short late i j d le under h = elim (same_or_less i j
       let here : is_above p (get_or rows (n + j) d).path ≡ true = subst (λ row. is_above p row.path ≡ true) (get_or-drop n rows j d) h in
       subst (λ row. is_above p row.path ≡ true) (sym (get_or-drop n rows i d))
       (is_above_yes p (get_or rows (n + i) d).path
-      (between p (get_or rows (n + i) d).path (get_or rows (n + j) d).path (late (n + i) d (omega arith) (omega arith)) (ascend_pair rows up (n + i) (n + j) d (omega arith) within) (is_above_gives p (get_or rows (n + j) d).path here))))
+      (late_between p (get_or rows (n + i) d).path (get_or rows (n + j) d).path (late (n + i) d (omega arith) (omega arith)) (ascend_pair rows up (n + i) (n + j) d (omega arith) within) (is_above_gives p (get_or rows (n + j) d).path here))))
 ]
 
 -- so two halvings cut a listing

@@ -1,5 +1,5 @@
 -- Frames and the parts that are put into them.
-use Rattle.std.proofs.Common.{◌≡◌, ◌≢◌, ℕ, ◌+◌, Bool, true, false, cond, ◌||◌, List, [], ◌∷◌, ◌++◌, length, map, Option, Some, None, refl, sym, ap, ◌∙◌, subst, append_assoc, arith}
+use Rattle.std.proofs.Common.{◌≡◌, Bool, true, false, cond, ◌||◌, List, [], ◌∷◌, ◌++◌, length, map, Option, Some, None, refl, sym, ap, ◌∙◌, subst, append_assoc, arith}
 use Rattle.std.specs.List.{AllByRecursion, list_any}
 use Rattle.ts_name.specs.Paths.{Name, Path, IsAbove, IsBefore, below}
 use Rattle.ts_model.specs.Trees.{Listing, listed, at, IsListing, IsSubListing}
@@ -11,8 +11,10 @@ use Rattle.ts_table.specs.Splices.{ArePlaces, AreInOrder, ArePaths, grafted, put
 use Rattle.ts_table.specs.Splits.{AreSeparate, MaySplit, FrameOf, IsFrame, edits_of, without}
 use Rattle.ts_table.specs.Slots.{cleared}
 use Rattle.ts_table.specs.declared.splice.Edit.{Edit}
-use Rattle.ts_table.proofs.Paths.{above_trans, before_trans, before_below, before_not_below, not_above}
-use Rattle.ts_table.proofs.Rows.{by_each, at_each, weaker, all_append, all_right}
+use Rattle.ts_name.proofs.Prefixes.{above_trans, not_above}
+use Rattle.ts_name.proofs.Order.{before_trans, before_below, before_not_below}
+use Rattle.ts_name.proofs.Utf8.{all_append, all_parts}
+use Rattle.ts_name.proofs.Basics.{by_each, at_each, weaker}
 use Rattle.ts_table.proofs.Listings.{is_above_no}
 use Rattle.ts_table.proofs.Splicing.{AreParts, ComesFirst, IsSpliced, all_spliced}
 use Rattle.ts_table.proofs.Uses.{IsPlace-graft, placed_before}
@@ -101,7 +103,7 @@ separate_right (p ∷ done) todo h = separate_right done todo h.1
 separate_across : (done : List Path) (p : Path) (todo : List Path) → AreSeparate (done ++ p ∷ todo) → AllByRecursion (λ r. IsBefore r p × (¬ IsAbove r p)) done
 separate_across [] p todo h = tt
 separate_across (r ∷ done) p todo h =
-    let more = all_right (λ (q : Path). IsBefore r q × (¬ IsAbove r q)) done (p ∷ todo) h.0 in (more.0, separate_across done p todo h.1)
+    let more = (all_parts (λ (q : Path). IsBefore r q × (¬ IsAbove r q)) done (p ∷ todo) h.0).1 in (more.0, separate_across done p todo h.1)
 
 -- the paths are places still when all their parts are gone
 places_left : {F : Type 0} (t : Path → Content F) (done todo : List Path) → AreSeparate (done ++ todo) → AllByRecursion (λ p. IsPlace t p) todo → AllByRecursion (λ p. IsPlace (without t (done ++ todo)) p) todo

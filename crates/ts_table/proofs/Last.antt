@@ -4,7 +4,7 @@ use Rattle.std.specs.List.{AllByRecursion}
 use Rattle.ts_name.specs.Paths.{Path, IsBefore}
 use Rattle.ts_model.specs.Trees.{Listing, Ascend}
 use Rattle.ts_model.specs.declared.row.Row.{Row}
-use Rattle.ts_table.proofs.Paths.{before_trans}
+use Rattle.ts_name.proofs.Order.{before_trans}
 
 -- what holds of each element holds of one that is found
 pub all_get : {A : Type 0} (P : A → Type 0) (xs : List A) (n : ℕ) (x : A) → Some x ≡ slice_get xs n → AllByRecursion P xs → P x

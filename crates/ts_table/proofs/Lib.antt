@@ -6,7 +6,6 @@ pub mod Joining
 pub mod Last
 pub mod Listings
 pub mod Looked
-pub mod Paths
 pub mod Places
 pub mod Placing
 pub mod Putting

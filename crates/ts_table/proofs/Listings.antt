@@ -1,5 +1,5 @@
 -- Listings: what a listing has one of, the rows below a path, and when rows may come next.
-use Rattle.std.proofs.Common.{◌≡◌, ◌≢◌, ◌⊎◌, ℕ, zero, suc, ◌<◌, Bool, true, false, cond, List, [], ◌∷◌, ◌++◌, length, get_or, Option, Some, None, refl, sym, ap, ap₂, ◌∙◌, subst, inl, inr, arith, append-nil}
+use Rattle.std.proofs.Common.{◌≡◌, ◌≢◌, ℕ, zero, suc, ◌<◌, Bool, true, false, cond, List, [], ◌∷◌, ◌++◌, length, get_or, Option, Some, None, refl, sym, ap, ap₂, ◌∙◌, subst, inl, inr, arith, append-nil}
 use Rattle.std.proofs.lemmas.Bool.{cond-true, cond-false}
 use Rattle.std.specs.List.{AllByRecursion, filter}
 use Rattle.ts_name.specs.Paths.{Path, IsPath, IsAbove, IsBefore, same_path, below}
@@ -7,8 +7,11 @@ use Rattle.ts_model.specs.Trees.{Listing, listed, at, Ascend, IsListing, sub}
 use Rattle.ts_model.specs.declared.row.Content.TheVariants.{Absent}
 use Rattle.ts_model.specs.declared.row.Row.{Row}
 use Rattle.ts_table.specs.Tables.{is_above, rows_below}
-use Rattle.ts_table.proofs.Paths.{same_path_equal, same_path_differ, before_cases, before_trans, before_itself, below_append, below_gives}
-use Rattle.ts_table.proofs.Rows.{by_each, at_each, weaker, ascend_rest, ascend_first, ascend_cons, ascend_pair, listed_none, listed_here}
+use Rattle.ts_name.specs.Laws.{same_path_equal, same_path_differ}
+use Rattle.ts_name.proofs.Prefixes.{below_append, below_gives, decide_above}
+use Rattle.ts_name.proofs.Order.{before_cases, before_trans, before_itself}
+use Rattle.ts_name.proofs.Basics.{by_each, at_each, weaker}
+use Rattle.ts_table.proofs.Rows.{ascend_rest, ascend_first, ascend_cons, ascend_pair, listed_none, listed_here}
 
 -- ---- one listing
 
@@ -155,14 +158,6 @@ not_listed_below {F} p q rows off = listed_none (rows_below p rows) q (differ ro
         go true e more = ((λ same. off (subst (λ z. IsAbove p z) same (is_above_gives p row.path e))), more)
         go false e more = more
 
--- whether q is p or below it
-pub decide_above : (p q : Path) → IsAbove p q ⊎ (¬ IsAbove p q)
-decide_above p q = go (is_above p q) refl
-  where
-    go : (b : Bool) → is_above p q ≡ b → IsAbove p q ⊎ (¬ IsAbove p q)
-    go true e = inl (is_above_gives p q e)
-    go false e = inr (not_above_gives p q e)
-
 -- the root is not listed
 pub root_not_listed : {F : Type 0} (rows : Listing F) → IsListing rows → listed rows [] ≡ Absent
 root_not_listed {F} rows lists =
@@ -182,8 +177,8 @@ same_rows_below {F} xs ys p lists_x lists_y same =
 
     everywhere : (q : Path) → listed (rows_below p xs) q ≡ listed (rows_below p ys) q
     everywhere q = elim (decide_above p q) [
-      | inl above ↦ listed_below p q xs above ∙ at_listed q (ap (at xs) above.1 ∙ at_each same above.0 ∙ ap (at ys) (sym above.1)) ∙ sym (listed_below p q ys above)
-      | inr off ↦ not_listed_below p q xs off ∙ sym (not_listed_below p q ys off)
+      | yes above ↦ listed_below p q xs above ∙ at_listed q (ap (at xs) above.1 ∙ at_each same above.0 ∙ ap (at ys) (sym above.1)) ∙ sym (listed_below p q ys above)
+      | no off ↦ not_listed_below p q xs off ∙ sym (not_listed_below p q ys off)
     ]
 
 -- and the same rows there make them the same

@@ -1,5 +1,5 @@
 -- What a search by halving finds in the rows of a content.
-use Rattle.std.proofs.Common.{◌≡◌, ◌≢◌, ℕ, ◌<◌, ◌≤◌, [], ◌∷◌, ◌++◌, length, get_or, take, drop, Less, Equal, Greater, sym, ap, ◌∙◌, subst}
+use Rattle.std.proofs.Common.{◌≡◌, ◌≢◌, ℕ, ◌<◌, ◌≤◌, ◌++◌, length, get_or, take, drop, Less, Equal, Greater, sym, ap, ◌∙◌, subst}
 use Rattle.std.proofs.lemmas.Cmp.{tied_itself}
 use Rattle.std.proofs.lemmas.List.{take-append-drop}
 use Rattle.std.specs.List.{AllByRecursion}
@@ -8,8 +8,10 @@ use Rattle.ts_name.specs.Paths.{Path, path_cmp}
 use Rattle.ts_model.specs.Trees.{Listing, listed, Ascend}
 use Rattle.ts_model.specs.declared.row.Content.TheVariants.{Absent}
 use Rattle.ts_model.specs.declared.row.Row.{Row}
-use Rattle.ts_table.proofs.Paths.{path_total, tied_paths}
-use Rattle.ts_table.proofs.Rows.{weaker, all_append, all_before, all_from, listed_none}
+use Rattle.ts_name.specs.Laws.{path_total, tied_paths}
+use Rattle.ts_name.proofs.Utf8.{all_append}
+use Rattle.ts_name.proofs.Basics.{weaker}
+use Rattle.ts_table.proofs.Rows.{all_before, all_from, listed_none}
 use Rattle.ts_table.proofs.Listings.{listed_at}
 
 -- a row of the path says what is listed

@@ -1,5 +1,5 @@
 -- Where something may stand, told by the last row before a path.
-use Rattle.std.proofs.Common.{◌≡◌, ◌≢◌, ◌↔◌, ◌⊎◌, ℕ, zero, suc, ◌<◌, ◌≤◌, ◌+◌, Bool, true, false, [], ◌∷◌, ◌++◌, length, take, drop, Some, refl, sym, ap, ◌∙◌, subst, inl, inr, arith, append_assoc, append-nil, slice_get}
+use Rattle.std.proofs.Common.{◌≡◌, ◌≢◌, ◌↔◌, ℕ, zero, suc, ◌<◌, ◌≤◌, ◌+◌, Bool, true, false, [], ◌∷◌, ◌++◌, length, take, drop, Some, refl, sym, ap, ◌∙◌, subst, inl, inr, arith, append_assoc, append-nil, slice_get}
 use Rattle.std.proofs.lemmas.Bool.{cond-false}
 use Rattle.std.proofs.lemmas.List.{take-append-drop}
 use Rattle.std.specs.List.{AllByRecursion}
@@ -11,9 +11,12 @@ use Rattle.ts_model.specs.declared.row.Content.{Content}
 use Rattle.ts_model.specs.declared.row.Content.TheVariants.{Absent, Dir}
 use Rattle.ts_model.specs.declared.row.Row.{Row}
 use Rattle.ts_table.specs.Tables.{IsPlace}
-use Rattle.ts_table.proofs.Paths.{before_itself, before_below, same_path_differ, same_parent, snoc_not_empty, last_name}
-use Rattle.ts_table.proofs.Rows.{weaker, all_before, all_from, ascend_rest, ascend_first, listed_none, listed_here, listed_before}
-use Rattle.ts_table.proofs.Found.{is_lt_Less, between}
+use Rattle.ts_name.specs.Laws.{same_path_differ}
+use Rattle.ts_name.proofs.Prefixes.{same_parent, snoc_not_empty, last_name}
+use Rattle.ts_name.proofs.Order.{late_between, before_itself, before_below}
+use Rattle.ts_name.proofs.Basics.{weaker}
+use Rattle.ts_table.proofs.Rows.{all_before, all_from, ascend_rest, ascend_first, listed_none, listed_here, listed_before}
+use Rattle.ts_table.proofs.Found.{is_lt_Less}
 use Rattle.ts_table.proofs.Cuts.{HasParents, IsListing-front}
 use Rattle.ts_table.proofs.Last.{all_get, all_until}
 
@@ -102,7 +105,7 @@ last_from_place {F} rows p n row lists long count got before q name is dir = ((q
         let early = all_until q rows n row count got lists.ascending (is_lt_Less _ e) in
         let gone = listed_none rows q (weaker (λ (other : Row F). IsBefore other.path q) (λ other. other.path ≢ q) (λ other first same. before_itself q (subst (λ z. IsBefore z q) same first)) rows early) in
         let f = sym gone ∙ there in cc
-    above false e = between q row.path p e row_before (name ∷ [], is)
+    above false e = late_between q row.path p e row_before (name ∷ [], is)
 
     may : MayBeAbove row p
     may other is_too =

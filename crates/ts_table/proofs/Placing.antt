@@ -5,7 +5,7 @@ use Rattle.ts_name.specs.Paths.{Path, IsPath}
 use Rattle.ts_model.specs.Trees.{Listing}
 use Rattle.ts_model.specs.declared.row.Row.{Row}
 use Rattle.ts_table.specs.Tables.{placed}
-use Rattle.ts_table.proofs.Rows.{all_append, all_right}
+use Rattle.ts_name.proofs.Utf8.{all_append, all_parts}
 
 -- rows are placed part by part
 pub placed_append : {F : Type 0} (p : Path) (xs ys : Listing F) → placed p (xs ++ ys) ≡ placed p xs ++ placed p ys
@@ -24,4 +24,4 @@ paths_push {F} p xs row all one = subst (λ z. AllByRecursion (λ (row : Row F).
 pub past_limit : {F : Type 0} (p : Path) (all xs ys : Listing F) (row : Row F) → all ≡ xs ++ row ∷ ys → ¬ IsPath (p ++ row.path) → ¬ AllByRecursion (λ row. IsPath row.path) (placed p all)
 past_limit {F} p all xs ys row is bad h =
     let parts = subst (λ z. AllByRecursion (λ (row : Row F). IsPath row.path) z) (ap (placed p) is ∙ placed_append p xs (row ∷ ys)) h in
-    let rest = all_right (λ (row : Row F). IsPath row.path) (placed p xs) (placed p (row ∷ ys)) parts in bad rest.0
+    let rest = (all_parts (λ (row : Row F). IsPath row.path) (placed p xs) (placed p (row ∷ ys)) parts).1 in bad rest.0

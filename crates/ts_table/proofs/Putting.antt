@@ -1,5 +1,5 @@
 -- Slots and the parts that are put into them.
-use Rattle.std.proofs.Common.{◌≡◌, ℕ, zero, suc, ◌+◌, ◌<◌, ◌≤◌, List, [], ◌∷◌, ◌++◌, length, get_or, take, map, sum_by, refl, sym, ap, ap₂, ◌∙◌, subst, arith}
+use Rattle.std.proofs.Common.{◌≡◌, ℕ, zero, suc, ◌+◌, ◌<◌, List, [], ◌∷◌, ◌++◌, length, get_or, take, map, sum_by, refl, sym, ap, ap₂, ◌∙◌, subst, arith}
 use Rattle.std.proofs.lemmas.List.{length-take-le, map-append, take_more}
 use Rattle.std.proofs.lemmas.List.Sums.{sum_by-cons, sum_by_push}
 use Rattle.std.specs.List.{AllByRecursion}
@@ -14,7 +14,7 @@ use Rattle.ts_table.specs.declared.splice.Edit.{Edit}
 use Rattle.ts_table.specs.declared.splice.Put.{Put}
 use Rattle.ts_table.specs.declared.frame.Slot.{Slot}
 use Rattle.ts_table.proofs.Placing.{placed_push, paths_push}
-use Rattle.ts_table.proofs.Rows.{all_append}
+use Rattle.ts_name.proofs.Utf8.{all_append}
 use Rattle.ts_table.proofs.Taking.{length_paths, rerouted_placed}
 
 -- ---- the paths of a part's rows

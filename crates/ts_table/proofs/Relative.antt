@@ -2,7 +2,7 @@
 use Rattle.std.proofs.Common.{◌≡◌, ◌≢◌, ℕ, ◌+◌, ◌<◌, get_or, take, Bool, true, false, cond, [], ◌∷◌, ◌++◌, length, Option, Some, None, refl, sym, ap, ap₂, ◌∙◌, subst, arith, append_assoc, append-nil, length-append}
 use Rattle.std.proofs.lemmas.Bool.{cond-true, cond-false}
 use Rattle.std.proofs.lemmas.List.Sums.{sum_by-append}
-use Rattle.std.proofs.lemmas.List.{take_more}
+use Rattle.std.proofs.lemmas.List.{take_more, append_cancel_left}
 use Rattle.std.specs.List.{AllByRecursion}
 use Rattle.ts_name.specs.Paths.{Path, IsName, IsPath, IsBefore, same_path, path_cmp, below}
 use Rattle.ts_model.specs.Trees.{Listing, listed, at, Ascend, IsListing, IsSubListing, sub}
@@ -11,8 +11,12 @@ use Rattle.ts_model.specs.declared.row.Content.{Content}
 use Rattle.ts_model.specs.declared.row.Content.TheVariants.{Absent, Dir}
 use Rattle.ts_model.specs.declared.row.Row.{Row}
 use Rattle.ts_table.specs.Tables.{is_above, rows_below, relative, root_row}
-use Rattle.ts_table.proofs.Paths.{same_path_equal, same_path_itself, same_path_differ, below_gives, not_above, append_same, below_order}
-use Rattle.ts_table.proofs.Rows.{by_each, weaker, all_append, all_right, ascend_rest, ascend_first, ascend_cons}
+use Rattle.ts_name.specs.Laws.{same_path_equal, same_path_itself, same_path_differ}
+use Rattle.ts_name.proofs.Prefixes.{below_gives, not_above}
+use Rattle.ts_name.proofs.Order.{cmp_below}
+use Rattle.ts_name.proofs.Utf8.{all_append, all_parts}
+use Rattle.ts_name.proofs.Basics.{by_each, weaker}
+use Rattle.ts_table.proofs.Rows.{ascend_rest, ascend_first, ascend_cons}
 use Rattle.ts_table.proofs.Listings.{filter_ascend, filter_all, listed_below}
 use Rattle.ts_table.proofs.Cuts.{HasParents, IsPath-root}
 
@@ -59,13 +63,13 @@ listed_relative {F} p rest (row ∷ rows) = go (below p row.path) refl (listed_r
             let g : same_path row.path (p ++ rest) ≡ true = subst (λ z. same_path row.path z ≡ true) same (same_path_itself row.path) in
             cond-true _ _ _ f ∙ sym (cond-true _ _ _ g)
         tested false f =
-            let g : same_path row.path (p ++ rest) ≡ false = same_path_differ row.path (p ++ rest) (λ same. let h = append_same p this rest (sym is ∙ same) in let k : same_path this rest ≡ true = subst (λ z. same_path this z ≡ true) h (same_path_itself this) in cc) in
+            let g : same_path row.path (p ++ rest) ≡ false = same_path_differ row.path (p ++ rest) (λ same. let h = append_cancel_left p this rest (sym is ∙ same) in let k : same_path this rest ≡ true = subst (λ z. same_path this z ≡ true) h (same_path_itself this) in cc) in
             cond-false _ _ _ f ∙ more ∙ sym (cond-false _ _ _ g)
 
 -- the end of a path is a path
 IsPath-rest : (p rest : Path) → IsPath (p ++ rest) → IsPath rest
 IsPath-rest p rest h = record {
-  names = all_right IsName p rest h.names;
+  names = (all_parts IsName p rest h.names).1;
   depth = (let e = length-append p rest in let k = h.depth in omega arith);
   size = (let e = sum_by-append length p rest in let k = h.size in omega arith);
 }
@@ -98,7 +102,7 @@ relative_ascend {F} p (row ∷ rows) h = go (below p row.path) refl (relative_as
     go (Some rest) e more =
         let is = below_gives p row.path rest e in
         ascend_cons (record { path = rest; content = row.content }) (relative p rows)
-        (relative_all (λ z. IsBefore rest z) p rows (weaker (λ (other : Row F). IsBefore row.path other.path) (λ other. (z : Path) → other.path ≡ p ++ z → IsBefore rest z) (λ other before z at_z. sym (below_order p rest z) ∙ ap₂ path_cmp (sym is) (sym at_z) ∙ before) rows (ascend_first row rows h)))
+        (relative_all (λ z. IsBefore rest z) p rows (weaker (λ (other : Row F). IsBefore row.path other.path) (λ other. (z : Path) → other.path ≡ p ++ z → IsBefore rest z) (λ other before z at_z. sym (cmp_below p rest z) ∙ ap₂ path_cmp (sym is) (sym at_z) ∙ before) rows (ascend_first row rows h)))
         more
 
 -- what `sub_table` gives

@@ -1,55 +1,21 @@
 -- Rows in path order, and what is listed.
-use Rattle.std.proofs.Common.{◌≡◌, ◌≢◌, ℕ, zero, suc, ◌<◌, ◌≤◌, ◌+◌, Bool, true, false, cond, List, [], ◌∷◌, ◌++◌, length, get_or, take, drop, Option, Some, None, refl, sym, ap, ◌∙◌, subst, arith, map}
+use Rattle.std.proofs.Common.{◌≡◌, ◌≢◌, ℕ, zero, suc, ◌<◌, ◌≤◌, ◌+◌, Bool, true, false, cond, List, [], ◌∷◌, ◌++◌, length, get_or, take, drop, Option, Some, None, refl, sym, ap, ◌∙◌, subst, arith}
 use Rattle.std.specs.List.{AllByRecursion, AllWithin}
 use Rattle.std.proofs.lemmas.List.Elements.{recursion_from_All}
-use Rattle.std.proofs.lemmas.List.{get_or-take, get_or-drop, length-take-le, length-drop}
+use Rattle.std.proofs.lemmas.List.{get_or-take, get_or-drop, length-take-le, length-drop, append_cancel_left}
 use Rattle.ts_name.specs.Paths.{Path, IsAbove, IsBefore, same_path, below}
 use Rattle.ts_model.specs.Trees.{Listing, listed, at, Ascend}
 use Rattle.ts_model.specs.Runs.{graft}
 use Rattle.ts_model.specs.declared.row.Content.TheVariants.{Absent}
 use Rattle.ts_model.specs.declared.row.Row.{Row}
 use Rattle.ts_table.specs.Tables.{placed, IsCut}
-use Rattle.ts_table.proofs.Paths.{same_path_equal, same_path_itself, same_path_differ, before_trans, below_gives, not_above, append_same, below_order, before_not_below}
+use Rattle.ts_name.proofs.Utf8.{all_append, all_parts}
+use Rattle.ts_name.proofs.Basics.{by_each, weaker}
+use Rattle.ts_name.specs.Laws.{same_path_equal, same_path_itself, same_path_differ}
+use Rattle.ts_name.proofs.Prefixes.{below_gives, not_above}
+use Rattle.ts_name.proofs.Order.{before_trans, cmp_below, before_not_below}
 
--- ---- what holds of each row
-
--- functions that agree at each argument are equal
-pub by_each : {A B : Type 0} (f g : A → B) → ((x : A) → f x ≡ g x) → f ≡ g
-by_each f g h = λ i. λ x. h x i
-
--- equal functions agree at each argument
-pub at_each : {A B : Type 0} {f g : A → B} → f ≡ g → (x : A) → f x ≡ g x
-at_each e x = ap (λ h. h x) e
-
--- what each element has, each has in a weaker form
-pub weaker : {A : Type 0} (P Q : A → Type 0) → ((x : A) → P x → Q x) → (xs : List A) → AllByRecursion P xs → AllByRecursion Q xs
-weaker P Q h [] all = tt
-weaker P Q h (x ∷ xs) all = (h x all.0, weaker P Q h xs all.1)
-
--- what holds in two parts holds in the whole
-pub all_append : {A : Type 0} (P : A → Type 0) (xs ys : List A) → AllByRecursion P xs → AllByRecursion P ys → AllByRecursion P (xs ++ ys)
-all_append P [] ys h k = k
-all_append P (x ∷ xs) ys h k = (h.0, all_append P xs ys h.1 k)
-
--- what holds in the whole holds in its front
-pub all_left : {A : Type 0} (P : A → Type 0) (xs ys : List A) → AllByRecursion P (xs ++ ys) → AllByRecursion P xs
-all_left P [] ys h = tt
-all_left P (x ∷ xs) ys h = (h.0, all_left P xs ys h.1)
-
--- and in what follows
-pub all_right : {A : Type 0} (P : A → Type 0) (xs ys : List A) → AllByRecursion P (xs ++ ys) → AllByRecursion P ys
-all_right P [] ys h = h
-all_right P (x ∷ xs) ys h = all_right P xs ys h.1
-
--- two facts of each element are one
-pub all_both : {A : Type 0} (P Q : A → Type 0) (xs : List A) → AllByRecursion P xs → AllByRecursion Q xs → AllByRecursion (λ x. P x × Q x) xs
-all_both P Q [] h k = tt
-all_both P Q (x ∷ xs) h k = ((h.0, k.0), all_both P Q xs h.1 k.1)
-
--- what holds after a map
-pub all_map : {A B : Type 0} (P : B → Type 0) (f : A → B) (xs : List A) → AllByRecursion (λ x. P (f x)) xs → AllByRecursion P (map f xs)
-all_map P f [] h = tt
-all_map P f (x ∷ xs) h = (h.0, all_map P f xs h.1)
+-- ---- the two parts of a search
 
 -- what a search by halving says of the two parts
 pub all_before : {A : Type 0} (P : A → Type 0) (xs : List A) (n : ℕ) → n ≤ length xs → AllWithin P xs 0 n → AllByRecursion P (take n xs)
@@ -79,7 +45,7 @@ ascend_cons row (next ∷ rows) h k = (h.0, k)
 -- a front ascends
 pub ascend_left : {F : Type 0} (xs ys : Listing F) → Ascend (xs ++ ys) → Ascend xs
 ascend_left [] ys h = tt
-ascend_left {F} (x ∷ xs) ys h = ascend_cons x xs (all_left (λ (other : Row F). IsBefore x.path other.path) xs ys (ascend_first x (xs ++ ys) h)) (ascend_left xs ys (ascend_rest x (xs ++ ys) h))
+ascend_left {F} (x ∷ xs) ys h = ascend_cons x xs (all_parts (λ (other : Row F). IsBefore x.path other.path) xs ys (ascend_first x (xs ++ ys) h)).0 (ascend_left xs ys (ascend_rest x (xs ++ ys) h))
 
 -- and so does what follows
 pub ascend_right : {F : Type 0} (xs ys : Listing F) → Ascend (xs ++ ys) → Ascend ys
@@ -100,7 +66,7 @@ ascend_join {F} (x ∷ xs) ys h k across =
 -- as it does where they ascend together
 pub ascend_across : {F : Type 0} (xs ys : Listing F) → Ascend (xs ++ ys) → AllBefore xs ys
 ascend_across [] ys h = tt
-ascend_across {F} (x ∷ xs) ys h = (all_right (λ (other : Row F). IsBefore x.path other.path) xs ys (ascend_first x (xs ++ ys) h), ascend_across xs ys (ascend_rest x (xs ++ ys) h))
+ascend_across {F} (x ∷ xs) ys h = ((all_parts (λ (other : Row F). IsBefore x.path other.path) xs ys (ascend_first x (xs ++ ys) h)).1, ascend_across xs ys (ascend_rest x (xs ++ ys) h))
 
 -- a row comes before those at greater indexes
 pub ascend_pair : {F : Type 0} (rows : Listing F) → Ascend rows → (i j : ℕ) (d : Row F) → i < j → j < length rows → IsBefore (get_or rows i d).path (get_or rows j d).path
@@ -160,7 +126,7 @@ listed_placed {F} p (row ∷ rows) rest = go (same_path row.path rest) refl (lis
   where
     go : (b : Bool) → same_path row.path rest ≡ b → listed (placed p rows) (p ++ rest) ≡ listed rows rest → cond (same_path (p ++ row.path) (p ++ rest)) row.content (listed (placed p rows) (p ++ rest)) ≡ cond b row.content (listed rows rest)
     go true is e = let same : p ++ row.path ≡ p ++ rest = ap (λ z. p ++ z) (same_path_equal row.path rest is) in ap (λ z. cond (same_path (p ++ row.path) z) row.content (listed (placed p rows) (p ++ rest))) (sym same) ∙ ap (λ b. cond b row.content (listed (placed p rows) (p ++ rest))) (same_path_itself (p ++ row.path))
-    go false is e = ap (λ b. cond b row.content (listed (placed p rows) (p ++ rest))) (same_path_differ (p ++ row.path) (p ++ rest) (λ same. let f = append_same p row.path rest same in let g : same_path row.path rest ≡ true = ap (λ z. same_path row.path z) (sym f) ∙ same_path_itself row.path in cc)) ∙ e
+    go false is e = ap (λ b. cond b row.content (listed (placed p rows) (p ++ rest))) (same_path_differ (p ++ row.path) (p ++ rest) (λ same. let f = append_cancel_left p row.path rest same in let g : same_path row.path rest ≡ true = ap (λ z. same_path row.path z) (sym f) ∙ same_path_itself row.path in cc)) ∙ e
 
 -- they are all below it
 pub placed_below : {F : Type 0} (p : Path) (rows : Listing F) → AllByRecursion (λ row. IsAbove p row.path) (placed p rows)
@@ -171,7 +137,7 @@ placed_below p (row ∷ rows) = ((row.path, refl), placed_below p rows)
 pub placed_ascend : {F : Type 0} (p : Path) (rows : Listing F) → Ascend rows → Ascend (placed p rows)
 placed_ascend p [] h = tt
 placed_ascend p (row ∷ []) h = tt
-placed_ascend p (row ∷ next ∷ rows) h = (below_order p row.path next.path ∙ h.0, placed_ascend p (next ∷ rows) h.1)
+placed_ascend p (row ∷ next ∷ rows) h = (cmp_below p row.path next.path ∙ h.0, placed_ascend p (next ∷ rows) h.1)
 
 -- ---- three parts of a listing: before a path, at or below it, and after all that
 

@@ -1,6 +1,6 @@
 -- Many edits in one pass: what the pass keeps, and that the edits are made.
 use Rattle.std.proofs.Common.{◌≡◌, Bool, true, false, cond, List, [], ◌∷◌, ◌++◌, refl, sym, ap, ◌∙◌, subst, inl, inr, append_assoc, append-nil, map}
-use Rattle.std.proofs.lemmas.Bool.{false≢true}
+use Rattle.std.proofs.lemmas.Bool.{false≢true, false_from_ne_true}
 use Rattle.std.specs.List.{AllByRecursion}
 use Rattle.std.specs.Ordering.{is_lt}
 use Rattle.ts_name.specs.Paths.{Path, IsPath, IsAbove, IsBefore, path_cmp}
@@ -11,10 +11,12 @@ use Rattle.ts_model.specs.declared.row.Row.{Row}
 use Rattle.ts_table.specs.declared.splice.Edit.{Edit}
 use Rattle.ts_table.specs.Tables.{placed, IsPlace, IsCut}
 use Rattle.ts_table.specs.Splices.{grafted, ArePlaces, AreInOrder, ArePaths, lead, trail, comes_before, stands_below, spliced, put_of}
-use Rattle.ts_table.proofs.Paths.{before_cases, before_trans}
-use Rattle.ts_table.proofs.Rows.{weaker, all_append, all_right, all_both, ascend_rest, ascend_first, ascend_right, graft_at_rows}
+use Rattle.ts_name.proofs.Order.{late_between, before_cases, before_trans}
+use Rattle.ts_name.proofs.Utf8.{all_append, all_parts}
+use Rattle.ts_name.proofs.Basics.{weaker, all_both}
+use Rattle.ts_table.proofs.Rows.{ascend_rest, ascend_first, ascend_right, graft_at_rows}
 use Rattle.ts_table.proofs.Listings.{is_above_gives, not_above_gives, is_above_yes}
-use Rattle.ts_table.proofs.Found.{is_lt_Less, between}
+use Rattle.ts_table.proofs.Found.{is_lt_Less}
 use Rattle.ts_table.proofs.Cuts.{IsListing-placed}
 
 -- ---- fronts
@@ -43,11 +45,8 @@ trail_late p [] up = tt
 trail_late {F} p (row ∷ rows) up = go (comes_before p row) refl (trail_late p rows (ascend_rest row rows up))
   where
     late : comes_before p row ≡ false → (other : Row F) → IsBefore row.path other.path → comes_before p other ≡ false
-    late e other before = decide (comes_before p other) refl
-      where
-        decide : (b : Bool) → comes_before p other ≡ b → comes_before p other ≡ false
-        decide false f = f
-        decide true f = let g : is_lt (path_cmp row.path p) ≡ true = ap is_lt (before_trans row.path other.path p before (is_lt_Less _ f)) in absurd (false≢true (sym e ∙ g))
+    late e other before = false_from_ne_true (comes_before p other) (λ f.
+        let g : is_lt (path_cmp row.path p) ≡ true = ap is_lt (before_trans row.path other.path p before (is_lt_Less _ f)) in false≢true (sym e ∙ g))
 
     go : (b : Bool) → comes_before p row ≡ b → AllByRecursion (λ row. comes_before p row ≡ false) (trail (comes_before p) rows) → AllByRecursion (λ row. comes_before p row ≡ false) (cond b (trail (comes_before p) rows) (row ∷ rows))
     go true e more = more
@@ -59,11 +58,8 @@ trail_off p [] up late = tt
 trail_off {F} p (row ∷ rows) up late = go (stands_below p row) refl (trail_off p rows (ascend_rest row rows up) late.1)
   where
     off : stands_below p row ≡ false → (other : Row F) → IsBefore row.path other.path → stands_below p other ≡ false
-    off e other before = decide (stands_below p other) refl
-      where
-        decide : (b : Bool) → stands_below p other ≡ b → stands_below p other ≡ false
-        decide false f = f
-        decide true f = let g = is_above_yes p row.path (between p row.path other.path late.0 before (is_above_gives p other.path f)) in absurd (false≢true (sym e ∙ g))
+    off e other before = false_from_ne_true (stands_below p other) (λ f.
+        let g = is_above_yes p row.path (late_between p row.path other.path late.0 before (is_above_gives p other.path f)) in false≢true (sym e ∙ g))
 
     go : (b : Bool) → stands_below p row ≡ b → AllByRecursion (λ row. stands_below p row ≡ false) (trail (stands_below p) rows) → AllByRecursion (λ row. stands_below p row ≡ false) (cond b (trail (stands_below p) rows) (row ∷ rows))
     go true e more = more
@@ -180,4 +176,4 @@ edit_paths_push {F} edits edit all one = all_append (λ (other : Edit F). AllByR
 pub edit_past_limit : {F : Type 0} (all front back : List (Edit F)) (edit : Edit F) → all ≡ front ++ edit ∷ back → (¬ AllByRecursion (λ row. IsPath row.path) (placed edit.path edit.part)) → ¬ ArePaths all
 edit_past_limit {F} all front back edit is bad h =
     let parts = subst (λ z. ArePaths z) is h in
-    let rest = all_right (λ (other : Edit F). AllByRecursion (λ (row : Row F). IsPath row.path) (placed other.path other.part)) front (edit ∷ back) parts in bad rest.0
+    let rest = (all_parts (λ (other : Edit F). AllByRecursion (λ (row : Row F). IsPath row.path) (placed other.path other.part)) front (edit ∷ back) parts).1 in bad rest.0

@@ -1,5 +1,5 @@
 -- Rows that leave a table for parts: what each part is, and what is left.
-use Rattle.std.proofs.Common.{◌≡◌, ◌≢◌, ℕ, suc, ◌+◌, ◌<◌, ◌≤◌, get_or, Bool, true, false, ◌||◌, List, [], ◌∷◌, ◌++◌, length, map, take, drop, Option, Some, None, refl, sym, ap, ◌∙◌, subst, append_assoc, arith}
+use Rattle.std.proofs.Common.{◌≡◌, ◌≢◌, ℕ, suc, ◌+◌, ◌<◌, ◌≤◌, get_or, Bool, true, false, List, [], ◌∷◌, ◌++◌, length, map, take, drop, Option, Some, None, refl, sym, ap, ◌∙◌, subst, append_assoc, arith}
 use Rattle.std.proofs.lemmas.List.{map-append}
 use Rattle.std.specs.List.{AllByRecursion}
 use Rattle.ts_name.specs.Paths.{Path, IsAbove, IsBefore, below}
@@ -10,8 +10,10 @@ use Rattle.ts_table.specs.Splices.{comes_before, lead, spliced, stands_below, tr
 use Rattle.ts_table.specs.Splits.{AreSeparate, ArePartsAt}
 use Rattle.ts_table.specs.Slots.{HasRoom, SlotFits, SlotsFit, cleared, parted, passed, paths_of, rerouted, slot_paths, taken}
 use Rattle.ts_table.specs.declared.frame.Slot.{Slot}
-use Rattle.ts_table.proofs.Paths.{before_trans, below_before}
-use Rattle.ts_table.proofs.Rows.{weaker, all_append, ascend_right}
+use Rattle.ts_name.proofs.Order.{before_trans, below_before}
+use Rattle.ts_name.proofs.Utf8.{all_append}
+use Rattle.ts_name.proofs.Basics.{weaker}
+use Rattle.ts_table.proofs.Rows.{ascend_right}
 use Rattle.ts_table.proofs.Found.{mid_is_below}
 use Rattle.ts_table.proofs.Relative.{IsPart, part_of, relative_more, relative_pass}
 use Rattle.ts_table.proofs.Splicing.{cut_left, lead_all, lead_trail}

@@ -8,8 +8,10 @@ use Rattle.ts_model.specs.declared.row.Content.{Content}
 use Rattle.ts_model.specs.declared.row.Content.TheVariants.{Absent, Dir}
 use Rattle.ts_model.specs.declared.row.Row.{Row}
 use Rattle.ts_table.specs.Tables.{placed, IsPlace}
-use Rattle.ts_table.proofs.Paths.{below_append, below_gives, same_parent, below_before}
-use Rattle.ts_table.proofs.Rows.{at_each, weaker, placed_below}
+use Rattle.ts_name.proofs.Prefixes.{below_append, below_gives, same_parent}
+use Rattle.ts_name.proofs.Order.{below_before}
+use Rattle.ts_name.proofs.Basics.{at_each, weaker}
+use Rattle.ts_table.proofs.Rows.{placed_below}
 use Rattle.ts_table.proofs.Listings.{one_listed, root_not_listed}
 
 -- ---- one listing

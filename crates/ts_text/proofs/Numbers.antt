@@ -1,5 +1,5 @@
 -- Numbers and digests, and the fields that spell them.
-use Rattle.std.proofs.Common.{◌≡◌, ◌≢◌, ℕ, zero, suc, ◌+◌, ◌^◌, ◌<◌, ◌≤◌, List, [], ◌∷◌, ◌*◌, length, get_or, Option, Some, None, Result, Ok, Err, MatchOption, IfNone, IfSome, decimal, sym, ap, ◌∙◌, subst, inl, inr, arith}
+use Rattle.std.proofs.Common.{◌≡◌, ◌≢◌, ℕ, zero, suc, ◌^◌, ◌<◌, List, [], ◌∷◌, ◌*◌, length, get_or, Option, Some, None, Result, Ok, Err, MatchOption, IfNone, IfSome, decimal, sym, ap, ◌∙◌, subst, inl, inr, arith}
 use Rattle.std.specs.Result.{result_ok}
 use Rattle.std.specs.Str.Parse.{AllDigits, digits_value, ParsesUnsigned}
 use Rattle.std.proofs.lemmas.Bool.{cases_lt}

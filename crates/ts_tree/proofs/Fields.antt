@@ -6,11 +6,12 @@ use Rattle.hex.specs.declared.error.FromHexError.{FromHexError}
 use Rattle.hex.specs.Hex.{encode_lower, decode_sized}
 use Rattle.hex.proofs.HexLemmas.{decode_of-ok, decode_sized-encode_lower, decode_sized-ok, decode_sized-twice}
 use Rattle.ts_name.specs.Paths.{Path, IsPath, path_text}
+use Rattle.ts_name.specs.Buffers.{HasNo}
+use Rattle.ts_name.proofs.Spelling.{clean_path, cut_at, no_space}
 use Rattle.ts_model.specs.Texts.{IsBytes}
-use Rattle.ts_tree.specs.Fields.{Without, IsNamed, IsNoHead, SpellsNoPath, head_line}
+use Rattle.ts_tree.specs.Fields.{IsNamed, IsNoHead, SpellsNoPath, head_line}
 use Rattle.ts_tree.specs.declared.field.Head.{Head}
 use Rattle.ts_tree.specs.declared.field.Head.TheVariants as head
-use Rattle.ts_tree.proofs.Words.{clean_path, clean_without, cut_at}
 
 -- a path that isn't the root has a text
 pub path_text_some : (p : Path) → p ≢ [] → path_text p ≢ []
@@ -18,11 +19,11 @@ path_text_some [] some e = some refl
 path_text_some (x ∷ p) some e = cc
 
 -- a path's text has no space
-pub path_text_word : (p : Path) → IsPath p → Without 32 (path_text p)
-path_text_word p is = clean_without 32 (omega arith) (path_text p) (clean_path p is)
+pub path_text_word : (p : Path) → IsPath p → HasNo 32 (path_text p)
+path_text_word p is = no_space (path_text p) (clean_path p is)
 
 -- a file's first line is no other line
-pub no_file_line : (fields : List ℕ) → ((path : List ℕ) (n : ℕ) → Without 32 path → n < 2 ^ 64 → fields ≢ path ++ 32 ∷ decimal n)
+pub no_file_line : (fields : List ℕ) → ((path : List ℕ) (n : ℕ) → HasNo 32 path → n < 2 ^ 64 → fields ≢ path ++ 32 ∷ decimal n)
     → IsNoHead (102 ∷ 32 ∷ fields)
 no_file_line fields none p head.Dir named fits e =
     let k : 102 ∷ 32 ∷ fields ≡ 100 ∷ 32 ∷ path_text p = e in
@@ -33,7 +34,7 @@ no_file_line fields none p (head.File n) named fits e =
     none (path_text p) n (path_text_word p named.0) fits rest
 
 -- nor is one whose path isn't spelled
-pub no_file_path : (path : List ℕ) (m : ℕ) → Without 32 path → SpellsNoPath path → IsNoHead (102 ∷ 32 ∷ (path ++ 32 ∷ decimal m))
+pub no_file_path : (path : List ℕ) (m : ℕ) → HasNo 32 path → SpellsNoPath path → IsNoHead (102 ∷ 32 ∷ (path ++ 32 ∷ decimal m))
 no_file_path path m word none p h named fits e = go p h named e
   where
     go : (p : Path) (h : Head) → IsNamed p → 102 ∷ 32 ∷ (path ++ 32 ∷ decimal m) ≢ head_line p h

@@ -1,5 +1,5 @@
 -- Why a decoder answers no tree.
-use Rattle.std.proofs.Common.{◌≡◌, ◌≢◌, ℕ, List, [], ◌∷◌, ◌++◌, Option, Some, None, Err, refl, sym, ◌∙◌, subst}
+use Rattle.std.proofs.Common.{◌≡◌, ◌≢◌, ℕ, List, ◌++◌, Option, Some, None, Err, refl, sym, ◌∙◌, subst}
 use Rattle.std.specs.Prelude.{IfSome}
 use Rattle.ts_text.specs.Lines.{Reading, HasEnded, Answers}
 use Rattle.ts_text.specs.declared.fault.TextFault.{TextFault}

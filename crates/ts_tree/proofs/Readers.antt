@@ -1,9 +1,10 @@
 -- What the lines that a reader has taken say of the lines that may follow.
-use Rattle.std.proofs.Common.{◌≡◌, ◌≢◌, ℕ, suc, ◌+◌, ◌-◌, ◌*◌, ◌/◌, ◌%◌, ◌^◌, ◌<◌, ◌≤◌, min, List, [], ◌∷◌, ◌++◌, length, Some, refl, sym, ap, ◌∙◌, subst, append_assoc, arith, length-append}
+use Rattle.std.proofs.Common.{◌≡◌, ℕ, suc, ◌+◌, ◌-◌, ◌/◌, ◌%◌, ◌<◌, ◌≤◌, min, List, [], ◌∷◌, ◌++◌, length, Some, refl, sym, ap, ◌∙◌, subst, append_assoc, arith, length-append}
 use Rattle.std.proofs.lemmas.List.{append-nil}
 use Rattle.ts_name.specs.Paths.{Path}
 use Rattle.ts_model.specs.Trees.{Listing, IsListing}
 use Rattle.ts_model.specs.Texts.{Line, data_lines, tree_row_lines, tree_lines, IsTreeBody}
+use Rattle.ts_model.proofs.Rows.{RowsFollow}
 use Rattle.ts_model.specs.declared.row.Content.{Content}
 use Rattle.ts_model.specs.declared.row.Content.TheVariants.{Absent, Dir, File}
 use Rattle.ts_model.specs.declared.row.Row.{Row}
@@ -13,26 +14,20 @@ use Rattle.ts_tree.specs.Readers.{OpenFits, open_lines, BeginsNoTree, SpellsNoTr
 use Rattle.ts_tree.specs.declared.field.Head.{Head}
 use Rattle.ts_tree.specs.declared.field.Head.TheVariants as head
 use Rattle.ts_tree.specs.declared.reader.OpenFile.{OpenFile}
-use Rattle.ts_tree.proofs.TreeTexts.{RowFits, RowsFit, IsPartOf, rows_fit, later_fit, rows_front, part_front, part_lines, data_push, one_dir_line, one_file_line, other_line}
+use Rattle.ts_tree.proofs.TreeTexts.{RowFits, RowsFit, IsPartOf, rows_fit, rows_front, part_front, part_lines, data_push, one_dir_line, one_file_line, other_line}
 
 part : (rows : Listing (List ℕ)) (f : OpenFile) → OpenFits rows f → IsPartOf f.path f.size f.bytes.items
 part rows f fits = record { path = fits.named.0; size = fits.size; bytes = fits.bytes; whole = fits.whole; less = fits.less }
 
 -- the rows behind those that were read
-abbrev Behind : Listing (List ℕ) → Listing (List ℕ) → List Line → Type 0
-Behind whole rows lines = (more : Listing (List ℕ)) × (whole ≡ rows ++ more) × RowsFit more × (tree_lines more ≡ lines)
-
-behind : (whole rows : Listing (List ℕ)) (lines : List Line) → IsTreeBody whole → IsTreeBody rows → tree_lines whole ≡ tree_lines rows ++ lines → Behind whole rows lines
-behind whole rows lines is_whole is_rows e =
-    let fit = rows_fit whole is_whole in
-    let found = rows_front whole rows lines fit (rows_fit rows is_rows) e in
-    (found.more, found.rows, later_fit rows found.more (subst (λ z. RowsFit z) found.rows fit), found.lines)
+behind : (whole rows : Listing (List ℕ)) (lines : List Line) → IsTreeBody whole → IsTreeBody rows → tree_lines whole ≡ tree_lines rows ++ lines → RowsFollow tree_row_lines RowFits whole rows lines
+behind whole rows lines is_whole is_rows e = rows_front whole rows lines (rows_fit whole is_whole) (rows_fit rows is_rows) e
 
 -- a part of a file isn't all of a tree
 pub no_end : (rows : Listing (List ℕ)) (f : OpenFile) → IsTreeBody rows → OpenFits rows f → SpellsNoTree (tree_lines rows ++ open_lines (Some f))
 no_end rows f is fits whole is_whole e =
-    let more = behind whole rows (open_lines (Some f)) is_whole is e in
-    let on = part_front more.0 f.path f.size f.bytes.items [] more.2 (part rows f fits) (more.3 ∙ sym (append-nil (part_lines f.path f.size f.bytes.items))) in
+    let found = behind whole rows (open_lines (Some f)) is_whole is e in
+    let on = part_front found.more f.path f.size f.bytes.items [] found.fit (part rows f fits) (found.lines ∙ sym (append-nil (part_lines f.path f.size f.bytes.items))) in
     let k : [] ≡ data_line on.chunk ∷ on.more = on.next in cc
 
 -- a file's next line tells its next bytes
@@ -41,8 +36,8 @@ pub no_data : (rows : Listing (List ℕ)) (f : OpenFile) (line : Line) (count : 
 no_data rows f line count is fits size none whole rest is_whole e =
     let lines : tree_lines whole ≡ tree_lines rows ++ (part_lines f.path f.size f.bytes.items ++ line ∷ rest) =
     e ∙ append_assoc (tree_lines rows ++ open_lines (Some f)) (line ∷ []) rest ∙ append_assoc (tree_lines rows) (open_lines (Some f)) (line ∷ rest) in
-    let more = behind whole rows (part_lines f.path f.size f.bytes.items ++ line ∷ rest) is_whole is lines in
-    let on = part_front more.0 f.path f.size f.bytes.items (line ∷ rest) more.2 (part rows f fits) more.3 in
+    let found = behind whole rows (part_lines f.path f.size f.bytes.items ++ line ∷ rest) is_whole is lines in
+    let on = part_front found.more f.path f.size f.bytes.items (line ∷ rest) found.fit (part rows f fits) found.lines in
     let k : line ∷ rest ≡ data_line on.chunk ∷ on.more = on.next in
     let told : line ≡ data_line on.chunk = cc in
     none on.chunk on.bytes (on.size ∙ sym size) told
@@ -84,8 +79,8 @@ first_row (row ∷ rows) line rest fit e = go row.path row.content fit.0 e
 -- a line that begins no row
 pub no_head : (rows : Listing (List ℕ)) (line : Line) → IsTreeBody rows → IsNoHead line → BeginsNoTree (tree_lines rows ++ line ∷ [])
 no_head rows line is none whole rest is_whole e =
-    let more = behind whole rows (line ∷ rest) is_whole is (e ∙ append_assoc (tree_lines rows) (line ∷ []) rest) in
-    let first = first_row more.0 line rest more.2 more.3 in
+    let found = behind whole rows (line ∷ rest) is_whole is (e ∙ append_assoc (tree_lines rows) (line ∷ []) rest) in
+    let first = first_row found.more line rest found.fit found.lines in
     none first.path (head_of first.content) (first.fits.0, first.fits.1) (head_fits first.path first.content first.fits) first.line_is
 
 -- a first line names one path
@@ -99,12 +94,12 @@ one_head p q (head.File m) (head.File n) named_p named_q fits_h fits_k e = (one_
 pub no_room : (rows : Listing (List ℕ)) (line : Line) (p : Path) (h : Head) → IsTreeBody rows → IsNamed p → HeadFits h → line ≡ head_line p h
     → ((x : Content (List ℕ)) → ¬ IsListing (rows ++ record { path = p; content = x } ∷ [])) → BeginsNoTree (tree_lines rows ++ line ∷ [])
 no_room rows line p h is named fits told none whole rest is_whole e =
-    let more = behind whole rows (line ∷ rest) is_whole is (e ∙ append_assoc (tree_lines rows) (line ∷ []) rest) in
-    let first = first_row more.0 line rest more.2 more.3 in
+    let found = behind whole rows (line ∷ rest) is_whole is (e ∙ append_assoc (tree_lines rows) (line ∷ []) rest) in
+    let first = first_row found.more line rest found.fit found.lines in
     let same = one_head first.path p (head_of first.content) h (first.fits.0, first.fits.1) named (head_fits first.path first.content first.fits) fits (sym first.line_is ∙ told) in
     let row : Row (List ℕ) = record { path = p; content = first.content } in
-    let rows_are : more.0 ≡ row ∷ first.later = first.rows_are ∙ λ i. record { path = same i; content = first.content } ∷ first.later in
-    let all : whole ≡ (rows ++ row ∷ []) ++ first.later = more.1 ∙ ap (λ z. rows ++ z) rows_are ∙ sym (append_assoc rows (row ∷ []) first.later) in
+    let rows_are : found.more ≡ row ∷ first.later = first.rows_are ∙ λ i. record { path = same i; content = first.content } ∷ first.later in
+    let all : whole ≡ (rows ++ row ∷ []) ++ first.later = found.rows ∙ ap (λ z. rows ++ z) rows_are ∙ sym (append_assoc rows (row ∷ []) first.later) in
     none first.content (IsListing-front (rows ++ row ∷ []) first.later (subst (λ z. IsListing z) all is_whole.listing))
 
 -- ---- what a line of data adds

@@ -1,15 +1,17 @@
 -- What a decoder knows after some lines.
 --     Taken old now fed    these lines were taken since
-use Rattle.std.proofs.Common.{◌≡◌, ◌≢◌, ◌⊎◌, ℕ, List, [], ◌∷◌, ◌++◌, Option, Some, None, refl, sym, ap, ◌∙◌, subst, inl, inr, append_assoc}
+use Rattle.std.proofs.Common.{◌≡◌, ◌≢◌, ℕ, List, [], ◌∷◌, ◌++◌, Option, Some, None, refl, sym, ap, ◌∙◌, subst, inl, inr, append_assoc}
 use Rattle.std.specs.Prelude.{IfSome}
 use Rattle.std.specs.Io.KnownBytes.{Keeps, Consumes, IsAtEnd}
 use Rattle.std.proofs.lemmas.List.{append-nil}
-use Rattle.ts_text.specs.Lines.{Reading, HasNoLine, GivesLine, HasEnded, HasFailed, HasRefused}
+use Rattle.ts_text.specs.Lines.{IsLine, Reading, HasNoLine, GivesLine, HasEnded, HasFailed, HasRefused}
 use Rattle.ts_text.specs.declared.state.State.TheVariants.{Going, Refused}
 use Rattle.ts_text.specs.declared.fault.TextFault.TheVariants as text_fault
+use Rattle.ts_name.proofs.Utf8.{all_append, all_parts}
 use Rattle.ts_model.specs.Texts.{Line, text}
+use Rattle.ts_model.proofs.Lines.{LinesFollow, text_push_rest}
 use Rattle.ts_tree.specs.Decoding.{SourceFailed}
-use Rattle.ts_tree.proofs.Lines.{AreTextLines, LinesFollow, lines_append, stands_first, text_front, text_push}
+use Rattle.ts_tree.proofs.Lines.{AreTextLines, stands_first, text_front}
 
 pub record Taken (old now : Reading) (fed : List Line) : Type 0 where
   pub bytes : Consumes old.left now.left (text fed)
@@ -30,13 +32,13 @@ consumes_line None b c fed line h k = tt
 consumes_line (Some x) None c fed line h k = absurd h
 consumes_line (Some x) (Some y) None fed line h k = absurd k
 consumes_line (Some x) (Some y) (Some z) fed line h k =
-    h ∙ ap (λ w. text fed ++ w) (k ∙ append_assoc line (10 ∷ []) z) ∙ sym (text_push fed line z)
+    h ∙ ap (λ w. text fed ++ w) (k ∙ append_assoc line (10 ∷ []) z) ∙ sym (text_push_rest fed line z)
 
 -- one more line
 pub taken_more : (old now next : Reading) (fed : List Line) → Taken old now fed → GivesLine now next → Taken old next (fed ++ next.line ∷ [])
 taken_more old now next fed taken gives = record {
   bytes = consumes_line old.left now.left next.left fed next.line taken.bytes gives.bytes;
-  lines = lines_append fed (next.line ∷ []) taken.lines (gives.line, tt);
+  lines = all_append IsLine fed (next.line ∷ []) taken.lines (gives.line, tt);
   failures = gives.failures ∙ taken.failures;
   failed = λ e. absurd (let k : Going ≡ Refused text_fault.Failed = sym gives.going.1 ∙ e in cc);
 }
@@ -67,13 +69,9 @@ refused (Some x) None c fed are h k none = absurd h
 refused (Some x) (Some y) None fed are h k none = absurd k
 refused (Some x) (Some y) (Some z) fed are h k none = λ xs are_x e. go xs are_x (text_front xs fed y are_x are (sym e ∙ h))
   where
-    later : (fed more : List Line) → AreTextLines (fed ++ more) → AreTextLines more
-    later [] more are = are
-    later (l ∷ fed) more are = later fed more are.1
-
     go : (xs : List Line) → AreTextLines xs → LinesFollow xs fed y → ⊥
     go xs are_x found =
-        let are_more = later fed found.more (subst (λ w. AreTextLines w) found.lines are_x) in
+        let are_more = (all_parts IsLine fed found.more (subst (λ w. AreTextLines w) found.lines are_x)).1 in
         let first = stands_first found.more are_more (λ e. none.some (k ∙ sym found.spelled ∙ e)) in
         none.none first.line first.rest first.lawful (k ∙ sym found.spelled ∙ first.spelled)
 

@@ -2,38 +2,24 @@
 use Rattle.std.proofs.Common.{◌≡◌, ◌≢◌, ℕ, zero, suc, ◌+◌, ◌-◌, ◌*◌, ◌/◌, ◌%◌, ◌^◌, ◌<◌, ◌≤◌, min, List, [], ◌∷◌, ◌++◌, length, take, drop, decimal, refl, sym, ap, ap₂, ◌∙◌, subst, append_assoc, arith, length-append, length-drop, take-append-drop}
 use Rattle.std.specs.List.{AllByRecursion}
 use Rattle.std.proofs.lemmas.Fmt.{decimal_injective}
-use Rattle.std.proofs.lemmas.List.{append-nil, take-append-le, drop-append-le, length-take, take_all}
+use Rattle.std.proofs.lemmas.List.{take-append-le, drop-append-le, length-take, take_all}
 use Rattle.hex.specs.Hex.{encode_lower}
 use Rattle.ts_name.specs.Paths.{Path, IsPath, path_text}
+use Rattle.ts_name.proofs.Spelling.{clean_decimal, clean_path, cons_parts, cut_at, length_number, no_feed, no_space, one_path}
+use Rattle.ts_name.proofs.Texts.{path_text_short}
+use Rattle.ts_name.proofs.Utf8.{all_append, all_parts}
 use Rattle.ts_model.specs.Trees.{Listing}
 use Rattle.ts_model.specs.Texts.{Line, IsBytes, data_lines, tree_row_lines, tree_lines, FileFits, IsTreeBody}
 use Rattle.ts_model.specs.declared.row.Content.{Content}
 use Rattle.ts_model.specs.declared.row.Content.TheVariants.{Absent, Dir, File}
-use Rattle.ts_model.specs.declared.row.Row.{Row}
 use Rattle.ts_text.specs.Lines.{IsLine}
-use Rattle.ts_tree.specs.Fields.{Without, data_line, dir_line, file_line}
-use Rattle.ts_tree.proofs.Words.{IsClean, clean_decimal, clean_hex, clean_path, clean_without, cut_at, one_hex, one_path, without_append}
-use Rattle.ts_tree.proofs.Lines.{AreTextLines, length_hex, length_number, length_path, lines_append}
-
-without_space : (x : List ℕ) → IsClean x → Without 32 x
-without_space x clean = clean_without 32 (omega arith) x clean
-
-without_feed : (x : List ℕ) → IsClean x → Without 10 x
-without_feed x clean = clean_without 10 (omega arith) x clean
+use Rattle.ts_model.proofs.Spelling.{bytes_parts, clean_hex, length_hex, one_hex}
+use Rattle.ts_model.proofs.Rows.{RowsFollow}
+use Rattle.ts_model.proofs.Rows as row_lists
+use Rattle.ts_tree.specs.Fields.{data_line, dir_line, file_line}
+use Rattle.ts_tree.proofs.Lines.{AreTextLines}
 
 -- ---- data
-
-bytes_append : (x y : List ℕ) → IsBytes x → IsBytes y → IsBytes (x ++ y)
-bytes_append [] y is_x is_y = is_y
-bytes_append (b ∷ x) y is_x is_y = (is_x.0, bytes_append x y is_x.1 is_y)
-
-bytes_split : (x y : List ℕ) → IsBytes (x ++ y) → IsBytes x × IsBytes y
-bytes_split [] y is = (tt, is)
-bytes_split (b ∷ x) y is = let parts = bytes_split x y is.1 in ((is.0, parts.0), parts.1)
-
--- parts of bytes are bytes
-pub bytes_parts : (n : ℕ) (x : List ℕ) → IsBytes x → IsBytes (take n x) × IsBytes (drop n x)
-bytes_parts n x bytes = bytes_split (take n x) (drop n x) (subst (λ z. IsBytes z) (sym (take-append-drop n x)) bytes)
 
 -- a line of data is of one list of bytes
 pub one_data_line : (x y : List ℕ) → IsBytes x → IsBytes y → data_line x ≡ data_line y → x ≡ y
@@ -102,11 +88,7 @@ RowsFit rows = AllByRecursion (λ row. RowFits row.path row.content) rows
 
 -- the rows of a tree are lawful
 pub rows_fit : (rows : Listing (List ℕ)) → IsTreeBody rows → RowsFit rows
-rows_fit rows is = go rows is.listing.rows_are is.files
-  where
-    go : (rows : Listing (List ℕ)) → AllByRecursion (λ row. IsPath row.path × (row.path ≢ []) × (row.content ≢ Absent)) rows → AllByRecursion (λ row. FileFits row.content) rows → RowsFit rows
-    go [] are files = tt
-    go (row ∷ rows) are files = ((are.0.0, are.0.1, are.0.2, files.0), go rows are.1 files.1)
+rows_fit rows is = row_lists.rows_fit FileFits rows is.listing.rows_are is.files
 
 pub other_line : (p q : Path) (n : ℕ) → dir_line p ≢ file_line q n
 other_line p q n e =
@@ -122,12 +104,8 @@ pub one_file_line : (p q : Path) (m n : ℕ) → IsPath p → IsPath q → m < 2
 one_file_line p q m n is_p is_q small_m small_n e =
     let k : 102 ∷ 32 ∷ (path_text p ++ 32 ∷ decimal m) ≡ 102 ∷ 32 ∷ (path_text q ++ 32 ∷ decimal n) = e in
     let rest : path_text p ++ 32 ∷ decimal m ≡ path_text q ++ 32 ∷ decimal n = cc in
-    let cut = cut_at 32 (path_text p) (path_text q) _ _ (without_space _ (clean_path p is_p)) (without_space _ (clean_path q is_q)) rest in
+    let cut = cut_at 32 (path_text p) (path_text q) _ _ (no_space _ (clean_path p is_p)) (no_space _ (clean_path q is_q)) rest in
     (one_path p q is_p is_q cut.0, decimal_injective m n small_m small_n cut.1)
-
--- the first lines of two rows' lines
-heads_equal : (x y : Line) (u v : List Line) → x ∷ u ≡ y ∷ v → (x ≡ y) × (u ≡ v)
-heads_equal x y u v e = (cc, cc)
 
 -- a row, and the lines after it
 pub one_row : (p q : Path) (x y : Content (List ℕ)) (u v : List Line) → RowFits p x → RowFits q y → tree_row_lines p x ++ u ≡ tree_row_lines q y ++ v → (p ≡ q) × (x ≡ y) × (u ≡ v)
@@ -135,61 +113,27 @@ one_row p q Absent y u v fits_x fits_y e = absurd (fits_x.2 refl)
 one_row p q Dir Absent u v fits_x fits_y e = absurd (fits_y.2 refl)
 one_row p q (File x) Absent u v fits_x fits_y e = absurd (fits_y.2 refl)
 one_row p q Dir Dir u v fits_x fits_y e =
-    let heads = heads_equal (dir_line p) (dir_line q) u v e in (one_dir_line p q fits_x.0 fits_y.0 heads.0, refl, heads.1)
+    let heads = cons_parts (dir_line p) (dir_line q) u v e in (one_dir_line p q fits_x.0 fits_y.0 heads.0, refl, heads.1)
 one_row p q Dir (File y) u v fits_x fits_y e =
-    absurd (other_line p q (length y) (heads_equal (dir_line p) (file_line q (length y)) u (data_lines ((length y + 63) / 64) y ++ v) e).0)
+    absurd (other_line p q (length y) (cons_parts (dir_line p) (file_line q (length y)) u (data_lines ((length y + 63) / 64) y ++ v) e).0)
 one_row p q (File x) Dir u v fits_x fits_y e =
-    absurd (other_line q p (length x) (sym (heads_equal (file_line p (length x)) (dir_line q) (data_lines ((length x + 63) / 64) x ++ u) v e).0))
+    absurd (other_line q p (length x) (sym (cons_parts (file_line p (length x)) (dir_line q) (data_lines ((length x + 63) / 64) x ++ u) v e).0))
 one_row p q (File x) (File y) u v fits_x fits_y e =
-    let heads = heads_equal (file_line p (length x)) (file_line q (length y)) (data_lines ((length x + 63) / 64) x ++ u) (data_lines ((length y + 63) / 64) y ++ v) e in
+    let heads = cons_parts (file_line p (length x)) (file_line q (length y)) (data_lines ((length x + 63) / 64) x ++ u) (data_lines ((length y + 63) / 64) y ++ v) e in
     let same = one_file_line p q (length x) (length y) fits_x.0 fits_y.0 fits_x.3.1 fits_y.3.1 heads.0 in
     let sizes = same.1 in
     let found = one_data ((length x + 63) / 64) x y u v fits_x.3.0 fits_y.3.0 (omega arith) (omega (arith, sizes)) (heads.1 ∙ ap (λ z. data_lines ((z + 63) / 64) y ++ v) (sym sizes)) in
     (same.0, ap File found.0, found.1)
 
 -- a row is some line
-pub no_row : (p : Path) (x : Content (List ℕ)) (u : List Line) → RowFits p x → tree_row_lines p x ++ u ≢ []
+no_row : (p : Path) (x : Content (List ℕ)) (u : List Line) → RowFits p x → tree_row_lines p x ++ u ≢ []
 no_row p Absent u fits e = fits.2 refl
 no_row p Dir u fits e = cc
 no_row p (File x) u fits e = cc
 
-pub record RowsFollow (xs ys : Listing (List ℕ)) (rest : List Line) : Type 0 where
-  pub more : Listing (List ℕ)
-  pub rows : xs ≡ ys ++ more
-  pub lines : tree_lines more ≡ rest
-
--- what begins with the lines of rows has these rows first
-pub rows_front : (xs ys : Listing (List ℕ)) (rest : List Line) → RowsFit xs → RowsFit ys → tree_lines xs ≡ tree_lines ys ++ rest → RowsFollow xs ys rest
-rows_front xs [] rest fit_x fit_y e = record { more = xs; rows = refl; lines = e }
-rows_front [] (y ∷ ys) rest fit_x fit_y e =
-    absurd (no_row y.path y.content (tree_lines ys ++ rest) fit_y.0 (sym (append_assoc (tree_row_lines y.path y.content) (tree_lines ys) rest) ∙ sym e))
-rows_front (x ∷ xs) (y ∷ ys) rest fit_x fit_y e =
-    let row = one_row x.path y.path x.content y.content (tree_lines xs) (tree_lines ys ++ rest) fit_x.0 fit_y.0
-    (e ∙ append_assoc (tree_row_lines y.path y.content) (tree_lines ys) rest) in
-    let found = rows_front xs ys rest fit_x.1 fit_y.1 row.2 in
-    let first : x ≡ y = λ i. record { path = row.0 i; content = row.1 i } in
-    record { more = found.more; rows = ap₂ ◌∷◌ first found.rows; lines = found.lines }
-
--- the later rows are lawful too
-pub later_fit : (ys more : Listing (List ℕ)) → RowsFit (ys ++ more) → RowsFit more
-later_fit [] more fit = fit
-later_fit (y ∷ ys) more fit = later_fit ys more fit.1
-
--- no lines are of no rows
-pub no_rows : (rows : Listing (List ℕ)) → RowsFit rows → tree_lines rows ≡ [] → rows ≡ []
-no_rows [] fit e = refl
-no_rows (row ∷ rows) fit e = absurd (no_row row.path row.content (tree_lines rows) fit.0 e)
-
--- lines are of one tree
-pub one_tree : (xs ys : Listing (List ℕ)) → RowsFit xs → RowsFit ys → tree_lines xs ≡ tree_lines ys → xs ≡ ys
-one_tree xs ys fit_x fit_y e =
-    let found = rows_front xs ys [] fit_x fit_y (e ∙ sym (append-nil (tree_lines ys))) in
-    found.rows ∙ ap (λ z. ys ++ z) (no_rows found.more (later_fit ys found.more (subst (λ z. RowsFit z) found.rows fit_x)) found.lines) ∙ append-nil ys
-
--- one more row
-pub tree_lines-push : (rows : Listing (List ℕ)) (row : Row (List ℕ)) → tree_lines (rows ++ row ∷ []) ≡ tree_lines rows ++ tree_row_lines row.path row.content
-tree_lines-push [] row = append-nil (tree_row_lines row.path row.content)
-tree_lines-push (x ∷ rows) row = ap (λ z. tree_row_lines x.path x.content ++ z) (tree_lines-push rows row) ∙ sym (append_assoc (tree_row_lines x.path x.content) (tree_lines rows) (tree_row_lines row.path row.content))
+-- so what begins with the lines of rows has these rows first
+pub rows_front : (xs ys : Listing (List ℕ)) (rest : List Line) → RowsFit xs → RowsFit ys → tree_lines xs ≡ tree_lines ys ++ rest → RowsFollow tree_row_lines RowFits xs ys rest
+rows_front xs ys rest fit_x fit_y e = row_lists.rows_front tree_row_lines RowFits (record { one = one_row; some = no_row }) xs ys rest fit_x fit_y e
 
 -- ---- a file that isn't whole yet
 
@@ -223,9 +167,9 @@ part_front (row ∷ rows) p n b rest fit part e = go row.path row.content fit.0 
   where
     go : (q : Path) (x : Content (List ℕ)) → RowFits q x → tree_row_lines q x ++ tree_lines rows ≡ file_line p n ∷ (data_lines (length b / 64) b ++ rest) → GoesOn (record { path = q; content = x } ∷ rows) p n b rest
     go q Absent fits e = absurd (fits.2 refl)
-    go q Dir fits e = absurd (other_line q p n (heads_equal (dir_line q) (file_line p n) (tree_lines rows) (data_lines (length b / 64) b ++ rest) e).0)
+    go q Dir fits e = absurd (other_line q p n (cons_parts (dir_line q) (file_line p n) (tree_lines rows) (data_lines (length b / 64) b ++ rest) e).0)
     go q (File x) fits e =
-        let heads = heads_equal (file_line q (length x)) (file_line p n) (data_lines ((length x + 63) / 64) x ++ tree_lines rows) (data_lines (length b / 64) b ++ rest) e in
+        let heads = cons_parts (file_line q (length x)) (file_line p n) (data_lines ((length x + 63) / 64) x ++ tree_lines rows) (data_lines (length b / 64) b ++ rest) e in
         let same = one_file_line q p (length x) n fits.0 part.path fits.3.1 part.size heads.0 in
         let sizes : length x ≡ n = same.1 in
         let m : ℕ = length b / 64 in
@@ -233,7 +177,7 @@ part_front (row ∷ rows) p n b rest fit part e = go row.path row.content fit.0 
         let less = part.less in
         let j : ℕ = (n + 63) / 64 - (m + 1) in
         let found = data_front m (suc j) ((length x + 63) / 64) x b (tree_lines rows) rest (omega arith) fits.3.0 part.bytes (omega arith) (omega arith) heads.1 in
-        let tail_bytes = bytes_split b found.tail (subst (λ z. IsBytes z) found.whole fits.3.0) in
+        let tail_bytes = all_parts (λ b. b < 256) b found.tail (subst (λ z. IsBytes z) found.whole fits.3.0) in
         let total : length x ≡ length b + length found.tail = ap length found.whole ∙ length-append b found.tail in
         record {
           file = x;
@@ -250,19 +194,19 @@ part_front (row ∷ rows) p n b rest fit part e = go row.path row.content fit.0 
 
 dir_text_line : (p : Path) → IsPath p → IsLine (dir_line p)
 dir_text_line p is = record {
-  one = (λ e. omega arith, (λ e. omega arith, without_feed _ (clean_path p is)));
-  short = omega (arith, length_path p is);
+  one = (λ e. omega arith, (λ e. omega arith, no_feed _ (clean_path p is)));
+  short = omega (arith, path_text_short p is);
 }
 
 file_text_line : (p : Path) (n : ℕ) → IsPath p → n < 2 ^ 64 → IsLine (file_line p n)
 file_text_line p n is small = record {
-  one = (λ e. omega arith, (λ e. omega arith, without_append 10 (path_text p) _ (without_feed _ (clean_path p is)) (λ e. omega arith, without_feed _ (clean_decimal n small))));
-  short = omega (arith, length_path p is, length_number n small, length-append (path_text p) (32 ∷ decimal n));
+  one = (λ e. omega arith, (λ e. omega arith, all_append (λ b. b ≢ 10) (path_text p) _ (no_feed _ (clean_path p is)) (λ e. omega arith, no_feed _ (clean_decimal n small))));
+  short = omega (arith, path_text_short p is, length_number n small, length-append (path_text p) (32 ∷ decimal n));
 }
 
 data_text_line : (d : List ℕ) → IsBytes d → length d ≤ 64 → IsLine (data_line d)
 data_text_line d is short = record {
-  one = (λ e. omega arith, (λ e. omega arith, without_feed _ (clean_hex d is)));
+  one = (λ e. omega arith, (λ e. omega arith, no_feed _ (clean_hex d is)));
   short = let digits = length_hex d in omega (arith, digits);
 }
 
@@ -278,5 +222,4 @@ row_text_lines p Dir fits = (dir_text_line p fits.0, tt)
 row_text_lines p (File x) fits = (file_text_line p (length x) fits.0 fits.3.1, data_text_lines ((length x + 63) / 64) x fits.3.0)
 
 pub tree_text_lines : (rows : Listing (List ℕ)) → RowsFit rows → AreTextLines (tree_lines rows)
-tree_text_lines [] fit = tt
-tree_text_lines (row ∷ rows) fit = lines_append (tree_row_lines row.path row.content) (tree_lines rows) (row_text_lines row.path row.content fit.0) (tree_text_lines rows fit.1)
+tree_text_lines rows fit = row_lists.each_line tree_row_lines RowFits IsLine row_text_lines rows fit

@@ -1,15 +1,14 @@
 -- What was written, line by line.
-use Rattle.std.proofs.Common.{◌≡◌, ℕ, ◌+◌, ◌-◌, ◌*◌, ◌/◌, ◌<◌, ◌≤◌, suc, min, List, [], ◌∷◌, ◌++◌, length, take, drop, Option, Result, Ok, Err, refl, sym, ap, ap₂, inl, inr, ◌∙◌, subst, append_assoc, arith, length-drop, add-one, drop-cons, get_or}
+use Rattle.std.proofs.Common.{◌≡◌, ℕ, ◌+◌, ◌/◌, ◌<◌, suc, min, List, [], ◌∷◌, ◌++◌, length, take, drop, Option, Result, refl, sym, ap, ap₂, inl, inr, ◌∙◌, subst, append_assoc, arith, length-drop, add-one, drop-cons, get_or}
 use Rattle.std.specs.Io.KnownBytes.{Appends}
 use Rattle.std.proofs.KnownBytes.{Appends-nil, Appends-trans}
 use Rattle.std.proofs.lemmas.List.{append-nil, drop_all, take_all}
 use Rattle.std.proofs.lemmas.Bool.{cases_lt}
 use Rattle.ts_text.specs.Sources.{AppendsFront, Writes}
-use Rattle.ts_model.specs.Texts.{Line, text, data_lines, tree_lines, tree_row_lines}
-use Rattle.ts_model.specs.Trees.{Listing}
-use Rattle.ts_model.specs.declared.row.Row.{Row}
+use Rattle.ts_text.proofs.Sinks as sinks
+use Rattle.ts_model.specs.Texts.{Line, text, data_lines}
+use Rattle.ts_model.proofs.Lines.{text_append}
 use Rattle.ts_tree.specs.Fields.{data_line}
-use Rattle.ts_tree.proofs.Lines.{text_append}
 
 -- these lines were written, and those are still to come
 pub record Wrote (old now : Option (List ℕ)) (all rest : List Line) : Type 0 where
@@ -71,19 +70,50 @@ data_step b chunk more k some count front back =
 
 -- some lines, and then the others
 pub writes_after : {A E : Type 0} (old mid new : Option (List ℕ)) (lines rest : List Line) (r : Result A E) → Appends old mid (text lines) → Writes mid new (text rest) r → Writes old new (text (lines ++ rest)) r
-writes_after old mid new lines rest (Ok x) added wrote = subst (λ z. Appends old new z) (sym (text_append lines rest)) (Appends-trans old mid new (text lines) (text rest) added wrote)
-writes_after old mid new lines rest (Err e) added begun = record {
-  front = text lines ++ begun.front;
-  rest = begun.rest;
-  split = text_append lines rest ∙ ap (λ z. text lines ++ z) begun.split ∙ sym (append_assoc (text lines) begun.front begun.rest);
-  added = Appends-trans old mid new (text lines) begun.front added begun.added;
-}
+writes_after old mid new lines rest r added wrote = subst (λ z. Writes old new z r) (sym (text_append lines rest)) (sinks.writes_after old mid new (text lines) (text rest) r added wrote)
+
+-- both of them
+pub sent_more : (old mid new : Option (List ℕ)) (lines rest : List Line) → Appends old mid (text lines) → Appends mid new (text rest) → Appends old new (text (lines ++ rest))
+sent_more old mid new lines rest first added = subst (λ z. Appends old new z) (sym (text_append lines rest)) (Appends-trans old mid new (text lines) (text rest) first added)
+
+-- or a beginning of the others
+pub begun_after : (old mid new : Option (List ℕ)) (lines rest : List Line) → Appends old mid (text lines) → AppendsFront mid new (text rest) → AppendsFront old new (text (lines ++ rest))
+begun_after old mid new lines rest first begun = subst (λ z. AppendsFront old new z) (sym (text_append lines rest)) (sinks.front_after old mid new (text lines) (text rest) first begun)
+
+-- nothing is a beginning
+pub nothing_sent : (old : Option (List ℕ)) (bytes : List ℕ) → AppendsFront old old bytes
+nothing_sent old bytes = record { front = []; rest = bytes; split = refl; added = Appends-nil old }
 
 -- a beginning of the first lines
 pub begun_first : (old new : Option (List ℕ)) (lines rest : List Line) → AppendsFront old new (text lines) → AppendsFront old new (text (lines ++ rest))
 begun_first old new lines rest begun = wrote_front old old new (lines ++ rest) lines rest (wrote_none old (lines ++ rest)) begun
 
--- a row, and the rows after it
-pub rows_step : (rows : Listing (List ℕ)) (i : ℕ) (row : Row (List ℕ)) → i < length rows → row ≡ get_or rows i row
-    → tree_lines (drop i rows) ≡ tree_row_lines row.path row.content ++ tree_lines (drop (i + 1) rows)
-rows_step rows i row within is = rw (add-one, drop-cons rows i row within) (ap (λ (r : Row (List ℕ)). tree_row_lines r.path r.content ++ tree_lines (drop (suc i) rows)) (sym is))
+-- ---- items, one by one
+
+-- an item's lines, and those of the items after it
+items_step : {X : Type 0} (lines_of : X → List Line) (all_of : List X → List Line) → ((x : X) (xs : List X) → all_of (x ∷ xs) ≡ lines_of x ++ all_of xs)
+    → (items : List X) (i : ℕ) (item : X) → i < length items → item ≡ get_or items i item → all_of (drop i items) ≡ lines_of item ++ all_of (drop (i + 1) items)
+items_step lines_of all_of cons items i item within is =
+    rw (add-one, drop-cons items i item within) (cons (get_or items i item) (drop (suc i) items) ∙ ap (λ x. lines_of x ++ all_of (drop (suc i) items)) (sym is))
+
+-- the next lines were written
+pub wrote_step : (old now next : Option (List ℕ)) (all here lines rest : List Line) → here ≡ lines ++ rest → Wrote old now all here → Appends now next (text lines) → Wrote old next all rest
+wrote_step old now next all here lines rest step wrote added = wrote_more old now next all lines rest (subst (λ z. Wrote old now all z) step wrote) added
+
+-- or a beginning of them
+pub begun_step : (old now next : Option (List ℕ)) (all here lines rest : List Line) → here ≡ lines ++ rest → Wrote old now all here → AppendsFront now next (text lines) → AppendsFront old next (text all)
+begun_step old now next all here lines rest step wrote begun = wrote_front old now next all lines rest (subst (λ z. Wrote old now all z) step wrote) begun
+
+-- one item more was written
+pub wrote_item : {X : Type 0} (lines_of : X → List Line) (all_of : List X → List Line) → ((x : X) (xs : List X) → all_of (x ∷ xs) ≡ lines_of x ++ all_of xs)
+    → (items : List X) (i : ℕ) (item : X) → i < length items → item ≡ get_or items i item
+    → (old now next : Option (List ℕ)) (all : List Line) → Wrote old now all (all_of (drop i items)) → Appends now next (text (lines_of item)) → Wrote old next all (all_of (drop (i + 1) items))
+wrote_item lines_of all_of cons items i item within is old now next all wrote added =
+    wrote_step old now next all (all_of (drop i items)) (lines_of item) (all_of (drop (i + 1) items)) (items_step lines_of all_of cons items i item within is) wrote added
+
+-- or a beginning of it
+pub begun_item : {X : Type 0} (lines_of : X → List Line) (all_of : List X → List Line) → ((x : X) (xs : List X) → all_of (x ∷ xs) ≡ lines_of x ++ all_of xs)
+    → (items : List X) (i : ℕ) (item : X) → i < length items → item ≡ get_or items i item
+    → (old now next : Option (List ℕ)) (all : List Line) → Wrote old now all (all_of (drop i items)) → AppendsFront now next (text (lines_of item)) → AppendsFront old next (text all)
+begun_item lines_of all_of cons items i item within is old now next all wrote begun =
+    begun_step old now next all (all_of (drop i items)) (lines_of item) (all_of (drop (i + 1) items)) (items_step lines_of all_of cons items i item within is) wrote begun

@@ -3,16 +3,11 @@
 --     dir_line p         a directory
 --     data_line bytes    the next bytes of a file
 use Rattle.std.specs.Prelude.{◌≡◌, ◌≢◌, ℕ, ◌<◌, ◌^◌, List, [], ◌∷◌, ◌++◌, length, codes, decimal}
-use Rattle.std.specs.List.{AllByRecursion}
 use Rattle.hex.specs.Hex.{encode_lower}
 use Rattle.ts_name.specs.Paths.{Path, IsPath, path_text}
 use Rattle.ts_model.specs.Texts.{Line, IsBytes, words}
 use Rattle.ts_tree.specs.declared.field.Head.{Head}
 use Rattle.ts_tree.specs.declared.field.Head.TheVariants as head
-
--- the byte doesn't occur
-abbrev pub Without : ℕ → List ℕ → Type 0
-Without c bytes = AllByRecursion (λ b. b ≢ c) bytes
 
 -- a path that a line may name
 abbrev pub IsNamed : Path → Type 0

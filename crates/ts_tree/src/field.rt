@@ -2,7 +2,8 @@
 ghost use Rattle.std.specs.Prelude.{◌≡◌, ◌≢◌, IfOk, IfErr, IfSome, IfNone, ◌<◌, ◌^◌, decimal, List, [], ◌∷◌, ◌++◌, ℕ};
 ghost use Rattle.ts_name.specs.Paths.{path_text};
 ghost use Rattle.ts_tree.specs.Faults.{Refuses};
-ghost use Rattle.ts_tree.specs.Fields.{HeadFits, IsNamed, IsNoHead, SpellsNoPath, Without, head_line};
+ghost use Rattle.ts_name.specs.Buffers.{HasNo};
+ghost use Rattle.ts_tree.specs.Fields.{HeadFits, IsNamed, IsNoHead, SpellsNoPath, head_line};
 
 use crate::fault::TreeFault;
 use std::alloc::Global;
@@ -33,8 +34,8 @@ pub fn field_path(alloc: Global, field: &[u8]) -> Result<Path, TreeFault>
 
 /// What `<path> <size>` says: the text of the path, and the size.
 fn sized(fields: &[u8]) -> Option<(&[u8], u64)>
-    ensures found { IfSome result (λ r. Without 32 r.0.now × (fields.now ≡ r.0.now ++ 32 ∷ decimal r.1)) }
-    ensures none { IfNone result ((path : List ℕ) (n : ℕ) → Without 32 path → n < 2 ^ 64 → fields.now ≢ path ++ 32 ∷ decimal n) }
+    ensures found { IfSome result (λ r. HasNo 32 r.0.now × (fields.now ≡ r.0.now ++ 32 ∷ decimal r.1)) }
+    ensures none { IfNone result ((path : List ℕ) (n : ℕ) → HasNo 32 path → n < 2 ^ 64 → fields.now ≢ path ++ 32 ∷ decimal n) }
 {
     let (path, size) = split_word(fields);
     Some((path, field_dec(size?)?))

@@ -1,20 +1,16 @@
 -- What a bundle is answered by, from what was checked, carried out and written.
-use Rattle.std.proofs.Common.{codes, ◌≡◌, ◌≢◌, inl, inr, ℕ, zero, suc, ◌<◌, min, Bool, true, false, cond, List, [], ◌∷◌, ◌++◌, Option, Some, None, Result, Ok, Err, IfErr, IfOk, IfSome, refl, sym, ap, ◌∙◌, subst, arith}
+use Rattle.std.proofs.Common.{codes, ◌≡◌, inl, inr, ℕ, min, List, [], ◌∷◌, Option, Some, None, Result, Ok, Err, IfErr, IfOk, IfSome, refl, sym, ap, ◌∙◌, subst}
 use Rattle.std.specs.List.{AllByRecursion}
-use Rattle.std.specs.Int.{to_be_bytes, w32}
-use Rattle.std.specs.Prelude.{slice_index}
 use Rattle.std.proofs.KnownBytes.{Appends-nil}
-use Rattle.sha2.specs.Sha256.{sha256, digest_bytes, final_hash, initial_hash_256}
-use Rattle.sha2.proofs.Facts256.{length-sha256}
-use Rattle.ts_name.specs.Paths.{Path, same_path}
+use Rattle.ts_name.specs.Paths.{Path}
 use Rattle.ts_text.specs.Sources.{Writes}
-use Rattle.ts_model.specs.Trees.{Tree, Print, Listing, listed, at, stamped, print_of, IsListing, AreApart}
-use Rattle.ts_model.specs.Sync.{Snapshot, HasReason, IsSkipped, Synced, listed_snapshot}
+use Rattle.ts_model.specs.Trees.{Print, Listing, at, print_of, IsListing, AreApart}
+use Rattle.ts_model.specs.Sync.{Snapshot, Synced, listed_snapshot}
 use Rattle.ts_model.specs.Plans.{Valid, Broken}
 use Rattle.ts_model.specs.Headline.{FinalArchive, Meets}
-use Rattle.ts_model.specs.Texts.{Bundle, IsBundle, IsBundleText, IsBytes, IsTreeBody, FileFits, StampFits, text}
+use Rattle.ts_model.specs.Texts.{Bundle, IsBundle, IsBundleText, IsTreeBody, FileFits, StampFits, text}
 use Rattle.ts_model.specs.Trial.{snapshot_of, result_lines, skipped_count, HasContentsApart, IsNoBundle, Trial, IsResult}
-use Rattle.ts_model.specs.declared.plan.Reason.{Reason}
+use Rattle.ts_model.proofs.Rows.{fits_at}
 use Rattle.ts_model.specs.declared.plan.Reason.TheVariants as reason
 use Rattle.ts_model.specs.declared.plan.Plan.{Plan}
 use Rattle.ts_model.specs.declared.plan.PlanRule.{PlanRule}
@@ -23,20 +19,14 @@ use Rattle.ts_check.specs.declared.fault.CheckFault.{CheckFault}
 use Rattle.ts_check.specs.declared.fault.CheckFault.TheVariants as check
 use Rattle.ts_model.specs.declared.plan.Entry.{Entry}
 use Rattle.ts_model.specs.declared.row.Content.{Content}
-use Rattle.ts_model.specs.declared.row.Content.TheVariants.{Absent, Dir, File}
-use Rattle.ts_model.specs.declared.row.Row.{Row}
 use Rattle.ts_model.specs.declared.row.Stamp.{Stamp}
 use Rattle.ts_laws.specs.Carried.{copied, marked_all, IsCarriedOut}
-use Rattle.ts_laws.proofs.Basics.{at_each, stable}
 use Rattle.ts_laws.proofs.Carried.{carried_out}
-use Rattle.ts_laws.proofs.Listings.{weaker, IsTree-from_listing, one_listing}
-use Rattle.ts_laws.proofs.Pairs.{either}
+use Rattle.ts_laws.proofs.Listings.{IsTree-from_listing, one_listing}
 use Rattle.ts_laws.proofs.ReadTexts.{some_trial}
-use Rattle.ts_laws.proofs.ReadTrees.{decide_stamp_fits}
 use Rattle.ts_laws.proofs.Results.{Start-from_bundle}
 use Rattle.ts_laws.proofs.Rows.{IsListingOf, listing_of}
-use Rattle.ts_laws.proofs.Trials.{some_answer}
-use Rattle.ts_laws.proofs.Words.{all_append}
+use Rattle.ts_laws.proofs.Trials.{some_answer, archive_fits, listed_fits}
 use Rattle.ts_bundle.specs.Bundles.{values}
 use Rattle.ts_bundle.specs.Decoding.{FindsNoBundle, IsSpelled}
 use Rattle.ts_text.specs.Lines.{Reading}
@@ -47,53 +37,12 @@ use Rattle.ts_trial.specs.Answers.{WritesOne, AnswersBundle, refusal}
 
 -- ---- contents fit
 
--- what fits in each row fits at each path
-fits_at : {F : Type 0} (P : Content F → Type 0) → P Absent → P Dir → (rows : Listing F) → AllByRecursion (λ row. P row.content) rows → (p : Path) → P (at rows p)
-fits_at P absent dir rows all [] = dir
-fits_at {F} P absent dir rows all (name ∷ names) = go rows all (name ∷ names)
-  where
-    here : (row : Row F) (rows : Listing F) → P row.content → (p : Path) → P (listed rows p) → (b : Bool) → P (cond b row.content (listed rows p))
-    here row rows h p more true = h
-    here row rows h p more false = more
-
-    go : (rows : Listing F) → AllByRecursion (λ row. P row.content) rows → (p : Path) → P (listed rows p)
-    go [] all p = absent
-    go (row ∷ rows) all p = here row rows all.0 p (go rows all.1 p) (same_path row.path p)
-
--- and the other way round
+-- what fits at each path fits in each row
 fits_rows : {F : Type 0} (P : Content F → Type 0) (rows : Listing F) → IsListing rows → ((p : Path) → P (at rows p)) → AllByRecursion (λ row. P row.content) rows
 fits_rows {F} P rows is fits = go (listing_of (at rows) (IsTree-from_listing rows is))
   where
     go : (found : Listing F) × IsListingOf (at rows) found → AllByRecursion (λ row. P row.content) rows
-    go (found, lists) = subst (λ z. AllByRecursion (λ row. P row.content) z) (one_listing found rows lists.listing is lists.same)
-        (weaker (λ (row : Row F). row.content ≡ at rows row.path) (λ row. P row.content) (λ row e. subst P (sym e) (fits row.path)) found lists.each)
-
--- a digest has bytes
-bytes-sha256 : (x : List ℕ) → IsBytes (sha256 x)
-unfolding sha256 digest_bytes
-bytes-sha256 x = digest (final_hash initial_hash_256 x) 8
-  where
-    word : (n : ℕ) → IsBytes (to_be_bytes w32 n)
-    word n = (omega arith, (omega arith, (omega arith, (omega arith, tt))))
-
-    digest : (h : List ℕ) (n : ℕ) → IsBytes (digest_bytes h n)
-    digest h zero = tt
-    digest h (suc n) = all_append (λ b. b < 256) (digest_bytes h n) (to_be_bytes w32 (slice_index h n)) (digest h n) (word (slice_index h n))
-
--- the stamp of what fits does
-stamp_fits : (x : Content (List ℕ)) → FileFits x → StampFits (stamped x)
-stamp_fits Absent fits = tt
-stamp_fits Dir fits = tt
-stamp_fits (File bytes) fits = (fits.1, bytes-sha256 bytes, length-sha256 bytes)
-
--- what a final archive has at a path, the old one has there, or it is a stamp of the new first replica
-archive_fits : (b : Bundle) → IsBundle b → (c : Tree) → ((q : Path) → FileFits (c q)) → (archive : Print) → FinalArchive (snapshot_of b) c archive → (q : Path) → StampFits (archive q)
-archive_fits b is c fits archive final q = stable (decide_stamp_fits (archive q)) (λ n.
-    either ((p rest : Path) (r : Reason) → HasReason (snapshot_of b) p r → IsSkipped r → q ≢ p ++ rest) (λ off. elim off [
-      | inl none ↦ n (subst StampFits (sym (final.agreed q none)) (stamp_fits (c q) (fits q)))
-      | inr some ↦ some (λ p rest r has skipped e.
-          n (subst StampFits (sym (ap archive e ∙ at_each (final.skipped p r has skipped) rest)) (fits_at StampFits tt tt b.archive is.archive.stamps (p ++ rest))))
-    ]))
+    go (found, lists) = subst (λ z. AllByRecursion (λ row. P row.content) z) (one_listing found rows lists.listing is lists.same) (listed_fits P (at rows) found lists fits)
 
 -- ---- the snapshot
 

@@ -1,4 +1,4 @@
-use Rattle.std.proofs.Common.{◌≡◌, ◌∷◌, [], ◌++◌, refl, sym, ◌∙◌, subst, inl, inr, arith}
+use Rattle.std.proofs.Common.{◌∷◌, [], ◌++◌, refl, sym, ◌∙◌, subst, inl, inr, arith}
 use Rattle.std.proofs.lemmas.Bool.{false≢true}
 use Rattle.std.proofs.lemmas.Result.{err_from_is_err_and}
 use Rattle.sha2.specs.Hashers.{Holds256}
@@ -7,8 +7,8 @@ use Rattle.ts_print.specs.Faults.{Refuses}
 use Rattle.ts_print.specs.Readers.{BeginsNoPrint}
 use Rattle.ts_tree.proofs.Taken.{Taken, taken_more, taken_none}
 use Rattle.ts_archive.specs.Endings.{header}
-use Rattle.ts_archive.proofs.Archives.{counted_more, hashed_more, right_end, wrong_end}
-use Rattle.ts_archive.proofs.NoArchive.{at_end, at_header_fault, at_header_other, at_line_fault, at_line_refused, at_more, at_more_fault, at_wrong_end, both_wrong}
+use Rattle.ts_archive.proofs.Archives.{counted_more, hashed_more, right_end}
+use Rattle.ts_archive.proofs.NoArchive.{at_end, at_header_fault, at_header_other, at_line_fault, at_line_refused, at_more, at_more_fault, ends_wrong}
 use Rattle.ts_archive.proofs.decoding.decode.Goals as goal
 
 -- The header's reading failed.
@@ -101,39 +101,23 @@ loop-count-preserved g c =
 -- The count is wrong.
 pub returns-then-told-count-clause-refused : goal.returns-then-told-count-clause-refused
 returns-then-told-count-clause-refused g c =
-    let fed = c.loop-count.reader in
-    let line = c.line-line.result.now in
     let told = c.in-Some.ensures.found in
     let gives = rw c.if-not-branch-2.false at c.in_ok-advance-2.ensures.answers in
-    let more = taken_more c.args.lines.now c.loop-count.lines c.advance-in-loop-count.new.self (header ∷ fed) c.loop-count.invariant.taken gives in
-    let taken = subst (λ z. Taken c.args.lines.now c.advance-in-loop-count.new.self (header ∷ (fed ++ z ∷ []))) (sym c.line-line.ensures) more in
     let ends = rw c.if-branch.false at c.in_ok-advance-3.ensures.answers in
-    both_wrong c.args.lines.now.left
-    (wrong_end c.args.lines.now c.advance-in-loop-count.new.self c.advance-in-Some.new.self fed line c.reader.inside.print c.in-Some.told.0 c.in-Some.told.1 taken ends told.1 told.0
-    (inl (λ e. c.if-told-count.true (e ∙ sym c.loop-count.invariant.counted))) c.reader.invariant c.reader.view_is)
-    (at_wrong_end c.args.lines.now c.loop-count.lines c.advance-in-loop-count.new.self c.advance-in-Some.new.self fed c.loop-count.count c.in-Some.told.0 c.in-Some.told.1
+    ends_wrong c.args.lines.now c.loop-count.lines c.advance-in-loop-count.new.self c.advance-in-Some.new.self c.loop-count.reader c.loop-count.count c.line-line.result.now c.in-Some.told.0 c.in-Some.told.1
     (record { taken = c.loop-count.invariant.taken; rows = c.reader.inside.print; print = c.reader.invariant; lines = c.reader.view_is; number = c.loop-count.invariant.counted; small = omega arith })
-    gives (sym c.line-line.ensures ∙ told.1) told.0
-    (inl (λ e. c.if-told-count.true (e ∙ sym c.loop-count.invariant.counted))))
+    gives c.line-line.ensures ends told.1 told.0 (inl (λ e. c.if-told-count.true (e ∙ sym c.loop-count.invariant.counted)))
 
 -- The digest is wrong.
 pub returns-then-not-is_same-clause-refused : goal.returns-then-not-is_same-clause-refused
 returns-then-not-is_same-clause-refused g c =
-    let fed = c.loop-count.reader in
-    let line = c.line-line.result.now in
     let told = c.in-Some.ensures.found in
     let gives = rw c.if-not-branch-2.false at c.in_ok-advance-2.ensures.answers in
-    let more = taken_more c.args.lines.now c.loop-count.lines c.advance-in-loop-count.new.self (header ∷ fed) c.loop-count.invariant.taken gives in
-    let taken = subst (λ z. Taken c.args.lines.now c.advance-in-loop-count.new.self (header ∷ (fed ++ z ∷ []))) (sym c.line-line.ensures) more in
     let ends = rw c.if-branch.false at c.in_ok-advance-3.ensures.answers in
-    let sum = c.finalize-sum.ensures (text (header ∷ fed)) c.loop-count.invariant.hashed in
-    both_wrong c.args.lines.now.left
-    (wrong_end c.args.lines.now c.advance-in-loop-count.new.self c.advance-in-Some.new.self fed line c.reader.inside.print c.in-Some.told.0 c.in-Some.told.1 taken ends told.1 told.0
-    (inr (λ e. false≢true (sym c.if-not-is_same.true ∙ c.is_same.ensures.1 (e ∙ sym sum)))) c.reader.invariant c.reader.view_is)
-    (at_wrong_end c.args.lines.now c.loop-count.lines c.advance-in-loop-count.new.self c.advance-in-Some.new.self fed c.loop-count.count c.in-Some.told.0 c.in-Some.told.1
+    let sum = c.finalize-sum.ensures (text (header ∷ c.loop-count.reader)) c.loop-count.invariant.hashed in
+    ends_wrong c.args.lines.now c.loop-count.lines c.advance-in-loop-count.new.self c.advance-in-Some.new.self c.loop-count.reader c.loop-count.count c.line-line.result.now c.in-Some.told.0 c.in-Some.told.1
     (record { taken = c.loop-count.invariant.taken; rows = c.reader.inside.print; print = c.reader.invariant; lines = c.reader.view_is; number = c.loop-count.invariant.counted; small = omega arith })
-    gives (sym c.line-line.ensures ∙ told.1) told.0
-    (inr (λ e. false≢true (sym c.if-not-is_same.true ∙ c.is_same.ensures.1 (e ∙ sym sum)))))
+    gives c.line-line.ensures ends told.1 told.0 (inr (λ e. false≢true (sym c.if-not-is_same.true ∙ c.is_same.ensures.1 (e ∙ sym sum))))
 
 -- Both are right.
 pub returns-in-Ok-clause-found : goal.returns-in-Ok-clause-found

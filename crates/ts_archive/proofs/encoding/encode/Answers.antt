@@ -3,7 +3,8 @@ use Rattle.std.specs.Io.KnownBytes.{Appends}
 use Rattle.std.proofs.KnownBytes.{Appends-trans}
 use Rattle.std.proofs.lemmas.Result.{err_from_is_err_and}
 use Rattle.ts_text.specs.Sources.{AppendsFront}
-use Rattle.ts_archive.proofs.Written.{begun_first, begun_second, whole_text}
+use Rattle.ts_text.proofs.Sinks.{front_after, front_longer}
+use Rattle.ts_archive.proofs.Written.{whole_text}
 use Rattle.ts_archive.proofs.encoding.encode.Goals as goal
 
 pub returns-in_err-write_all-clause-written : goal.returns-in_err-write_all-clause-written
@@ -14,7 +15,7 @@ returns-in_err-write_all-clause-written g c =
     let begun = rw c.deref-2.ensures.value at c.in_err-write_all.ensures.written in
     rw p.1
     (subst (λ z. AppendsFront (g.W.Sink.holds c.args.sink.now) (g.W.Sink.holds c.write_all.new.sink) z) (sym whole)
-    (begun_first (g.W.Sink.holds c.args.sink.now) (g.W.Sink.holds c.write_all.new.sink) c.in_ok-front.front.items (c.in_ok-end.end.items ++ 10 ∷ []) begun))
+    (front_longer (g.W.Sink.holds c.args.sink.now) (g.W.Sink.holds c.write_all.new.sink) c.in_ok-front.front.items (c.in_ok-end.end.items ++ 10 ∷ []) begun))
 
 pub returns-in_err-write_line-clause-written : goal.returns-in_err-write_line-clause-written
 returns-in_err-write_line-clause-written g c =
@@ -25,7 +26,7 @@ returns-in_err-write_line-clause-written g c =
     let begun = rw c.deref-3.ensures.value at c.in_err-write_line.ensures.written in
     rw p.1
     (subst (λ z. AppendsFront (g.W.Sink.holds c.args.sink.now) (g.W.Sink.holds c.write_line.new.sink) z) (sym whole)
-    (begun_second (g.W.Sink.holds c.args.sink.now) (g.W.Sink.holds c.write_all.new.sink) (g.W.Sink.holds c.write_line.new.sink) c.in_ok-front.front.items (c.in_ok-end.end.items ++ 10 ∷ []) added begun))
+    (front_after (g.W.Sink.holds c.args.sink.now) (g.W.Sink.holds c.write_all.new.sink) (g.W.Sink.holds c.write_line.new.sink) c.in_ok-front.front.items (c.in_ok-end.end.items ++ 10 ∷ []) added begun))
 
 pub returns-clause-written : goal.returns-clause-written
 returns-clause-written g c =

@@ -1,12 +1,12 @@
-use Rattle.std.proofs.Common.{◌≡◌, ◌∷◌, ◌++◌, codes, decimal, sym, ◌∙◌, subst, arith}
+use Rattle.std.proofs.Common.{◌∷◌, ◌++◌, codes, decimal, sym, ◌∙◌, arith}
 use Rattle.std.proofs.lemmas.Bool.{false≢true}
 use Rattle.hex.specs.Hex.{encode_lower}
-use Rattle.ts_tree.specs.Fields.{Without}
-use Rattle.ts_tree.proofs.Words.{clean_decimal, clean_without, cut_at, no_cut}
+use Rattle.ts_name.specs.Buffers.{HasNo}
+use Rattle.ts_name.proofs.Spelling.{clean_decimal, cut_at, no_cut, no_space}
 use Rattle.ts_print.proofs.NextRows.{first_word}
 use Rattle.ts_archive.proofs.ending.end_of.Goals as goal
 
-end_word : Without 32 (codes "end")
+end_word : HasNo 32 (codes "end")
 end_word = (λ e. omega arith, (λ e. omega arith, (λ e. omega arith, tt)))
 
 pub returns-then-not-is_end-clause-none : goal.returns-then-not-is_end-clause-none
@@ -23,7 +23,7 @@ returns-in_err-count-clause-none c =
     let fields = (cut_at 32 c.split_word.result.0.now (codes "end") _ (decimal count ++ 32 ∷ encode_lower digest) c.split_word.ensures.word end_word (sym parts ∙ e)).1 in
     c.in_err-count.ensures.none count fits.0
     (first_word c.split_word-2.result.1 (λ r. r.now) _ c.split_word-2.result.0.now (decimal count) (encode_lower digest) c.split_word-2.ensures.word c.split_word-2.ensures.rest
-    (clean_without 32 (omega arith) (decimal count) (clean_decimal count fits.0)) fields))
+    (no_space (decimal count) (clean_decimal count fits.0)) fields))
 
 pub returns-in_err-digits-clause-none : goal.returns-in_err-digits-clause-none
 returns-in_err-digits-clause-none c =
@@ -32,7 +32,7 @@ returns-in_err-digits-clause-none c =
     rw c.from_residual-in_err-digits.ensures
     (λ count digest fits e.
     let fields = (cut_at 32 c.split_word.result.0.now (codes "end") _ (decimal count ++ 32 ∷ encode_lower digest) c.split_word.ensures.word end_word (sym parts ∙ e)).1 in
-    no_cut 32 (decimal count) _ (subst (λ z. Without 32 z) (sym whole ∙ fields) c.split_word-2.ensures.word))
+    no_cut 32 c.split_word-2.result.0.now (decimal count) _ c.split_word-2.ensures.word (sym whole ∙ fields))
 
 pub returns-then-not-read_hex-clause-none : goal.returns-then-not-read_hex-clause-none
 returns-then-not-read_hex-clause-none c =
@@ -40,5 +40,5 @@ returns-then-not-read_hex-clause-none c =
     let more = rw c.in_ok-digits.was at c.split_word-2.ensures.rest in
     λ count digest fits e.
     let fields = (cut_at 32 c.split_word.result.0.now (codes "end") _ (decimal count ++ 32 ∷ encode_lower digest) c.split_word.ensures.word end_word (sym parts ∙ e)).1 in
-    let digits = (cut_at 32 c.split_word-2.result.0.now (decimal count) _ _ c.split_word-2.ensures.word (clean_without 32 (omega arith) (decimal count) (clean_decimal count fits.0)) (sym more ∙ fields)).1 in
+    let digits = (cut_at 32 c.split_word-2.result.0.now (decimal count) _ _ c.split_word-2.ensures.word (no_space (decimal count) (clean_decimal count fits.0)) (sym more ∙ fields)).1 in
     c.read_hex.ensures.none c.if-not-read_hex.true digest fits.1 fits.2 digits

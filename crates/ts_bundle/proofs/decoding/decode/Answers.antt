@@ -1,4 +1,3 @@
-use Rattle.std.proofs.Common.{◌≡◌}
 use Rattle.std.proofs.lemmas.Result.{err_from_is_err_and, IfErr-weaker, IfOk-weaker}
 use Rattle.ts_bundle.specs.Bundles.{SpellsBundle, SpellsNoBundle}
 use Rattle.ts_bundle.specs.Decoding.{DecodesBundle, FindsNoBundle}

@@ -1,4 +1,4 @@
-use Rattle.std.proofs.Common.{◌≡◌, append_assoc}
+use Rattle.std.proofs.Common.{append_assoc}
 use Rattle.ts_bundle.proofs.results.push_total.Goals as goal
 
 -- Word after word.

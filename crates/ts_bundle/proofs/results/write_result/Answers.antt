@@ -1,10 +1,9 @@
-use Rattle.std.proofs.Common.{◌≡◌, ◌∷◌, [], ◌++◌, codes}
+use Rattle.std.proofs.Common.{◌∷◌, [], ◌++◌, codes}
 use Rattle.std.proofs.lemmas.Result.{err_from_is_err_and}
 use Rattle.ts_model.specs.Texts.{tree_lines, print_lines}
 use Rattle.ts_model.specs.Trial.{total_line}
-use Rattle.ts_tree.proofs.Writing.{begun_first, writes_after}
+use Rattle.ts_tree.proofs.Writing.{begun_first, writes_after, begun_after, sent_more}
 use Rattle.ts_bundle.specs.Results.{report_lines}
-use Rattle.ts_bundle.proofs.Sent.{begun_after, sent_more}
 use Rattle.ts_bundle.proofs.results.write_result.Goals as goal
 
 pub returns-in_err-write_tree-clause-written : goal.returns-in_err-write_tree-clause-written

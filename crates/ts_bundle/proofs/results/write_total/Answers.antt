@@ -2,7 +2,7 @@ use Rattle.std.proofs.Common.{◌∷◌, []}
 use Rattle.std.proofs.lemmas.Result.{err_from_is_err_and}
 use Rattle.ts_model.specs.Texts.{text}
 use Rattle.ts_model.specs.Trial.{total_line}
-use Rattle.ts_bundle.proofs.Sent.{nothing_sent}
+use Rattle.ts_tree.proofs.Writing.{nothing_sent}
 use Rattle.ts_bundle.proofs.results.write_total.Goals as goal
 
 -- Nothing went out yet.

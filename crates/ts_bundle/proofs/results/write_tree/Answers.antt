@@ -1,7 +1,8 @@
-use Rattle.std.proofs.Common.{◌≡◌, ◌∙◌, ◌+◌, ◌∷◌, [], ◌++◌, drop, subst, arith}
+use Rattle.std.proofs.Common.{◌∙◌, ◌∷◌, [], refl, arith, ℕ, List}
 use Rattle.std.proofs.lemmas.Result.{err_from_is_err_and}
 use Rattle.ts_model.specs.Texts.{tree_lines, tree_row_lines}
-use Rattle.ts_tree.proofs.Writing.{Wrote, begun_first, rows_step, wrote_front, wrote_more}
+use Rattle.ts_model.specs.declared.row.Row.{Row}
+use Rattle.ts_tree.proofs.Writing.{begun_first, begun_item, wrote_item}
 use Rattle.ts_bundle.proofs.results.write_tree.Goals as goal
 
 -- A beginning of the title went out.
@@ -17,19 +18,17 @@ returns-in_err-write_row-clause-written g c =
     let rows = c.args.rows.now in
     let i = c.loop-row.row-index in
     let row = c.row-item.result in
-    let step = rows_step rows i row (omega arith) c.row-item.is in
     rw p.1
-    (wrote_front (g.W.Sink.holds c.args.sink.now) (g.W.Sink.holds c.loop-row.sink) (g.W.Sink.holds c.write_row.new.sink) (c.args.title.now ∷ tree_lines rows) (tree_row_lines row.path row.content) (tree_lines (drop (i + 1) rows))
-    (subst (λ z. Wrote (g.W.Sink.holds c.args.sink.now) (g.W.Sink.holds c.loop-row.sink) (c.args.title.now ∷ tree_lines rows) z) step c.loop-row.invariant.wrote) c.in_err-write_row.ensures.written)
+    (begun_item (λ (r : Row (List ℕ)). tree_row_lines r.path r.content) tree_lines (λ x xs. refl) rows i row (omega arith) c.row-item.is
+    (g.W.Sink.holds c.args.sink.now) (g.W.Sink.holds c.loop-row.sink) (g.W.Sink.holds c.write_row.new.sink) (c.args.title.now ∷ tree_lines rows) c.loop-row.invariant.wrote c.in_err-write_row.ensures.written)
 
 pub loop-row-preserved : goal.loop-row-preserved
 loop-row-preserved g c =
     let rows = c.args.rows.now in
     let i = c.loop-row.row-index in
     let row = c.row-item.result in
-    let step = rows_step rows i row (omega arith) c.row-item.is in
     record {
-      wrote = wrote_more (g.W.Sink.holds c.args.sink.now) (g.W.Sink.holds c.loop-row.sink) (g.W.Sink.holds c.write_row.new.sink) (c.args.title.now ∷ tree_lines rows) (tree_row_lines row.path row.content) (tree_lines (drop (i + 1) rows))
-          (subst (λ z. Wrote (g.W.Sink.holds c.args.sink.now) (g.W.Sink.holds c.loop-row.sink) (c.args.title.now ∷ tree_lines rows) z) step c.loop-row.invariant.wrote) c.in_ok-write_row.ensures.written;
+      wrote = wrote_item (λ (r : Row (List ℕ)). tree_row_lines r.path r.content) tree_lines (λ x xs. refl) rows i row (omega arith) c.row-item.is
+          (g.W.Sink.holds c.args.sink.now) (g.W.Sink.holds c.loop-row.sink) (g.W.Sink.holds c.write_row.new.sink) (c.args.title.now ∷ tree_lines rows) c.loop-row.invariant.wrote c.in_ok-write_row.ensures.written;
       failures = c.in_ok-write_row.ensures.failures ∙ c.loop-row.invariant.failures;
     }

@@ -1,4 +1,3 @@
-use Rattle.std.proofs.Common.{◌≡◌, ◌∙◌}
 use Rattle.ts_check.proofs.Scans.{first_after, never_after}
 use Rattle.ts_check.proofs.census.one_each.Goals as goal
 

@@ -1,4 +1,4 @@
-use Rattle.std.proofs.Common.{◌≡◌, ap, ◌∙◌, ◌+◌, [], ◌∷◌}
+use Rattle.std.proofs.Common.{ap, ◌∙◌, ◌+◌, [], ◌∷◌}
 use Rattle.std.proofs.lemmas.List.{length-append}
 use Rattle.ts_check.proofs.Nearests.{IsNearestIndex-push}
 use Rattle.ts_check.proofs.entries.nearest_dirs.Goals as goal

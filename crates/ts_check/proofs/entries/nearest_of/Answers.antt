@@ -1,4 +1,4 @@
-use Rattle.std.proofs.Common.{◌≡◌, sym, ◌∙◌, arith}
+use Rattle.std.proofs.Common.{sym, ◌∙◌, arith}
 use Rattle.std.proofs.lemmas.Bool.{false≢true}
 use Rattle.std.proofs.lemmas.Option.{slice_get-get_or}
 use Rattle.ts_check.proofs.Nearests.{IsNearestOf-first, begin_here, begin_up, step_up, candidate_within, going_up, IsNearestOf-none, IsNearestOf-found}

@@ -1,4 +1,3 @@
-use Rattle.std.proofs.Common.{◌≡◌, ◌∙◌}
 use Rattle.ts_check.proofs.Complete.{first_lacking, never_lacking}
 use Rattle.ts_check.proofs.pieces.each_once.Goals as goal
 

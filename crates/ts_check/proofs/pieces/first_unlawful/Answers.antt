@@ -1,4 +1,4 @@
-use Rattle.std.proofs.Common.{◌≡◌, sym, ap, ◌∙◌, length, arith}
+use Rattle.std.proofs.Common.{sym, ap, ◌∙◌, length, arith}
 use Rattle.std.proofs.lemmas.Bool.{false≢true}
 use Rattle.std.proofs.lemmas.Option.{slice_get_within}
 use borrow.Author.Count.{below_more}

@@ -1,4 +1,4 @@
-use Rattle.std.proofs.Common.{◌≡◌, sym, ◌∙◌, arith, ◌+◌}
+use Rattle.std.proofs.Common.{sym, ◌∙◌, arith, ◌+◌}
 use Rattle.ts_check.proofs.Placing.{some_of}
 use Rattle.ts_check.proofs.Complete.{AreBefore-more, HasAll-from}
 use Rattle.ts_check.proofs.pieces.has_all.Goals as goal

@@ -1,4 +1,3 @@
-use Rattle.std.proofs.Common.{◌≡◌, ◌∙◌}
 use Rattle.ts_check.proofs.Placing.{no_place}
 use Rattle.ts_check.proofs.pieces.place_of.Goals as goal
 

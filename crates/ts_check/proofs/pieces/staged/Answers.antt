@@ -1,4 +1,4 @@
-use Rattle.std.proofs.Common.{◌≡◌, sym, ap, ◌∙◌, length, arith}
+use Rattle.std.proofs.Common.{sym, ap, ◌∙◌, length, arith}
 use Rattle.ts_check.proofs.Scans.{item_at}
 use Rattle.ts_check.proofs.Placing.{stands_again, IsPlaced-skip, IsPlaced-put, some_of, none_of, finish_placing}
 use Rattle.ts_check.proofs.pieces.staged.Goals as goal

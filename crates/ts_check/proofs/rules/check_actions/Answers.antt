@@ -1,7 +1,7 @@
-use Rattle.std.proofs.Common.{◌≡◌, refl, Some, None}
+use Rattle.std.proofs.Common.{refl, Some}
 use Rattle.ts_model.specs.declared.plan.PlanRule.TheVariants.{PredsAscend, OneCommit, PiecesLawful, PiecesComplete, OneMark}
 use Rattle.ts_need.specs.Needs.{snapshot_of}
-use Rattle.ts_check.proofs.Verdicts.{hold_more, broken_here, no_root, first_commit, first_lawful, first_once}
+use Rattle.ts_check.proofs.Verdicts.{hold_more, hold_commits, hold_lawful, hold_pieces, broken_here, no_root, first_commit, first_lawful, first_once}
 use Rattle.ts_check.proofs.rules.check_actions.Goals as goal
 
 pub returns-in-Err-clause-told : goal.returns-in-Err-clause-told
@@ -16,7 +16,7 @@ returns-in-Some-first_unlawful-clause-told c =
     let s = snapshot_of t in
     let plan = c.args.plan.now in
     let commits = rw c.in-Ok.is at c.in_ok-commits.ensures.index in
-    let h7 = hold_more s plan 6 OneCommit refl (hold_more s plan 5 PredsAscend refl c.requires.before c.in_default.ensures) (first_commit s plan None commits.1) in
+    let h7 = hold_commits s plan c.requires.before c.in_default.ensures commits.1 in
     broken_here s plan PiecesLawful c.in-Some-first_unlawful.place h7 (first_lawful t.archive.now t.first.now t.second.now t.holds.now plan (Some c.in-Some-first_unlawful.place)
     (rw (c.rows-first.ensures.rows, c.rows-second.ensures.rows) at c.in-Some-first_unlawful.ensures))
 
@@ -29,8 +29,8 @@ returns-in-Err-2-clause-told c =
     let s = snapshot_of t in
     let plan = c.args.plan.now in
     let commits = rw c.in-Ok.is at c.in_ok-commits.ensures.index in
-    let h7 = hold_more s plan 6 OneCommit refl (hold_more s plan 5 PredsAscend refl c.requires.before c.in_default.ensures) (first_commit s plan None commits.1) in
-    let h8 = hold_more s plan 7 PiecesLawful refl h7 (first_lawful t.archive.now t.first.now t.second.now t.holds.now plan None (rw (c.rows-first.ensures.rows, c.rows-second.ensures.rows) at c.in_default-first_unlawful.ensures)) in
+    let h7 = hold_commits s plan c.requires.before c.in_default.ensures commits.1 in
+    let h8 = hold_lawful t.archive.now t.first.now t.second.now t.holds.now plan h7 (rw (c.rows-first.ensures.rows, c.rows-second.ensures.rows) at c.in_default-first_unlawful.ensures) in
     broken_here s plan PiecesComplete c.in-Err-2.place h8 (first_once t.archive.now t.first.now t.second.now t.holds.now plan (Some c.in-Err-2.place)
     (rw (c.rows-first.ensures.rows, c.rows-second.ensures.rows, c.in-Err-2.is) at c.in_ok-staged.ensures.wrong))
 
@@ -41,9 +41,9 @@ returns-in-Err-3-clause-told c =
     let plan = c.args.plan.now in
     let commits = rw c.in-Ok.is at c.in_ok-commits.ensures.index in
     let staged = rw (c.rows-first.ensures.rows, c.rows-second.ensures.rows, c.in-Ok-2.is) at c.in_ok-staged.ensures.staged in
-    let h7 = hold_more s plan 6 OneCommit refl (hold_more s plan 5 PredsAscend refl c.requires.before c.in_default.ensures) (first_commit s plan None commits.1) in
-    let h8 = hold_more s plan 7 PiecesLawful refl h7 (first_lawful t.archive.now t.first.now t.second.now t.holds.now plan None (rw (c.rows-first.ensures.rows, c.rows-second.ensures.rows) at c.in_default-first_unlawful.ensures)) in
-    let h9 = hold_more s plan 8 PiecesComplete refl h8 (first_once t.archive.now t.first.now t.second.now t.holds.now plan None staged.1) in
+    let h7 = hold_commits s plan c.requires.before c.in_default.ensures commits.1 in
+    let h8 = hold_lawful t.archive.now t.first.now t.second.now t.holds.now plan h7 (rw (c.rows-first.ensures.rows, c.rows-second.ensures.rows) at c.in_default-first_unlawful.ensures) in
+    let h9 = hold_pieces t.archive.now t.first.now t.second.now t.holds.now plan h8 staged.1 in
     broken_here s plan OneMark c.in-Err-3.place h9 (rw c.in-Err-3.is at c.in_ok-marks.ensures.wrong)
 
 pub returns-clause-holds : goal.returns-clause-holds
@@ -54,7 +54,7 @@ returns-clause-holds c =
     let commits = rw c.in-Ok.is at c.in_ok-commits.ensures.index in
     let staged = rw (c.rows-first.ensures.rows, c.rows-second.ensures.rows, c.in-Ok-2.is) at c.in_ok-staged.ensures.staged in
     let marks = rw c.in-Ok-3.is at c.in_ok-marks.ensures.index in
-    let h7 = hold_more s plan 6 OneCommit refl (hold_more s plan 5 PredsAscend refl c.requires.before c.in_default.ensures) (first_commit s plan None commits.1) in
-    let h8 = hold_more s plan 7 PiecesLawful refl h7 (first_lawful t.archive.now t.first.now t.second.now t.holds.now plan None (rw (c.rows-first.ensures.rows, c.rows-second.ensures.rows) at c.in_default-first_unlawful.ensures)) in
-    let h9 = hold_more s plan 8 PiecesComplete refl h8 (first_once t.archive.now t.first.now t.second.now t.holds.now plan None staged.1) in
+    let h7 = hold_commits s plan c.requires.before c.in_default.ensures commits.1 in
+    let h8 = hold_lawful t.archive.now t.first.now t.second.now t.holds.now plan h7 (rw (c.rows-first.ensures.rows, c.rows-second.ensures.rows) at c.in_default-first_unlawful.ensures) in
+    let h9 = hold_pieces t.archive.now t.first.now t.second.now t.holds.now plan h8 staged.1 in
     hold_more s plan 9 OneMark refl h9 marks.1

@@ -1,4 +1,4 @@
-use Rattle.std.proofs.Common.{◌≡◌, refl}
+use Rattle.std.proofs.Common.{refl}
 use Rattle.ts_model.specs.declared.plan.PlanRule.TheVariants.{Limits, EntriesAscend}
 use Rattle.ts_need.specs.Needs.{snapshot_of}
 use Rattle.ts_check.proofs.Verdicts.{hold_none, hold_more, broken_here, need_told, need_holds}

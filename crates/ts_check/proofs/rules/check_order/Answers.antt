@@ -1,4 +1,4 @@
-use Rattle.std.proofs.Common.{◌≡◌, refl, arith}
+use Rattle.std.proofs.Common.{refl, arith}
 use Rattle.ts_model.specs.declared.plan.PlanRule.TheVariants.{EntriesAscend, PredsAscend, PiecesFirst, CommitFirst, DirFirst}
 use Rattle.ts_need.specs.Needs.{snapshot_of}
 use Rattle.ts_check.proofs.Verdicts.{hold_more, hold_all, hold_fewer, broken_here, limits_hold}

@@ -1,4 +1,4 @@
-use Rattle.std.proofs.Common.{◌≡◌, ◌≤◌, ◌⊎◌, ◌<◌, ℕ, ◌∷◌, refl, ◌∙◌, arith, false, true, inl, inr}
+use Rattle.std.proofs.Common.{refl, arith, inl, inr}
 use Rattle.std.proofs.lemmas.Bool.{false≢true}
 use Rattle.ts_check.proofs.Waits.{below_from, from_below, from_at, from_step}
 use Rattle.ts_check.proofs.waiting.ascends_below.Goals as goal

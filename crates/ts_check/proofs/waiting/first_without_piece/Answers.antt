@@ -1,4 +1,4 @@
-use Rattle.std.proofs.Common.{ℕ, ◌<◌, ◌≡◌, ◌+◌, ap, ◌∙◌, length, arith}
+use Rattle.std.proofs.Common.{ap, length, arith}
 use Rattle.ts_check.proofs.Scans.{item_at}
 use Rattle.ts_check.proofs.Waits.{IsLate-skip, IsLate-none, IsLate-add, IsFirst-LacksPiece}
 use Rattle.ts_check.proofs.waiting.first_without_piece.Goals as goal

@@ -1,4 +1,4 @@
-use Rattle.std.proofs.Common.{◌≤◌, take}
+use Rattle.std.proofs.Common.{take}
 use Rattle.ts_folder.specs.Folders.{InOrder}
 use Rattle.ts_folder.proofs.disk.is_in_order.Given as goal
 

@@ -1,5 +1,5 @@
 use Rattle.std.proofs.Common.{◌∷◌, ap, ◌∙◌}
-use Rattle.ts_hold.proofs.Spelling.{no_escape}
+use Rattle.ts_hold.proofs.Patterns.{no_escape}
 use Rattle.ts_hold.proofs.symbols.first_symbol.Goals as goal
 
 pub returns-in_err-byte-in-37 : goal.returns-in_err-byte-in-37

@@ -1,7 +1,7 @@
 use Rattle.std.proofs.Common.{sym, subst, arith, eqb-true}
 use Rattle.std.proofs.lemmas.Bool.{eqb-false, false≢true}
 use Rattle.ts_model.specs.Texts.{StarsApart}
-use Rattle.ts_hold.proofs.Spelling.{no_symbol_follows, too_many_symbols, unlawful_symbols}
+use Rattle.ts_hold.proofs.Patterns.{no_symbol_follows, too_many_symbols, unlawful_symbols}
 use Rattle.ts_hold.proofs.symbols.parse_pattern.Goals as goal
 use Rattle.ts_hold.proofs.symbols.parse_pattern.Goals.{then-is_empty-via-then-is_empty, then-is_empty-via-else-is_empty+then-not-stars_apart}
 

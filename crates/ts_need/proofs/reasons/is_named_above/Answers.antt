@@ -1,4 +1,4 @@
-use Rattle.std.proofs.Common.{◌≡◌, sym, ◌∙◌}
+use Rattle.std.proofs.Common.{sym, ◌∙◌}
 use Rattle.ts_need.proofs.Climbs.{IsClimb-start, IsClimb-up}
 use Rattle.std.proofs.lemmas.Bool.{false≢true}
 use Rattle.ts_need.proofs.reasons.is_named_above.Goals as goal

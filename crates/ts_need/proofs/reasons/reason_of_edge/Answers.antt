@@ -1,4 +1,4 @@
-use Rattle.std.proofs.Common.{◌≡◌, sym, ◌∙◌, not}
+use Rattle.std.proofs.Common.{sym, ◌∙◌, not}
 use Rattle.std.proofs.lemmas.Bool.{false≢true}
 use Rattle.ts_model.specs.Sync.{TouchesHeld}
 use Rattle.ts_model.specs.declared.plan.Side.TheVariants as side

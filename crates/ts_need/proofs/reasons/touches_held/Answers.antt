@@ -1,4 +1,4 @@
-use Rattle.std.proofs.Common.{◌≡◌, sym, refl, ◌∙◌, inl, inr}
+use Rattle.std.proofs.Common.{sym, refl, ◌∙◌, inl, inr}
 use Rattle.std.proofs.lemmas.Bool.{false≢true}
 use Rattle.ts_need.proofs.Touches.{touches_above, touches_first, touches_second, touches_archive, touched}
 use Rattle.ts_need.proofs.reasons.touches_held.Goals as goal

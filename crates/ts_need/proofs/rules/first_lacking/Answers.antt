@@ -1,4 +1,3 @@
-use Rattle.std.proofs.Common.{◌≡◌}
 use Rattle.ts_need.proofs.Lacking.{IsFirst-Lacks}
 use Rattle.ts_need.proofs.rules.first_lacking.Goals as goal
 

@@ -1,4 +1,4 @@
-use Rattle.std.proofs.Common.{◌≡◌, length, arith}
+use Rattle.std.proofs.Common.{length, arith}
 use Rattle.ts_need.proofs.Listed.{item_at}
 use Rattle.std.proofs.lemmas.Option.{slice_get_within}
 use Rattle.ts_need.proofs.Lacking.{LacksAmong-more, IsFirst-same}

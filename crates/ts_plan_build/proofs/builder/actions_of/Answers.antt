@@ -1,4 +1,4 @@
-use Rattle.std.proofs.Common.{◌≡◌, ◌-◌, ◌<◌, List, MatchOption, length, Some, ℕ, slice_get, arith, refl, subst}
+use Rattle.std.proofs.Common.{◌≡◌, ◌-◌, ◌<◌, List, MatchOption, length, Some, slice_get, arith, refl, subst}
 use Rattle.std.proofs.lemmas.Option.{slice_get_read}
 use Rattle.ts_plan_build.specs.declared.builder.NewDir.{NewDir}
 use Rattle.std.proofs.lemmas.Result.{err_from_is_err_and}

@@ -1,4 +1,4 @@
-use Rattle.std.proofs.Common.{◌≡◌, ℕ, ◌++◌, vec_len}
+use Rattle.std.proofs.Common.{vec_len}
 use Rattle.ts_plan_build.specs.Built.{AreOff}
 use Rattle.ts_plan_build.proofs.builder.leave.Given as goal
 

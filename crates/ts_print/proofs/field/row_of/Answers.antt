@@ -1,4 +1,4 @@
-use Rattle.std.proofs.Common.{sym, ap, ◌∙◌, ◌∷◌, ◌≡◌, [], subst}
+use Rattle.std.proofs.Common.{sym, ap, ◌∙◌, ◌∷◌, subst}
 use Rattle.std.proofs.lemmas.Result.{err_from_is_err_and}
 use Rattle.ts_tree.specs.Fields.{SpellsNoPath}
 use Rattle.ts_print.specs.Fields.{IsNoRow}

@@ -1,8 +1,6 @@
-use Rattle.std.proofs.Common.{sym, ap, ap₂, rules, ◌∙◌, subst, ◌∷◌, ◌++◌, decimal}
+use Rattle.std.proofs.Common.{sym, ap, ap₂, rules, ◌∙◌, ◌∷◌, ◌++◌, decimal}
 use Rattle.hex.specs.Hex.{encode_lower}
-use Rattle.ts_tree.specs.Fields.{Without}
-use Rattle.ts_tree.proofs.Words.{clean_decimal, clean_without, cut_at, no_cut}
-use Rattle.std.proofs.Common.{arith}
+use Rattle.ts_name.proofs.Spelling.{clean_decimal, cut_at, no_cut, no_space}
 use Rattle.ts_print.proofs.NextRows.{first_word}
 use Rattle.ts_print.proofs.field.stamped.Goals as goal
 
@@ -10,7 +8,7 @@ use Rattle.ts_print.proofs.field.stamped.Goals as goal
 pub returns-in_err-stamp-clause-none : goal.returns-in_err-stamp-clause-none
 returns-in_err-stamp-clause-none c =
     let whole = rw c.in_err-stamp.was at c.split_word.ensures.rest in
-    rw c.from_residual.ensures (λ path stamp word fits e. no_cut 32 path _ (subst (λ z. Without 32 z) (sym whole ∙ e) c.split_word.ensures.word))
+    rw c.from_residual.ensures (λ path stamp word fits e. no_cut 32 c.split_word.result.0.now path _ c.split_word.ensures.word (sym whole ∙ e))
 
 -- The size is the second word.
 pub returns-in_err-size-clause-none : goal.returns-in_err-size-clause-none
@@ -21,7 +19,7 @@ returns-in_err-size-clause-none c =
     let rest = (cut_at 32 c.split_word.result.0.now path _ _ c.split_word.ensures.word word (sym parts ∙ e)).1 in
     c.in_err-size.ensures.none stamp.size fits.0
     (first_word c.split_word-2.result.1 (λ r. r.now) _ c.split_word-2.result.0.now (decimal stamp.size) (encode_lower stamp.digest) c.split_word-2.ensures.word c.split_word-2.ensures.rest
-    (clean_without 32 (omega arith) (decimal stamp.size) (clean_decimal stamp.size fits.0)) rest))
+    (no_space (decimal stamp.size) (clean_decimal stamp.size fits.0)) rest))
 
 -- Behind it stands the digest.
 pub returns-in_err-digits-clause-none : goal.returns-in_err-digits-clause-none
@@ -31,7 +29,7 @@ returns-in_err-digits-clause-none c =
     rw c.from_residual-in_err-digits.ensures
     (λ path stamp word fits e.
     let rest = (cut_at 32 c.split_word.result.0.now path _ _ c.split_word.ensures.word word (sym parts ∙ e)).1 in
-    no_cut 32 (decimal stamp.size) _ (subst (λ z. Without 32 z) (sym whole ∙ rest) c.split_word-2.ensures.word))
+    no_cut 32 c.split_word-2.result.0.now (decimal stamp.size) _ c.split_word-2.ensures.word (sym whole ∙ rest))
 
 pub returns-then-not-read_hex-clause-none : goal.returns-then-not-read_hex-clause-none
 returns-then-not-read_hex-clause-none c =
@@ -39,7 +37,7 @@ returns-then-not-read_hex-clause-none c =
     let more = rw c.in_ok-digits.was at c.split_word-2.ensures.rest in
     λ path stamp word fits e.
     let rest = (cut_at 32 c.split_word.result.0.now path _ _ c.split_word.ensures.word word (sym parts ∙ e)).1 in
-    let digits = (cut_at 32 c.split_word-2.result.0.now (decimal stamp.size) _ _ c.split_word-2.ensures.word (clean_without 32 (omega arith) (decimal stamp.size) (clean_decimal stamp.size fits.0)) (sym more ∙ rest)).1 in
+    let digits = (cut_at 32 c.split_word-2.result.0.now (decimal stamp.size) _ _ c.split_word-2.ensures.word (no_space (decimal stamp.size) (clean_decimal stamp.size fits.0)) (sym more ∙ rest)).1 in
     c.read_hex.ensures.none c.if-not-read_hex.true stamp.digest fits.1 fits.2 digits
 
 pub returns-clause-found : goal.returns-clause-found

@@ -1,9 +1,9 @@
-use Rattle.std.proofs.Common.{rules}
+use Rattle.std.proofs.Common.{rules, sym}
 use Rattle.std.proofs.lemmas.Fn.{always_returns_same}
 use Rattle.ts_name.specs.Paths.{path_cmp}
 use Rattle.ts_table.proofs.Found.{rises}
-use Rattle.ts_table.proofs.Paths.{tied_paths}
-use Rattle.ts_print.proofs.Assembling.{nowhere}
+use Rattle.ts_table.proofs.Looked.{not_listed}
+use Rattle.ts_name.specs.Laws.{tied_paths}
 use Rattle.ts_print.proofs.staged.find.Goals as goal
 
 pub returns-in-Ok-clause-path : goal.returns-in-Ok-clause-path
@@ -13,4 +13,4 @@ returns-in-Ok-clause-path c row =
 pub returns-in-Err-clause-none : goal.returns-in-Err-clause-none
 returns-in-Err-clause-none c =
     let parted = c.in-Err.ensures.position (λ row. path_cmp row.path c.args.path.now) (always_returns_same _ _ _ (λ a r f k. search rules)) in
-    nowhere c.args.rows.now c.args.path.now c.in-Err.field-0 c.in-Err.ensures.bound (parted (rises c.args.rows.now c.args.path.now c.requires))
+    sym (not_listed c.args.rows.now c.args.path.now c.in-Err.field-0 c.in-Err.ensures.bound (parted (rises c.args.rows.now c.args.path.now c.requires)))

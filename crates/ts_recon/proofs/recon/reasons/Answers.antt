@@ -1,4 +1,4 @@
-use Rattle.std.proofs.Common.{◌≡◌, List, IfOk, subst}
+use Rattle.std.proofs.Common.{List, IfOk, subst}
 use Rattle.ts_model.specs.Sync.{listed_snapshot}
 use Rattle.ts_model.specs.Trees.{Listing}
 use Rattle.ts_model.specs.declared.hold.Rule.{Rule}

@@ -3,10 +3,9 @@ use Rattle.std.proofs.lemmas.Result.{err_from_is_err_and}
 use Rattle.std.specs.Io.KnownBytes.{Appends}
 use Rattle.ts_text.specs.Sources.{AppendsFront}
 use Rattle.ts_model.specs.Texts.{text}
-use Rattle.ts_tree.proofs.Writing.{begun_first}
+use Rattle.ts_tree.proofs.Writing.{begun_first, begun_after}
 use Rattle.ts_report.specs.Reports.{fate_lines, fates, total_line, totals_of}
 use Rattle.ts_report.proofs.Fated.{fates_length}
-use Rattle.ts_report.proofs.Sent.{begun_after}
 use Rattle.ts_report.proofs.writing.write.Goals as goal
 
 pub write_entries-requires : goal.write_entries-requires

@@ -1,4 +1,4 @@
-use Rattle.std.proofs.Common.{◌≡◌, ℕ, ◌+◌, ◌-◌, ◌<◌, ◌^◌, List, [], ◌++◌, length, take, sym, ◌∙◌, subst}
+use Rattle.std.proofs.Common.{◌≡◌, ℕ, ◌<◌, ◌^◌, List, [], ◌++◌, length, take, sym, subst}
 use Rattle.ts_model.specs.Texts.{IsTreeBody}
 use Rattle.ts_model.specs.Trees.{at}
 use Rattle.ts_model.specs.declared.row.Content.TheVariants.{File}

@@ -1,4 +1,4 @@
-use Rattle.std.proofs.Common.{◌-◌, ◌≡◌, length, arith, sym, ◌∙◌, refl}
+use Rattle.std.proofs.Common.{◌-◌, length, arith, sym, ◌∙◌, refl}
 use Rattle.std.proofs.lemmas.Bool.{false≢true}
 use Rattle.ts_table.proofs.Last.{none_last}
 use Rattle.ts_table.proofs.Places.{last_from_place, place_from_last, parent_of, no_place}

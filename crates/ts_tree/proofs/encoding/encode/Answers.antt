@@ -1,7 +1,8 @@
-use Rattle.std.proofs.Common.{◌≡◌, ◌+◌, ◌++◌, drop, get_or, length, ap, ◌∙◌, subst, arith}
+use Rattle.std.proofs.Common.{get_or, length, refl, ap, ◌∙◌, arith, ℕ, List}
 use Rattle.std.proofs.lemmas.Result.{err_from_is_err_and}
 use Rattle.ts_model.specs.Texts.{tree_lines, tree_row_lines}
-use Rattle.ts_tree.proofs.Writing.{Wrote, rows_step, wrote_front, wrote_more}
+use Rattle.ts_model.specs.declared.row.Row.{Row}
+use Rattle.ts_tree.proofs.Writing.{begun_item, wrote_item}
 use Rattle.ts_tree.proofs.encoding.encode.Goals as goal
 
 -- A beginning of this row went out.
@@ -12,10 +13,9 @@ returns-in_err-write_row-clause-written g c =
     let i = c.loop-row.row-index in
     let row = c.row-item.result in
     let rows = c.rows-row-items.ensures.rows in
-    let step = rows_step t i row (omega (arith, ap length rows)) (c.row-item.is ∙ ap (λ z. get_or z i row) rows) in
     rw p.1
-    (wrote_front (g.W.Sink.holds c.args.sink.now) (g.W.Sink.holds c.loop-row.sink) (g.W.Sink.holds c.write_row.new.sink) (tree_lines t) (tree_row_lines row.path row.content) (tree_lines (drop (i + 1) t))
-    (subst (λ z. Wrote (g.W.Sink.holds c.args.sink.now) (g.W.Sink.holds c.loop-row.sink) (tree_lines t) z) step c.loop-row.invariant.wrote) c.in_err-write_row.ensures.written)
+    (begun_item (λ (r : Row (List ℕ)). tree_row_lines r.path r.content) tree_lines (λ r rs. refl) t i row (omega (arith, ap length rows)) (c.row-item.is ∙ ap (λ z. get_or z i row) rows)
+    (g.W.Sink.holds c.args.sink.now) (g.W.Sink.holds c.loop-row.sink) (g.W.Sink.holds c.write_row.new.sink) (tree_lines t) c.loop-row.invariant.wrote c.in_err-write_row.ensures.written)
 
 pub loop-row-preserved : goal.loop-row-preserved
 loop-row-preserved g c =
@@ -23,9 +23,8 @@ loop-row-preserved g c =
     let i = c.loop-row.row-index in
     let row = c.row-item.result in
     let rows = c.rows-row-items.ensures.rows in
-    let step = rows_step t i row (omega (arith, ap length rows)) (c.row-item.is ∙ ap (λ z. get_or z i row) rows) in
     record {
-      wrote = wrote_more (g.W.Sink.holds c.args.sink.now) (g.W.Sink.holds c.loop-row.sink) (g.W.Sink.holds c.write_row.new.sink) (tree_lines t) (tree_row_lines row.path row.content) (tree_lines (drop (i + 1) t))
-          (subst (λ z. Wrote (g.W.Sink.holds c.args.sink.now) (g.W.Sink.holds c.loop-row.sink) (tree_lines t) z) step c.loop-row.invariant.wrote) c.in_ok-write_row.ensures.written;
+      wrote = wrote_item (λ (r : Row (List ℕ)). tree_row_lines r.path r.content) tree_lines (λ r rs. refl) t i row (omega (arith, ap length rows)) (c.row-item.is ∙ ap (λ z. get_or z i row) rows)
+          (g.W.Sink.holds c.args.sink.now) (g.W.Sink.holds c.loop-row.sink) (g.W.Sink.holds c.write_row.new.sink) (tree_lines t) c.loop-row.invariant.wrote c.in_ok-write_row.ensures.written;
       failures = c.in_ok-write_row.ensures.failures ∙ c.loop-row.invariant.failures;
     }

@@ -1,13 +1,12 @@
-use Rattle.std.proofs.Common.{sym, ◌∙◌, subst}
-use Rattle.ts_tree.specs.Fields.{Without}
-use Rattle.ts_tree.proofs.Words.{cut_at, no_cut}
+use Rattle.std.proofs.Common.{sym, ◌∙◌}
+use Rattle.ts_name.proofs.Spelling.{cut_at, no_cut}
 use Rattle.ts_tree.proofs.field.sized.Goals as goal
 
 -- Without a space there is no size.
 pub returns-in_err-size-clause-none : goal.returns-in_err-size-clause-none
 returns-in_err-size-clause-none c =
     let whole = rw c.in_err-size.was at c.split_word.ensures.rest in
-    rw c.from_residual.ensures (λ path n word small e. no_cut 32 path _ (subst (λ z. Without 32 z) (sym whole ∙ e) c.split_word.ensures.word))
+    rw c.from_residual.ensures (λ path n word small e. no_cut 32 c.split_word.result.0.now path _ c.split_word.ensures.word (sym whole ∙ e))
 
 -- The size is what stands behind the first space.
 pub returns-in_err-field_dec-clause-none : goal.returns-in_err-field_dec-clause-none

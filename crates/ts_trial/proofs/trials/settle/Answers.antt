@@ -1,4 +1,4 @@
-use Rattle.std.proofs.Common.{◌≡◌, ℕ, sym, ap, ◌∙◌, subst, min}
+use Rattle.std.proofs.Common.{ℕ, sym, ap, ◌∙◌, subst, min}
 use Rattle.std.proofs.lemmas.Result.{err_from_is_err_and}
 use Rattle.std.specs.Io.KnownBytes.{Appends}
 use Rattle.ts_text.specs.Sources.{AppendsFront}

@@ -1,12 +1,11 @@
-use Rattle.std.proofs.Common.{◌≡◌, ◌<◌, suc, [], ◌∷◌, sym, ap, ◌∙◌, subst, arith, bit_or}
+use Rattle.std.proofs.Common.{◌≡◌, suc, [], ◌∷◌, refl, sym, ap, ◌∙◌, subst, arith, bit_or}
 use Rattle.atomic_table.specs.Table.{step, rest, Allows}
 use mathlib.Core.Option.{none}
-use Rattle.ts_model.specs.Runs.{IsPending}
 use Rattle.ts_model.specs.declared.step.Step.TheVariants.{Fail}
 use Rattle.ts_board.specs.declared.law.View.{View}
 use Rattle.ts_board.specs.Terms.{work_in, IsTold}
 use Rattle.ts_board.specs.Keys.{terms_of}
-use Rattle.ts_board.specs.Kept.{Kept, mine, carrying, fails}
+use Rattle.ts_board.specs.Kept.{Kept, carrying, fails}
 use Rattle.ts_board.proofs.Steps.{carried_makes, fetching, failing}
 use Rattle.ts_board.proofs.board.Board.fail.Goals as goal
 
@@ -20,17 +19,12 @@ fetch_or-requires g c =
     let b = c.args.self.now.table.shared in let p = c.args.pass.now in let content = g.S.Site.content in let i = c.args.held.action in let y = c.args.held.slot in
     let terms = terms_of content b.key in
     let ld = c.load.ensures in let ex = c.exchange-empty.ensures in
-    let v = c.load.new.seat.me.0 in
-    let is : v ≡ carrying (suc i) p.seat.me.0 = ld.2.1 in
-    let has : v.carry ≡ suc i = ap (λ (u : View). u.carry) is in
-    let named : v.terms ≡ terms = ap (λ (u : View). u.terms) is ∙ c.requires.pass.1 in
-    let part : 0 < v.part = subst (λ (u : View). 0 < u.part) (sym is) p.live in
-    let held : IsPending (mine v) i = subst (λ (u : View). IsPending (mine u) i) (sym is) c.requires.held in
-    let eq : c.exchange-empty.new.seat.me ≡ (v, (i, y) ∷ []) = ex.3 ∙ (λ k. (v, (i, y) ∷ rest (ld.2.0 k))) ∙ (λ k. (v, (i, y) ∷ p.free k)) in (
+    let v = carrying (suc i) p.seat.me.0 in
+    let eq : c.exchange-empty.new.seat.me ≡ (v, (i, y) ∷ []) = ex.3 ∙ (λ k. (ld.2.1 k, (i, y) ∷ rest (ld.2.0 k))) ∙ (λ k. (v, (i, y) ∷ p.free k)) in (
       ex.0 ∙ (ld.0 ∙ c.requires.pass.0),
       omega arith,
       subst (λ m. Allows (Kept work_in (IsTold content) terms) b.table_id.slots c.exchange-empty.new.seat.id m i (λ n. bit_or n 17179869184) (fails (step b.table_id.slots i 17179869184 0 none) m)) (sym eq)
-          (failing work_in (IsTold content) terms b.table_id.slots c.exchange-empty.new.seat.id v i y named part has held c.requires.fresh.1 c.requires.fresh.2),
+          (failing work_in (IsTold content) terms b.table_id.slots c.exchange-empty.new.seat.id v i y c.requires.pass.1 p.live refl c.requires.held c.requires.fresh.1 c.requires.fresh.2),
     )
 
 pub returns-clause-failed : goal.returns-clause-failed

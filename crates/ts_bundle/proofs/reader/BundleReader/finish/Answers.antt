@@ -1,4 +1,3 @@
-use Rattle.std.proofs.Common.{◌≡◌}
 use Rattle.std.proofs.lemmas.Result.{err_from_is_err_and}
 use Rattle.ts_bundle.proofs.Refusals.{plan_ended_at, unfinished_at}
 use Rattle.ts_bundle.proofs.reader.BundleReader.finish.Goals as goal

@@ -1,4 +1,4 @@
-use Rattle.std.proofs.Common.{◌≡◌, ◌≢◌, ◌≤◌, ℕ, length, IfSome, ◌+◌, ◌-◌, ◌*◌, ◌<◌, sym, subst, take, drop, vec_len, arith}
+use Rattle.std.proofs.Common.{◌≡◌, length, IfSome, ◌+◌, ◌-◌, sym, subst, take, drop, vec_len, arith}
 use Rattle.std.proofs.lemmas.Option.{IfSome_then}
 use Rattle.ts_folder.specs.Folders.{Reads}
 use Rattle.ts_model.specs.Trees.{at}

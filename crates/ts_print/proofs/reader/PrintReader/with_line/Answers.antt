@@ -1,4 +1,4 @@
-use Rattle.std.proofs.Common.{◌∙◌, ◌∷◌, ◌++◌, [], subst}
+use Rattle.std.proofs.Common.{◌∷◌, ◌++◌, [], subst}
 use Rattle.std.proofs.lemmas.Result.{err_from_is_err_and}
 use Rattle.ts_print.specs.Fields.{IsNoRow}
 use Rattle.ts_print.specs.Readers.{BeginsNoPrint}

@@ -1,10 +1,10 @@
-use Rattle.std.proofs.Common.{◌≡◌, ◌++◌, ◌<◌, ℕ, List, sym, ap, subst, ◌∙◌}
+use Rattle.std.proofs.Common.{ℕ, List, sym, ap, subst, ◌∙◌}
 use Rattle.std.proofs.lemmas.Result.{on_ok_weaker}
 use Rattle.ts_model.specs.Texts.{FileFits}
 use Rattle.ts_model.specs.declared.row.Row.{Row}
 use Rattle.ts_print.specs.Assemblies.{Assembly, HasSoFar, with_more}
 use Rattle.ts_print.proofs.Assembling.{all_get_or, all_set, either, far_below, far_path, put_more, row_says, still_rows}
-use Rattle.ts_table.proofs.Paths.{below_gives}
+use Rattle.ts_name.proofs.Prefixes.{below_gives}
 use Rattle.ts_print.proofs.staged.Staged.put.Goals as goal
 use Rattle.std.proofs.Math.ListN.{set}
 

@@ -1,7 +1,6 @@
-use Rattle.std.proofs.Common.{◌↔◌, ◌≤◌, rules}
+use Rattle.std.proofs.Common.{rules}
 use Rattle.std.proofs.lemmas.List.Sorted.{IsPartitionPoint-from_clause}
 use Rattle.std.specs.Ordering.{is_lt}
-use Rattle.ts_model.specs.Trees.{at}
 use Rattle.ts_name.specs.Paths.{path_cmp}
 use Rattle.ts_table.proofs.Found.{before_parts}
 use Rattle.ts_table.proofs.Places.{front_lists, front_before, place_in_front}

@@ -1,4 +1,4 @@
-use Rattle.std.proofs.Common.{◌≡◌, [], ◌++◌, length, map, sum_by, sym, ap, ap₂, ◌∙◌, subst, arith}
+use Rattle.std.proofs.Common.{◌≡◌, ◌++◌, length, map, sum_by, sym, ap, ap₂, ◌∙◌, subst, arith}
 use Rattle.ts_model.specs.Trees.{at}
 use Rattle.ts_table.specs.Slots.{slot_paths}
 use Rattle.ts_table.specs.Splices.{put_of, spliced}

@@ -6,7 +6,7 @@ use Rattle.ts_table.specs.Tables.{IsPlace}
 use Rattle.ts_table.specs.Splices.{spliced}
 use Rattle.ts_table.specs.Splits.{AreSeparate, ArePartsAt, IsFrame, FrameOf}
 use Rattle.ts_table.specs.Slots.{cleared, parted, slot_paths}
-use Rattle.ts_table.proofs.Rows.{weaker}
+use Rattle.ts_name.proofs.Basics.{weaker}
 use Rattle.ts_table.proofs.Joining.{IsLeft, frame_left}
 use Rattle.ts_table.proofs.Taking.{taken_at_first, slots_fit, parts_there}
 use Rattle.ts_table.proofs.table.Table.split.Given.{Over}

@@ -1,4 +1,4 @@
-use Rattle.std.proofs.Common.{◌≡◌, ◌++◌, ap, ◌∙◌, sym, subst, arith}
+use Rattle.std.proofs.Common.{◌++◌, ap, ◌∙◌, sym, subst, arith}
 use Rattle.ts_model.specs.Trees.{at}
 use Rattle.ts_table.specs.Splits.{ArePartsAt}
 use Rattle.ts_tree.proofs.Parts.{left_fit, parts_count, parts_fit}
