@@ -328,3 +328,31 @@ fn what_is_refused(rt: HostRuntime) {
     assert!(rt; NameFault::OutOfMemory.number() == 1);
     assert!(rt; PathFault::OutOfMemory.number() == 1);
 }
+
+/// Roots, texts of paths, and the places of these below those.
+const PLACES: &[(&str, &[u8], &str)] = &[
+    ("", b"", ""),
+    ("/home/a", b"", "/home/a"),
+    ("/home/a", b"/b", "/home/a/b"),
+    ("notes", b"/b%20c/d%25", "notes/b c/d%"),
+    (".", b"/%01/\xc3\xa9", "./\u{1}/é"),
+    ("%41", b"/%25zz", "%41/%zz"),
+];
+
+/// Whether the path of that text has this place below the root.
+fn has_place(alloc: Global, root: &str, text: &[u8], place: &str) -> bool {
+    match path(alloc, text) {
+        Some(path) => match path.place_below(alloc, root) {
+            Ok(spelled) => spelled.as_str() == place,
+            Err(_) => false,
+        },
+        None => false,
+    }
+}
+
+#[test]
+fn places_have_the_names_as_they_are(rt: HostRuntime) {
+    for (root, text, place) in PLACES {
+        assert!(rt; has_place(rt.alloc(), *root, *text, *place));
+    }
+}

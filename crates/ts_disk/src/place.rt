@@ -1,16 +1,16 @@
 //! Places of the file system at a replica's root and below it.
-ghost use Rattle.std.specs.Prelude.{◌≡◌, ◌⊎◌, IfErr};
+ghost use Rattle.std.specs.Prelude.{◌≡◌, ◌++◌, IfOk, codes};
+ghost use Rattle.std.specs.String.{string_bytes};
 
-use crate::fault::DiskFault;
-use percent_encoding::percent_decode;
 use std::alloc::{AllocError, Global};
 use std::fs::{FileType, Files};
 use std::io::ErrorKind;
 use std::{fs, io};
-use ts_name::Path;
 
 /// The place of the directory in a replica's root that belongs to the program itself.
-pub(crate) fn own_place(alloc: Global, root: &str) -> Result<String, AllocError> {
+pub(crate) fn own_place(alloc: Global, root: &str) -> Result<String, AllocError>
+    ensures { IfOk result (λ place. string_bytes place ≡ root.now ++ codes "/.twosync") }
+{
     format!(in alloc; "{root}/.twosync")
 }
 
@@ -27,21 +27,6 @@ pub(crate) enum Standing {
     File,
     /// A link, or what else is neither a directory nor a file.
     Other,
-}
-
-/// A path as the file system spells it, after the place `before`.
-pub(crate) fn spell(alloc: Global, before: &str, path: &Path) -> Result<String, DiskFault>
-    ensures { IfErr result (λ e. (e ≡ DiskFault.OutOfMemory) ⊎ (e ≡ DiskFault.Device)) }
-{
-    let mut text = Vec::new(alloc);
-    path.write_text(&mut text)?;
-    let mut bytes = Vec::from_slice(alloc, before.as_bytes())?;
-    percent_decode(&text).append_to(&mut bytes)?;
-    match String::from_utf8(bytes) {
-        Ok(spelled) => Ok(spelled),
-        // names are text, so this doesn't come about
-        Err(_) => Err(DiskFault::Device),
-    }
 }
 
 /// What stands at a place below a root whose text has `root` bytes. No link below the root is followed; the root itself may

@@ -1,9 +1,12 @@
 //! The spots of a swap on a disk.
-ghost use Rattle.std.specs.Prelude.{◌≡◌, ◌⊎◌, IfErr, IfOk};
+ghost use Rattle.std.specs.Fmt.{decimal};
+ghost use Rattle.std.specs.Prelude.{◌≡◌, ◌++◌, IfErr, IfOk, codes};
+ghost use Rattle.std.specs.String.{string_bytes};
+ghost use Rattle.ts_name.specs.Paths.{place_text};
 ghost use Rattle.ts_swap.specs.Leavings.{Counts};
 
 use crate::fault::DiskFault;
-use crate::place::{Standing, look_at, make_own, own_place, spell};
+use crate::place::{Standing, look_at, make_own, own_place};
 use std::alloc::Global;
 use std::fs::{File, Files};
 use std::io::{ErrorKind, Write};
@@ -39,10 +42,13 @@ impl<R: Drop> DiskPlaces<R> {
         entry: u32,
     ) -> Result<DiskPlaces<R>, DiskFault>
         ensures failures { IfOk result (λ places. places.failures ≡ 0) }
-        ensures fault { IfErr result (λ e. (e ≡ DiskFault.OutOfMemory) ⊎ (e ≡ DiskFault.Device)) }
+        ensures target { IfOk result (λ places. string_bytes places.at_target ≡ root.now ++ place_text path.now) }
+        ensures new { IfOk result (λ places. string_bytes places.at_new ≡ root.now ++ codes "/.twosync/new-" ++ decimal entry) }
+        ensures old { IfOk result (λ places. string_bytes places.at_old ≡ root.now ++ codes "/.twosync/old-" ++ decimal entry) }
+        ensures fault { IfErr result (λ e. e ≡ DiskFault.OutOfMemory) }
     {
         let own = own_place(alloc, root)?;
-        let at_target = spell(alloc, root, path)?;
+        let at_target = path.place_below(alloc, root)?;
         let at_new = format!(in alloc; "{own}/new-{entry}")?;
         let at_old = format!(in alloc; "{own}/old-{entry}")?;
         Ok(DiskPlaces {
@@ -101,7 +107,7 @@ impl<R: Files + AllocGlobal + Drop> DiskPlaces<R> {
     /// Makes one directory or file, where nothing is. A file gets the permissions of a new file.
     fn write_row(&self, row: &Row<Items<u8>>) -> io::Result<()> {
         let alloc = self.files.alloc();
-        let Ok(place) = spell(alloc, self.at_new.as_str(), &row.path) else {
+        let Ok(place) = row.path.place_below(alloc, self.at_new.as_str()) else {
             return Err(io::Error::from(ErrorKind::OutOfMemory));
         };
         match &row.content {

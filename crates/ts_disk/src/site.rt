@@ -1,5 +1,6 @@
 //! A site on a disk.
 ghost use Rattle.std.specs.Prelude.{◌≡◌, ◌≢◌, IfErr, IfOk};
+ghost use Rattle.std.specs.String.{string_bytes};
 
 use crate::compare::compare;
 use crate::fault::DiskFault;
@@ -35,6 +36,8 @@ impl<R: Drop> DiskSite<R> {
         path: &Path,
         entry: u32,
     ) -> Result<DiskSite<R>, DiskFault>
+        ensures root { IfOk result (λ site. string_bytes site.root ≡ root.now) }
+        ensures entry { IfOk result (λ site. (site.path ≡ path.now) × (site.entry ≡ entry)) }
         ensures failures { IfOk result (λ site. site.failures ≡ 0) }
         ensures fault { IfErr result (λ e. e ≡ DiskFault.OutOfMemory) }
     {
@@ -78,8 +81,7 @@ impl DiskSite<HostRuntime> {
         };
         match DiskPlaces::new(alloc, files, self.root.as_str(), &self.path, self.entry) {
             Ok(places) => Ok(places),
-            Err(DiskFault::OutOfMemory) => Err(SiteFault::OutOfMemory),
-            Err(_) => Err(SiteFault::Device),
+            Err(_) => Err(SiteFault::OutOfMemory),
         }
     }
 

@@ -8,7 +8,7 @@ use Rattle.ts_model.specs.Texts.{FileFits, IsTreeBody}
 use Rattle.ts_model.specs.Trees.{Listing, at}
 use Rattle.ts_name.specs.Paths.{Path}
 use Rattle.ts_tree.proofs.Parts.{fits_at}
-use Rattle.ts_folder.specs.Folders.{IsFile, Reads}
+use Rattle.ts_folder.specs.Folders.{Reads}
 
 -- what follows for a value, if there is one, from two facts about it
 pub some_both : {X : Type 0} (o : Option X) {P Q R : X → Type 0} → ((x : X) → P x → Q x → R x) → IfSome o P → IfSome o Q → IfSome o R
@@ -28,16 +28,6 @@ same_file e f = ap bytes_of (sym e ∙ f)
 -- a part of which the length is known is the part of that length
 part_by_length : (room n : ℕ) (ys : List ℕ) → length (take room ys) ≡ n → take room ys ≡ take n ys
 part_by_length room n ys e = sym (take_min room ys) ∙ ap (λ m. take m ys) (sym (length-take room ys) ∙ e)
-
--- a part that came short is all that there is
-part_short : (room wanted : ℕ) (ys : List ℕ) → length (take room ys) < room → room ≤ wanted → take room ys ≡ take wanted ys
-part_short room wanted ys short more =
-    let all : length ys ≤ room = omega (arith, length-take room ys) in
-    take_all room ys all ∙ sym (take_all wanted ys (omega arith))
-
--- nothing was read yet
-pub reads_nothing : (x : Content (List ℕ)) (offset : ℕ) → IsFile x → Reads x offset 0 []
-reads_nothing x offset (bytes, e) = record { bytes = bytes; file = e; answered = refl }
 
 -- the bytes behind those that were read
 pub reads_more : (x : Content (List ℕ)) (offset start room n : ℕ) (old new : List ℕ) → Reads x offset start old → Reads x (offset + start) room (take n (drop start new)) → take start new ≡ old → length (take n (drop start new)) ≡ n → Reads x offset (start + n) (take (start + n) new)

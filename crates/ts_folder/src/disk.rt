@@ -4,7 +4,6 @@ ghost use Rattle.ts_folder.specs.Folders.{InOrder};
 
 use crate::fault::FolderFault;
 use crate::folder::{Folder, Kind};
-use percent_encoding::percent_decode;
 use std::alloc::Global;
 use std::cmp::Ordering;
 use std::fs::{DirEntry, FileType, Files};
@@ -48,7 +47,7 @@ impl<R: Files + AllocGlobal + Clone + Drop + Sync> Folder for DiskFolder<R> {
     ghost is_open = { λ _ _ _. Unit {0} };
 
     fn list(&self, alloc: Global, path: &Path) -> Result<Vec<(Name, Kind)>, FolderFault> {
-        let spelled = spell(alloc, self.root.as_str(), path)?;
+        let spelled = path.place_below(alloc, self.root.as_str())?;
         if kind_below(&self.files, spelled.as_str(), self.root.len())? == Kind::File {
             return Err(FolderFault::NotThere);
         }
@@ -62,7 +61,7 @@ impl<R: Files + AllocGlobal + Clone + Drop + Sync> Folder for DiskFolder<R> {
     }
 
     fn open_file(&self, alloc: Global, path: &Path) -> Result<R::File, FolderFault> {
-        let spelled = spell(alloc, self.root.as_str(), path)?;
+        let spelled = path.place_below(alloc, self.root.as_str())?;
         if kind_below(&self.files, spelled.as_str(), self.root.len())? == Kind::Dir {
             return Err(FolderFault::NotThere);
         }
@@ -82,18 +81,6 @@ impl<R: Files + AllocGlobal + Clone + Drop + Sync> Folder for DiskFolder<R> {
             Ok(count) => Ok(count),
             Err(_) => Err(FolderFault::Device),
         }
-    }
-}
-
-/// The path as the file system spells it, after the root.
-fn spell(alloc: Global, root: &str, path: &Path) -> Result<String, FolderFault> {
-    let mut text = Vec::new(alloc);
-    path.write_text(&mut text)?;
-    let mut bytes = Vec::from_slice(alloc, root.as_bytes())?;
-    percent_decode(&text).append_to(&mut bytes)?;
-    match String::from_utf8(bytes) {
-        Ok(spelled) => Ok(spelled),
-        Err(_) => Err(FolderFault::Unreadable),
     }
 }
 

@@ -53,10 +53,6 @@ pieces_free s (b ∷ bs) = go (b == s) refl (pieces_free s bs)
 
 -- ---- whole buffers
 
--- names with their separators are whole
-pub IsWhole-ended : (s : ℕ) (path : Path) → AreFree s path → IsWhole s (ended s path)
-IsWhole-ended s path h = record { again = ap (ended s) (pieces_all s path h) }
-
 one_piece : (s b : ℕ) (bs : List ℕ) → HasNo s (b ∷ bs) → pieces s (b ∷ bs) ≡ (b ∷ bs) ∷ []
 one_piece s b [] h = cond-false (b == s) _ _ (differs b s h.0)
 one_piece s b (c ∷ cs) h =
@@ -252,9 +248,6 @@ IsPath-append p q h k deep long = record {
   size = omega (arith, sum_by-append {X = List ℕ} length p q);
 }
 
-pub too_deep : (p q : Path) → 64 < length p + length q → ¬ IsPath (p ++ q)
-too_deep p q h k = absurd (omega (arith, k.depth, length-append p q))
-
 pub too_long : (p q : Path) → 4096 < sum_by length p + sum_by length q → ¬ IsPath (p ++ q)
 too_long p q h k = absurd (omega (arith, k.size, sum_by-append {X = List ℕ} length p q))
 
@@ -330,12 +323,6 @@ Holds-child b bytes path name h good deep long e =
     let one : Holds (name ++ 0 ∷ []) (name ∷ []) = Holds-from (name ++ 0 ∷ []) (name ∷ []) (IsPath-one name good) (sym (append-nil (name ++ 0 ∷ []))) in
     let all : IsPath (path ++ name ∷ []) = IsPath-append path (name ∷ []) (lawful_held h) (IsPath-one name good) (omega arith) (omega (arith, sum_by-cons {X = List ℕ} length name [])) in
     Holds-append b (name ++ 0 ∷ []) path (name ∷ []) h one all bytes (e ∙ append_assoc b name (0 ∷ []))
-
-pub no_child_deep : (path : Path) (name : Name) → 64 ≤ length path → ¬ IsPath (path ++ name ∷ [])
-no_child_deep path name h = too_deep path (name ∷ []) (omega arith)
-
-pub no_child_long : (path : Path) (name : Name) → 4096 < sum_by length path + length name → ¬ IsPath (path ++ name ∷ [])
-no_child_long path name h = too_long path (name ∷ []) (omega (arith, sum_by-cons {X = List ℕ} length name []))
 
 -- whether one path begins with another, as their bytes tell it
 pub prefix_answer : (b d : List ℕ) (p q : Path) → Holds b p → Holds d q → (r : Bool) → r ≡ starts_with eqb d b → IsTrue r ↔ IsAbove p q

@@ -1,5 +1,5 @@
 -- What each answer of `Path::parse_text` says of the text.
-use Rattle.std.proofs.Common.{◌≡◌, ◌≢◌, ◌⊎◌, suc, ◌↔◌, ◌==◌, ℕ, Bool, true, false, cond, List, [], ◌∷◌, ◌++◌, Result, Ok, Err, IfOk, length, map, refl, sym, ap, ap₂, subst, ◌∙◌, inl, inr, arith, eqb-true, eq-eqb, ◌||◌}
+use Rattle.std.proofs.Common.{◌≡◌, ◌≢◌, ◌⊎◌, suc, ◌↔◌, ◌==◌, ℕ, Bool, true, false, cond, List, [], ◌∷◌, ◌++◌, Result, Ok, Err, IfOk, length, map, refl, sym, ap, ap₂, subst, ◌∙◌, inl, arith, eqb-true, eq-eqb, ◌||◌}
 use Rattle.std.proofs.lemmas.Bool.{false≢true, true≢false, false_from_ne_true, cond-false}
 use Rattle.std.proofs.lemmas.List.{map-append}
 use Rattle.std.specs.List.{AllByRecursion, list_any}
@@ -19,16 +19,6 @@ pub record Parsed (text : List ℕ) (r : Result Path PathFault) : Type 0 where
   pub bad_text : ¬ (r ≡ Err OutOfMemory) → ((r ≡ Err BadText) ↔ HasNoNames text)
   pub bad_name : ¬ (r ≡ Err OutOfMemory) → ((r ≡ Err BadName) ↔ HasBadName text)
   pub too_long : ¬ (r ≡ Err OutOfMemory) → ((r ≡ Err TooLong) ↔ IsPastLimit text)
-
--- memory ran out
-pub Parsed-memory : (text : List ℕ) → Parsed text (Err OutOfMemory)
-Parsed-memory text = record {
-  ok = tt;
-  reads = λ p h. inr refl;
-  bad_text = λ n. absurd (n refl);
-  bad_name = λ n. absurd (n refl);
-  too_long = λ n. absurd (n refl);
-}
 
 -- the text spells no names
 pub Parsed-no_names : (text : List ℕ) → HasNoNames text → Parsed text (Err BadText)

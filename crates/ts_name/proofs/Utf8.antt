@@ -4,7 +4,8 @@ use Rattle.std.proofs.lemmas.Bool.{and_parts, ltb-true}
 use Rattle.std.specs.List.{AllByRecursion}
 use Rattle.std.specs.Prelude.{IsUtf8}
 use lib.Utf8.{scalar, scalars, encode, encodes, next, scalar_cases}
-use Rattle.ts_name.specs.Paths.{Path, IsName}
+use Rattle.std.proofs.lemmas.Str.{IsUtf8-append, IsUtf8-nil}
+use Rattle.ts_name.specs.Paths.{Path, IsName, place_text}
 use Rattle.ts_name.specs.Escapes.{AreBytes}
 
 -- what holds of each element of two lists holds of each of both
@@ -44,3 +45,12 @@ AreBytes-from_utf8 bytes (cs, h) = subst (λ z. AreBytes z) h.1 (encodes_bytes c
 pub fit_from_names : (path : Path) → AllByRecursion IsName path → AllByRecursion AreBytes path
 fit_from_names [] h = tt
 fit_from_names (name ∷ path) h = (AreBytes-from_utf8 name h.0.utf8, fit_from_names path h.1)
+
+slash_utf8 : IsUtf8 (47 ∷ [])
+unfolding encode
+slash_utf8 = (47 ∷ [], (refl, refl))
+
+-- where there is text above, each place below is text
+pub place_utf8 : (path : Path) → AllByRecursion IsName path → IsUtf8 (place_text path)
+place_utf8 [] h = IsUtf8-nil
+place_utf8 (name ∷ path) h = IsUtf8-append (47 ∷ name) (place_text path) (IsUtf8-append (47 ∷ []) name slash_utf8 h.0.utf8) (place_utf8 path h.1)

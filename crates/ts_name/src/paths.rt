@@ -1,6 +1,7 @@
 //! Paths, as the names from the root down.
 ghost use Rattle.std.specs.Prelude.{◌≡◌, ◌⊎◌, ◌↔◌, ◌++◌, ◌∷◌, [], List, ℕ, length, sum_by, if◌then◌else◌, is_ok, take, IfOk, IfSome, OnOk, IsErrOf, IsOkUnless, IsTrue, MatchOption, MatchResult};
-ghost use Rattle.ts_name.specs.Paths.{IsPath, IsAbove, IsPathText, HasNoNames, HasBadName, IsPastLimit, path_text, below};
+ghost use Rattle.std.specs.String.{string_bytes};
+ghost use Rattle.ts_name.specs.Paths.{IsPath, IsAbove, IsPathText, HasNoNames, HasBadName, IsPastLimit, path_text, place_text, below};
 ghost use Rattle.ts_name.specs.Buffers.{HoldsParent};
 
 use crate::buffer::{
@@ -102,6 +103,26 @@ impl Path {
             rest = after;
         }
         Ok(())
+    }
+
+    /// The place of this path below another, as a file system spells it: that place, and `/` and then its bytes for each
+    /// name. It takes memory once.
+    pub fn place_below(&self, alloc: Global, root: &str) -> Result<String, AllocError>
+        ensures { IfOk result (λ place. string_bytes place ≡ root.now ++ place_text self.now) }
+    {
+        let room = root.len().saturating_add(self.bytes.len());
+        let mut place = Vec::with_capacity(alloc, room)?;
+        place.extend_from_slice(root.as_bytes())?;
+        let mut rest = self.bytes.as_slice();
+        while let Some((name, after)) = split_name(rest) {
+            place.push(b'/')?;
+            place.extend_from_slice(name)?;
+            rest = after;
+        }
+        match String::from_utf8(place) {
+            Ok(place) => Ok(place),
+            Err(_) => unreachable!(),
+        }
     }
 
     /// How many names.

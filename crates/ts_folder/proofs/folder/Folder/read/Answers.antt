@@ -1,12 +1,8 @@
-use Rattle.std.proofs.Common.{◌≡◌, length, IfSome, ◌+◌, ◌-◌, sym, subst, take, drop, vec_len, arith}
-use Rattle.std.proofs.lemmas.Option.{IfSome_then}
+use Rattle.std.proofs.Common.{◌≡◌, length, IfSome, ◌+◌, ◌-◌, subst, take, drop, vec_len, arith}
 use Rattle.ts_folder.specs.Folders.{Reads}
 use Rattle.ts_model.specs.Trees.{at}
-use Rattle.ts_folder.proofs.Ranges.{IsStep, reads_nothing, step_reads, step_ends, ends_there}
+use Rattle.ts_folder.proofs.Ranges.{IsStep, step_reads, step_ends, ends_there}
 use Rattle.ts_folder.proofs.folder.Folder.read.Goals as goal
-
-pub loop-bytes-init : goal.loop-bytes-init
-loop-bytes-init g c = rw c.new-bytes.ensures.items (c.in_ok-file.ensures.opened, omega arith, IfSome_then _ c.in_ok-file.ensures.told (λ rows file. reads_nothing (at rows c.args.path.now) c.args.offset file))
 
 pub returns-in_default-clause-told : goal.returns-in_default-clause-told
 returns-in_default-clause-told g c =
@@ -56,8 +52,3 @@ returns-then-count-room-clause-told g c =
     } in
     let piece = subst (λ m. IfSome (g.Self.Folder.tells c.args.self.now) (λ rows. Reads (at rows c.args.path.now) c.in-Some.at m (take n (drop start new)))) (let e : vec_len c.resize.new.self - start ≡ room = omega (arith, c.in_ok-resize.ensures.len) in e) (c.in_ok-count.ensures.told c.args.path.now c.loop-bytes.invariant.0) in
     step_ends (g.Self.Folder.tells c.args.self.now) c.args.path.now c.args.offset c.in-Some.at start room n c.args.len old made new cut step c.if-count-room.true (omega (arith, c.min-room.ensures, c.loop-bytes-test.true, c.len.ensures, c.len-start.ensures)) c.loop-bytes.invariant.2 piece
-
-pub returns-clause-told : goal.returns-clause-told
-returns-clause-told g c =
-    let size : length c.loop-bytes.bytes.items ≡ c.args.len = omega (arith, c.loop-bytes-test.false, c.loop-bytes.invariant.1, c.len.ensures, c.loop-bytes.bytes.ok.0) in
-    rw (sym size) c.loop-bytes.invariant.2

@@ -6,7 +6,7 @@ use Rattle.ts_name.proofs.paths.Path.push_text.Goals as goal
 pub loop-name-preserved : goal.loop-name-preserved
 loop-name-preserved c =
     let found = c.in-Some.ensures in
-    WrittenSoFar-more _ _ _ _ _ _ _ c.loop-name.invariant found.0 found.1 (c.in_ok-push_escaped.ensures.ok ∙ ap (λ z. z ++ name_text c.in-Some.name.now) c.in_ok-push.ensures.items)
+    WrittenSoFar-more name_text _ _ _ _ _ _ _ c.loop-name.invariant found.0 found.1 (c.in_ok-push_escaped.ensures.ok ∙ ap (λ z. z ++ name_text c.in-Some.name.now) c.in_ok-push.ensures.items)
 
 pub returns-clause-ok : goal.returns-clause-ok
-returns-clause-ok c = WrittenSoFar-all _ _ _ _ c.loop-name.invariant c.in_default.ensures
+returns-clause-ok c = WrittenSoFar-all name_text _ _ _ _ c.loop-name.invariant c.in_default.ensures
