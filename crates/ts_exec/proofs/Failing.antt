@@ -123,10 +123,6 @@ pub on_err : {U A : Type 0} (r : Result U A) (P : Type 0) → P → OnErr r P
 on_err (Ok u) P h = tt
 on_err (Err a) P h = h
 
-pub on_ok : {U A : Type 0} (r : Result U A) (P : Type 0) → P → OnOk r P
-on_ok (Ok u) P h = h
-on_ok (Err a) P h = tt
-
 pub on_ok_map : {U A : Type 0} (r : Result U A) (P Q : Type 0) → OnOk r P → (P → Q) → OnOk r Q
 on_ok_map (Ok u) P Q h f = f h
 on_ok_map (Err a) P Q h f = tt

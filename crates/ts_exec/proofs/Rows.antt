@@ -129,9 +129,6 @@ taken_among c k ks h = map_some (takes k) (λ j. Take c j) k ks (Among-from_Cont
 pub takes_more : (c n d : ℕ) (ks : List ℕ) → n < length ks → takes_for c (take (n + 1) ks) ≡ takes_for c (take n ks) ++ Take c (get_or ks n d) ∷ []
 takes_more c n d ks h = ap (takes_for c) (take_more ks n d h) ∙ map-append (λ k. Take c k) (take n ks) (get_or ks n d ∷ [])
 
-pub releases_more : (i n d : ℕ) (js : List ℕ) → n < length js → releases_for i (take (n + 1) js) ≡ releases_for i (take n js) ++ Release i (get_or js n d) ∷ []
-releases_more i n d js h = ap (releases_for i) (take_more js n d h) ∙ map-append (λ j. Release i j) (take n js) (get_or js n d ∷ [])
-
 -- ---- what stands at a place
 
 pub contains_at : (xs : List ℕ) (n d : ℕ) → n < length xs → Contains xs (get_or xs n d)

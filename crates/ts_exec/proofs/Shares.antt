@@ -1,6 +1,5 @@
 -- Shares of the board that passes have.
-use Rattle.std.proofs.Common.{◌≡◌, ℕ, ◌+◌, ◌*◌, ◌^◌, ◌/◌, sym, ap, ◌∙◌, arith, mul_assoc, add-mul, pow-add, pow_pos}
-use Rattle.std.proofs.Math.Nat.{mul-div_cancel, mul-div_cancel_left}
+use Rattle.std.proofs.Common.{◌≡◌, ℕ, ◌+◌, ◌*◌, ◌^◌, sym, ap, ◌∙◌, arith, mul_assoc, add-mul, pow-add}
 
 -- a pass that was cut off by one, and put together with what became of the other half
 pub fork_share : (a c b d : ℕ) → b * 2 ^ (c + 1) ≡ a * 2 ^ d → (b * 2 ^ (c + 1) + a * 2 ^ d) * 2 ^ c ≡ a * 2 ^ (d + (c + 1))
@@ -10,14 +9,6 @@ fork_share a c b d e =
     let right : a * 2 ^ (d + (c + 1)) ≡ x * (2 ^ c * 2 ^ 1) = ap (λ (z : ℕ). a * z) (pow-add 2 d (c + 1)) ∙ sym (mul_assoc a (2 ^ d) (2 ^ (c + 1))) ∙ ap (λ (z : ℕ). x * z) (pow-add 2 c 1) in
     let twice : x * (2 ^ c * 2) ≡ (x * 2 ^ c) * 2 = sym (mul_assoc x (2 ^ c) 2) in
     left ∙ add-mul x x (2 ^ c) ∙ (let s : x * 2 ^ c + x * 2 ^ c ≡ (x * 2 ^ c) * 2 = omega arith in s) ∙ sym twice ∙ sym right
-
--- a pass with the share of a whole one is whole
-pub whole_share : (a c b d : ℕ) → a ≡ 2 ^ c → b * 2 ^ c ≡ a * 2 ^ d → b ≡ 2 ^ d
-whole_share a c b d whole same =
-    sym (mul-div_cancel b (pow_pos c)) ∙ ap (λ (z : ℕ). z / 2 ^ c) (same ∙ ap (λ (z : ℕ). z * 2 ^ d) whole) ∙ mul-div_cancel_left (2 ^ d) (pow_pos c)
-
-pub same_part_share : (a c b d : ℕ) → b ≡ a → d ≡ c → b * 2 ^ c ≡ a * 2 ^ d
-same_part_share a c b d e f = (λ i. e i * 2 ^ (sym f i))
 
 -- the same by what is known of the passes: both halves, what became of them, and the two put together
 pub halves_share : (a c o oc t tc w wc b d r rc : ℕ) → o ≡ a → oc ≡ c + 1 → t ≡ a → tc ≡ c + 1 → w ≡ t → wc ≡ tc → b * 2 ^ oc ≡ o * 2 ^ d → r ≡ b * 2 ^ wc + w * 2 ^ d → rc ≡ d + wc → r * 2 ^ c ≡ a * 2 ^ rc

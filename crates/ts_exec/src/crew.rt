@@ -55,6 +55,7 @@ pub struct Crew {
 impl Crew {
     /// A crew of so many workers. The actions that wait for nothing are dealt out to them round by number.
     pub fn gather(alloc: Global, checked: &Checked<'_>, workers: u32) -> Result<Crew, AllocError>
+        ensures workers { IfOk result (λ crew. (length crew.members.items ≡ workers) × (length crew.queues.items ≡ workers)) }
         ensures members { IfOk result (λ crew. All (λ m. m.failures.items ≡ []) crew.members.items) }
         ensures faults { IfOk result (λ crew. length crew.faults.items ≡ length checked.now.plan.actions) }
         ensures results { IfOk result (λ crew. (crew.results.items ≡ []) × (length checked.now.plan.actions ≤ vec_capacity crew.results)) }
@@ -90,7 +91,8 @@ fn members_with(
     queues: Vec<Worker<u32>>,
     actions: usize,
 ) -> Result<Vec<Member>, AllocError>
-    ensures { IfOk result (λ members. All (λ m. m.failures.items ≡ []) members.items) }
+    ensures count { IfOk result (λ members. length members.items ≡ length queues.items) }
+    ensures fresh { IfOk result (λ members. All (λ m. m.failures.items ≡ []) members.items) }
 {
     let mut members = Vec::with_capacity(alloc, queues.len())?;
     for freed in queues {

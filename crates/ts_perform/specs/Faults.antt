@@ -1,5 +1,6 @@
--- The faults of commands: their numbers, and what becomes of the faults of the crates below.
-use Rattle.std.specs.Prelude.{ℕ}
+-- The faults of commands: their numbers, the lines that tell them, and what becomes of the faults of the crates below.
+use Rattle.std.specs.Prelude.{ℕ, List, [], ◌∷◌, ◌++◌, Option, Some, None, codes, decimal}
+use Rattle.ts_name.specs.Paths.{Path, path_text}
 use Rattle.ts_archive.specs.declared.fault.ArchiveFault.{ArchiveFault}
 use Rattle.ts_archive.specs.declared.fault.ArchiveFault.TheVariants as archive
 use Rattle.ts_check.specs.declared.fault.CheckFault.{CheckFault}
@@ -16,7 +17,7 @@ use Rattle.ts_report.specs.declared.fault.ReportFault.{ReportFault}
 use Rattle.ts_report.specs.declared.fault.ReportFault.TheVariants as report
 use Rattle.ts_resume.specs.declared.fault.ResumeFault.{ResumeFault}
 use Rattle.ts_resume.specs.declared.fault.ResumeFault.TheVariants as resume
-use Rattle.ts_scan.specs.Faults.{fault_number as scan_number}
+use Rattle.ts_scan.specs.Faults.{fault_number as scan_number, place_of as scan_place}
 use Rattle.ts_text.specs.declared.fault.TextFault.{TextFault}
 use Rattle.ts_text.specs.declared.fault.TextFault.TheVariants as text
 use Rattle.ts_trial.specs.declared.fault.TrialFault.{TrialFault}
@@ -35,6 +36,25 @@ fault_number (fault.BadRule line) = 11
 fault_number fault.PastLimit = 12
 fault_number (fault.Broken rule place) = 13
 fault_number (fault.Scan scan) = scan_number scan
+
+-- only what a scan met has a place
+abbrev pub place_of : PerformFault → Option Path
+place_of fault.OutOfMemory = None
+place_of fault.Failed = None
+place_of fault.NotCanonical = None
+place_of fault.WrongEnd = None
+place_of fault.Device = None
+place_of fault.NotThere = None
+place_of (fault.BadRule line) = None
+place_of fault.PastLimit = None
+place_of (fault.Broken rule place) = None
+place_of (fault.Scan scan) = scan_place scan
+
+-- the number, and the path where there is one other than the root
+abbrev pub fault_line : ℕ → Option Path → List ℕ
+fault_line number None = codes "twosync: fault " ++ decimal number
+fault_line number (Some []) = codes "twosync: fault " ++ decimal number
+fault_line number (Some (name ∷ path)) = codes "twosync: fault " ++ decimal number ++ 32 ∷ path_text (name ∷ path)
 
 abbrev pub fault_of_text : TextFault → PerformFault
 fault_of_text text.OutOfMemory = fault.OutOfMemory

@@ -1,7 +1,9 @@
 //! The lines that tell faults and verdicts.
 ghost use Rattle.std.specs.Prelude.{◌≡◌, ◌∷◌, ◌++◌, [], codes, decimal, OnOk};
+ghost use Rattle.std.specs.Option.{option_copied};
 ghost use Rattle.ts_model.specs.Texts.{text};
 ghost use Rattle.ts_name.specs.Paths.{path_text};
+ghost use Rattle.ts_perform.specs.Faults.{fault_line};
 ghost use Rattle.ts_text.specs.Sources.{Writes};
 ghost use Rattle.ts_trial.specs.Answers.{refusal};
 
@@ -42,16 +44,27 @@ pub(crate) fn write_fault<W: Sink>(
     number: u8,
     path: Option<&Path>,
     err: &mut W,
-) -> Result<(), PerformFault> {
+) -> Result<(), PerformFault>
+    ensures { Writes (W.holds err.old) (W.holds err.new) (text (fault_line number (option_copied path.entry) ∷ [])) result }
+{
     let mut line = Vec::new(alloc);
-    line.extend_from_slice(b"twosync: fault ")?;
-    push_decimal(&mut line, u64::from(number))?;
-    if let Some(path) = path
-        && !path.is_root()
-    {
-        line.push(b' ')?;
-        path.write_text(&mut line)?;
-    }
+    push_fault(number, path, &mut line)?;
     write_line(err, &line)?;
+    Ok(())
+}
+
+/// Appends the line that tells a fault.
+fn push_fault(number: u8, path: Option<&Path>, line: &mut Vec<u8>) -> Result<(), AllocError>
+    ensures { OnOk result (line.new.items ≡ line.old.items ++ fault_line number (option_copied path.entry)) }
+{
+    line.extend_from_slice(b"twosync: fault ")?;
+    push_decimal(line, u64::from(number))?;
+    let Some(path) = path else {
+        return Ok(());
+    };
+    if !path.is_root() {
+        line.push(b' ')?;
+        path.write_text(line)?;
+    }
     Ok(())
 }

@@ -1,6 +1,7 @@
 //! Why a command ends without its answer.
+ghost use Rattle.std.specs.Option.{option_copied};
 ghost use Rattle.std.specs.Prelude.{◌≡◌};
-ghost use Rattle.ts_perform.specs.Faults.{fault_number, fault_of_archive, fault_of_check, fault_of_disk, fault_of_hold, fault_of_plan, fault_of_print, fault_of_report, fault_of_resume, fault_of_text, fault_of_trial};
+ghost use Rattle.ts_perform.specs.Faults.{fault_number, fault_of_archive, fault_of_check, fault_of_disk, fault_of_hold, fault_of_plan, fault_of_print, fault_of_report, fault_of_resume, fault_of_text, fault_of_trial, place_of};
 ghost use Rattle.ts_perform.specs.declared.fault.PerformFault.TheVariants as fault;
 
 use std::alloc::{AllocError, AllocFailed};
@@ -75,7 +76,9 @@ impl PerformFault {
     }
 
     /// Where the fault is, if it has a place in a replica.
-    pub fn path(&self) -> Option<&Path> {
+    pub fn path(&self) -> Option<&Path>
+        ensures { option_copied result ≡ place_of self.now }
+    {
         match self {
             PerformFault::Scan { fault } => fault.path(),
             _ => None,

@@ -14,13 +14,6 @@ use Rattle.ts_exec.specs.declared.crew.Member.{Member}
 use Rattle.ts_exec.proofs.Teams.{fresh_list, joined_share, of_popped, same_notes}
 use Rattle.ts_exec.proofs.crowd.+halves.Goals as goal
 
-pub work-worked-requires-clause-listed : goal.work-worked-requires-clause-listed
-work-worked-requires-clause-listed g t c κs within =
-    let j = c.args.job.now in let terms = terms_of g.S.Site.content j.board.now.table.shared.key in let theirs = c.in-Ok.halves.1 in let member = c.in-Some.member in
-    let x = setting_of g.S.Site.failures g.F.Folder.tells g.F.Folder.lets j.checked.now j.first.now j.second.now terms.told in
-    let empty : member.failures.items ≡ [] = of_popped (λ (m : Member). m.failures.items ≡ []) c.args.members.items c.pop.new.self.items c.pop.result member c.pop.ensures.items c.in-Some.is c.requires.fresh in
-    (fresh_list j.board.now.table.shared.table_id terms x theirs member.failures.items c.in-Ok.ensures.second c.in-Ok.ensures.mine.1 empty).listed
-
 pub returns-then-is_empty-clause-share : goal.returns-then-is_empty-clause-share
 returns-then-is_empty-clause-share g t c =
     joined_share c.args.pass c.in-Ok.halves.0 c.in-Ok.halves.1 c.in-Ok.halves.0 c.work-worked.result.pass c.put_together.result.0 c.in-Ok.ensures.parts.0 c.in-Ok.ensures.parts.1 refl c.work-worked.ensures.pass.1 c.put_together.ensures.part

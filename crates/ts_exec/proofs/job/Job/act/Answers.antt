@@ -61,9 +61,6 @@ returns-in-Piece-clause-told g c =
     let kind : KindIs plan c.args.held.now.action p = subst (λ (z : ℕ). KindIs plan z p) c.action.ensures (subst (λ (z : Kind). KindIs plan c.action.result z) c.in-Piece.is c.kind.ensures) in
     on_ok_map c.stage.result (HasRead x p w) (IsToldWork x (seen c.args.pass.now) c.args.held.now.action w) c.stage.ensures.read (λ h. (p, kind, h))
 
-pub returns-in-Commit-clause-told : goal.returns-in-Commit-clause-told
-returns-in-Commit-clause-told g c = c.commit.ensures.told
-
 pub returns-in-Mark-clause-told : goal.returns-in-Mark-clause-told
 returns-in-Mark-clause-told g c =
     let plan = c.args.self.now.checked.now.plan in

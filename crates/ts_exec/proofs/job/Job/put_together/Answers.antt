@@ -1,23 +1,10 @@
-use Rattle.std.proofs.Common.{◌≡◌, List, Some, sym, subst}
-use Rattle.std.specs.Prelude.{slice_get}
+use Rattle.std.proofs.Common.{List, sym, subst}
 use Rattle.ts_board.specs.Keys.{terms_of}
 use Rattle.ts_exec.specs.Failures.{setting_of}
 use Rattle.ts_exec.specs.Tidy.{IsListed, MayBe}
 use Rattle.ts_exec.specs.declared.crew.Failure.{Failure}
 use Rattle.ts_exec.proofs.Teams.{joined_notes}
 use Rattle.ts_exec.proofs.job.Job.put_together.Goals as goal
-
-pub note-requires-clause-room : goal.note-requires-clause-room
-note-requires-clause-room g c κs within = c.requires.notes.room
-
-pub note-requires-clause-within : goal.note-requires-clause-within
-note-requires-clause-within g c κs within = λ m e at. (c.requires.list.listed.may m e (subst (λ (z : List Failure). slice_get z m ≡ Some e) c.as_slice.ensures.value at)).0
-
-pub join-requires-clause-one : goal.join-requires-clause-one
-join-requires-clause-one g c κs within = c.requires.notes.of_board
-
-pub join-requires-clause-other : goal.join-requires-clause-other
-join-requires-clause-other g c κs within = c.requires.list.of_board
 
 pub returns-clause-notes : goal.returns-clause-notes
 returns-clause-notes g c =
@@ -26,6 +13,3 @@ returns-clause-notes g c =
     joined_notes j.board.now.table.shared.table_id t x c.args.pass c.args.worked.pass c.join.result c.args.faults.items c.note.new.faults.items c.args.worked.failures.items c.requires.notes c.requires.list c.join.ensures.pass c.join.ensures.this c.join.ensures.that
     c.join.ensures.mine c.note.ensures.room (λ r may. c.note.ensures.kept r (subst (λ (z : List Failure). MayBe x r z) (sym c.as_slice.ensures.value) may))
     (λ r may i l. c.note.ensures.noted r (subst (λ (z : List Failure). MayBe x r z) (sym c.as_slice.ensures.value) may) i (subst (λ (z : List Failure). IsListed i z) (sym c.as_slice.ensures.value) l))
-
-pub returns-clause-part : goal.returns-clause-part
-returns-clause-part g c = c.join.ensures.parts

@@ -1,9 +1,7 @@
-use Rattle.std.proofs.Common.{◌≡◌, ◌+◌, IfSome, sym, subst, arith}
+use Rattle.std.proofs.Common.{◌≡◌, ◌+◌, sym, subst, arith}
 use Rattle.ts_model.specs.Plans.{KindIs}
-use Rattle.ts_model.specs.Trees.{at}
 use Rattle.ts_model.specs.Runs.{Run}
 use Rattle.ts_model.specs.declared.plan.Kind.TheVariants.{Piece}
-use Rattle.ts_folder.specs.Folders.{Reads}
 use Rattle.ts_folder.specs.declared.folder.Call.TheVariants.{Read}
 use Rattle.ts_check.specs.Checkup.{snapshot_of}
 use Rattle.ts_board.specs.Calls.{work_of}
@@ -69,15 +67,4 @@ returns-clause-ok g c =
       staged_suits t j.checked.now c.stage.new.self.action c.args.entry c.args.offset c.args.length c.args.path.now (work_of c.stage.new.self) c.in_ok-bytes.bytes.items (j.plan, j.first_print, j.second_print)
           (subst (λ z. KindIs j.checked.now.plan z (Piece c.args.entry c.args.offset c.args.length c.args.path.now)) (sym same) c.requires.kind) c.stage.ensures.work (let h = c.if-len-length.false in omega arith),
       c.stage.ensures.told t c.requires.fresh.2,
-    )
-
-pub returns-clause-read : goal.returns-clause-read
-returns-clause-read g c =
-    let s = c.source.ensures in let p = c.args.path.now in let bytes = c.in_ok-bytes.bytes.items in (
-      bytes,
-      s.0,
-      s.1,
-      s.2,
-      c.stage.ensures.work,
-      subst (λ (z : g.row.F.Denot). IfSome (g.F.Folder.tells z) (λ rows. Reads (at rows p) c.args.offset c.args.length bytes)) s.3 c.in_ok-bytes.ensures.told,
     )
