@@ -1,11 +1,9 @@
 -- The loops over actions and entries: which entries are flagged, and the edits of those.
-use Rattle.std.proofs.Common.{◌≡◌, ◌≢◌, ℕ, zero, suc, ◌+◌, ◌*◌, ◌<◌, ◌≤◌, bit_and, Bool, true, false, cond, List, [], ◌∷◌, ◌++◌, length, drop, set, get_or, replicate, Option, Some, None, sym, refl, ap, ◌∙◌, subst, inl, inr, append_assoc, append-nil, drop-cons, arith}
-use Rattle.std.specs.Prelude.{slice_index}
+use Rattle.std.proofs.Common.{◌≡◌, ◌≢◌, ℕ, zero, suc, ◌+◌, ◌*◌, ◌<◌, ◌≤◌, bit_and, Bool, true, false, cond, List, [], ◌∷◌, ◌++◌, length, drop, get_or, replicate, Option, Some, None, sym, refl, ap, ◌∙◌, subst, inl, inr, append_assoc, append-nil, drop-cons, arith}
 use Rattle.std.proofs.Math.ListN.{drop_of_length-le}
 use Rattle.std.specs.Int.{bit_at}
 use Rattle.std.proofs.lemmas.Nat.Bits.{and_pow, bit_at-lt}
-use Rattle.std.proofs.lemmas.Bool.{true≢false, cases_eq}
-use Rattle.std.proofs.lemmas.List.{get_or-set_same, get_or-set_other}
+use Rattle.std.proofs.lemmas.Bool.{cases_eq}
 use Rattle.ts_name.specs.Paths.{Path}
 use Rattle.ts_model.specs.Plans.{KindIs}
 use Rattle.ts_model.specs.declared.row.Content.{Content}
@@ -18,7 +16,7 @@ use Rattle.ts_table.specs.declared.splice.Edit.{Edit}
 use Rattle.ts_laws.proofs.Steps.{same_kind}
 use Rattle.ts_carry.specs.Edits.{Gives, AreEdits}
 use Rattle.ts_carry.proofs.Edits.{push_edit}
-use Rattle.ts_board.specs.Archives.{IsDone, AreMarkedBelow, picked}
+use Rattle.ts_board.specs.Archives.{IsDone, picked}
 
 -- ---- flags
 
@@ -30,34 +28,6 @@ marked_entry (Piece e offset size p) = 0
 
 one_entry : (plan : Plan) (n d e : ℕ) → KindIs plan n (Mark d) → KindIs plan n (Mark e) → d ≡ e
 one_entry plan n d e x y = ap marked_entry (same_kind plan n (Mark d) (Mark e) x y)
-
--- action n is a mark and done, and its entry's flag is set
-pub flag_on : (plan : Plan) (words : List ℕ) (n e : ℕ) (flags : List Bool) → AreMarkedBelow n plan words flags → KindIs plan n (Mark e) → IsDone (slice_index words n) → e < length flags
-    → AreMarkedBelow (n + 1) plan words (set flags e true)
-flag_on plan words n e flags before kind done within = record {
-  only = λ d h. elim (cases_eq d e) [
-    | inl same ↦ (n, subst (λ z. KindIs plan n (Mark z)) (sym same) kind, done)
-    | inr differ ↦ before.only d (sym (get_or-set_other flags e d true false differ) ∙ h)
-  ];
-  all = λ i d less its is_done inside. elim (cases_eq d e) [
-    | inl same ↦ subst (λ z. get_or (set flags e true) z false ≡ true) (sym same) (get_or-set_same flags e true false within)
-    | inr differ ↦ get_or-set_other flags e d true false differ ∙ elim (cases_eq i n) [
-      | inl now ↦ absurd (differ (one_entry plan n d e (subst (λ z. KindIs plan z (Mark d)) now its) kind))
-      | inr other ↦ (let earlier : i < n = omega arith in before.all i d earlier its is_done inside)
-    ]
-  ];
-}
-
--- action n is no mark that is done, of an entry
-pub flag_off : (plan : Plan) (words : List ℕ) (n : ℕ) (flags : List Bool) → AreMarkedBelow n plan words flags
-    → ((e : ℕ) → KindIs plan n (Mark e) → IsDone (slice_index words n) → e < length plan.entries → ⊥) → AreMarkedBelow (n + 1) plan words flags
-flag_off plan words n flags before none = record {
-  only = before.only;
-  all = λ i d less its is_done inside. elim (cases_eq i n) [
-    | inl now ↦ absurd (none d (subst (λ z. KindIs plan z (Mark d)) now its) (subst (λ z. IsDone (slice_index words z)) now is_done) inside)
-    | inr other ↦ (let earlier : i < n = omega arith in before.all i d earlier its is_done inside)
-  ];
-}
 
 -- ---- edits
 
@@ -118,14 +88,3 @@ unset : (n e : ℕ) → get_or (replicate n false) e false ≡ false
 unset zero e = refl
 unset (suc n) zero = refl
 unset (suc n) (suc e) = unset n e
-
--- at the start no flag is set
-pub none_flagged : (plan : Plan) (words : List ℕ) (n : ℕ) (flags : List Bool) → flags ≡ replicate n false → AreMarkedBelow 0 plan words flags
-none_flagged plan words n flags same = record {
-  only = λ e h. absurd (true≢false (sym h ∙ ap (λ (l : List Bool). get_or l e false) same ∙ unset n e));
-  all = λ i e less its is_done inside. absurd (omega arith);
-}
-
--- at the end all actions were looked at
-pub all_flagged : (plan : Plan) (words : List ℕ) (n m : ℕ) (flags : List Bool) → n ≤ m → AreMarkedBelow m plan words flags → AreMarkedBelow n plan words flags
-all_flagged plan words n m flags most marked = record { only = marked.only; all = λ i e less its is_done inside. (let earlier : i < m = omega arith in marked.all i e earlier its is_done inside) }

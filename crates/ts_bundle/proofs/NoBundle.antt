@@ -1,17 +1,16 @@
 -- What a decoder answers after some lines.
-use Rattle.std.proofs.Common.{◌≡◌, ◌≢◌, List, ◌++◌, Err, sym, ap, ◌∙◌}
+use Rattle.std.proofs.Common.{◌≡◌, ◌≢◌, List, ◌++◌, Err, sym, ◌∙◌}
 use Rattle.ts_text.specs.Lines.{Reading, HasEnded, Answers}
 use Rattle.ts_text.specs.declared.fault.TextFault.{TextFault}
 use Rattle.ts_text.specs.declared.fault.TextFault.TheVariants as text_fault
-use Rattle.ts_model.specs.Texts.{Line, text, bundle_lines, IsBundleText}
+use Rattle.ts_model.specs.Texts.{Line, text, bundle_lines}
 use Rattle.ts_model.specs.Trial.{IsNoBundle}
 use Rattle.ts_tree.proofs.Lines.{AreTextLines, one_text}
 use Rattle.ts_tree.proofs.NoTree.{known_weaker}
 use Rattle.ts_tree.proofs.Taken.{Taken, taken_all, taken_failed, taken_first, taken_refused}
-use Rattle.ts_bundle.specs.Bundles.{BeginsNoBundle, SpellsBundle, SpellsNoBundle, values}
-use Rattle.ts_bundle.specs.Decoding.{DecodesBundle, FindsNoBundle}
+use Rattle.ts_bundle.specs.Bundles.{BeginsNoBundle, SpellsNoBundle}
+use Rattle.ts_bundle.specs.Decoding.{FindsNoBundle}
 use Rattle.ts_bundle.specs.Faults.{Refuses, fault_of_text}
-use Rattle.ts_bundle.specs.declared.bundle.Bundle.{Bundle as Held}
 use Rattle.ts_bundle.specs.declared.fault.BundleFault.{BundleFault}
 use Rattle.ts_bundle.specs.declared.fault.BundleFault.TheVariants as fault
 use Rattle.ts_bundle.proofs.Lines.{bundle_are_lines}
@@ -39,11 +38,3 @@ no_bundle_ended old now next fed fault.Failed taken ends refuses = absurd refuse
 no_bundle_ended old now next fed fault.Malformed taken ends refuses =
     known_weaker old.left (λ bytes. bytes ≡ text fed) IsNoBundle
     (λ bytes all b is. refuses b is.bundle (one_text (bundle_lines b) fed (bundle_are_lines b is.bundle) taken.lines (sym is.spelled ∙ all))) (taken_all old now next fed taken ends)
-
--- the lines ended, and are the bundle's
-pub bundle_ended : (old now next : Reading) (fed : List Line) (b : Held) → Taken old now fed → HasEnded now next → SpellsBundle fed b → DecodesBundle old b
-bundle_ended old now next fed b taken ends is = record {
-  bundle = is.bundle;
-  spelled = known_weaker old.left (λ bytes. bytes ≡ text fed) (λ bytes. IsBundleText bytes (values b))
-      (λ bytes all. record { bundle = is.bundle; spelled = all ∙ ap text (sym is.spelled) }) (taken_all old now next fed taken ends);
-}

@@ -1,5 +1,5 @@
 -- Each lawful piece of an entry is looked for among those that stand.
-use Rattle.std.proofs.Common.{◌≡◌, ◌≢◌, ℕ, ◌+◌, ◌-◌, ◌%◌, ◌<◌, ◌≤◌, min, [], ◌∷◌, ◌++◌, length, Some, None, slice_get, sym, refl, ap, ◌∙◌, subst, inl, inr, append-nil, arith}
+use Rattle.std.proofs.Common.{◌≡◌, ◌≢◌, ℕ, ◌+◌, ◌%◌, ◌<◌, ◌≤◌, [], ◌∷◌, ◌++◌, length, Some, slice_get, sym, refl, ap, ◌∙◌, subst, inl, inr, append-nil, arith}
 use Rattle.std.specs.BTreeMap.{BTreeMap, get}
 use Rattle.std.proofs.lemmas.Bool.{cases_eq, cases_lt, cases_order}
 use Rattle.std.proofs.lemmas.Option.{none-some, same_Some, slice_get_within}
@@ -18,7 +18,7 @@ use Rattle.ts_model.specs.declared.plan.Kind.TheVariants.{Piece}
 use Rattle.ts_model.specs.declared.plan.Plan.{Plan}
 use Rattle.ts_check.proofs.Rowed.{row_is, at_row, dir_row, file_row, rows_order}
 use Rattle.ts_check.proofs.Staging.{IsPieceOf-from, IsPieceIn-from, one_source}
-use Rattle.ts_check.specs.Pieces.{IsSourceOf, IsRowOf, IsStagedMap, HasAll, HasAllBelow, LacksRange, LacksBelow, LacksSome, NotEachOnce, IsAgain, Place, place_cmp}
+use Rattle.ts_check.specs.Pieces.{IsSourceOf, IsRowOf, IsStagedMap, HasAll, HasAllBelow, LacksBelow, LacksSome, NotEachOnce, IsAgain, Place, place_cmp}
 
 -- ---- the ranges of one file
 
@@ -26,9 +26,6 @@ use Rattle.ts_check.specs.Pieces.{IsSourceOf, IsRowOf, IsStagedMap, HasAll, HasA
 pub record AreBefore (map : BTreeMap Place ℕ) (e row offset : ℕ) : Type 0 where
   pub aligned : offset % 1048576 ≡ 0
   pub each : (o : ℕ) → o % 1048576 ≡ 0 → o < offset → (i : ℕ) × (get place_cmp map (e, (row, o)) ≡ Some i)
-
-pub AreBefore-none : (map : BTreeMap Place ℕ) (e row : ℕ) → AreBefore map e row 0
-AreBefore-none map e row = record { aligned = refl; each = λ o even less. absurd (omega arith) }
 
 -- one range more
 pub AreBefore-more : (map : BTreeMap Place ℕ) (e row offset i : ℕ) → AreBefore map e row offset → get place_cmp map (e, (row, offset)) ≡ Some i → AreBefore map e row (offset + 1048576)
@@ -43,10 +40,6 @@ AreBefore-more map e row offset i so_far here = record {
 -- all of them
 pub HasAll-from : (map : BTreeMap Place ℕ) (e row size offset : ℕ) → size ≤ offset → AreBefore map e row offset → HasAll map e row size
 HasAll-from map e row size offset past so_far o len range = so_far.each o range.aligned (let w = range.within in omega arith)
-
--- one that is lacking
-pub LacksRange-here : (map : BTreeMap Place ℕ) (e row size offset : ℕ) → offset < size → get place_cmp map (e, (row, offset)) ≡ None → AreBefore map e row offset → LacksRange map e row size
-LacksRange-here map e row size offset less none so_far = (offset, min 1048576 (size - offset), record { aligned = so_far.aligned; within = less; full = refl }, none)
 
 -- ---- the rows at or below a path
 

@@ -2,7 +2,7 @@
 use Rattle.std.proofs.Common.{◌≡◌, ◌≢◌, ℕ, zero, suc, ◌+◌, ◌<◌, ◌≤◌, List, [], ◌∷◌, length, replicate, set, get_or, Option, Some, None, slice_get, sym, refl, ap, ◌∙◌, subst, inl, inr, arith}
 use Rattle.std.proofs.lemmas.Bool.{cases_eq, cases_lt}
 use Rattle.std.proofs.lemmas.Option.{none-some, same_Some, slice_get_within, slice_get_read}
-use Rattle.std.proofs.lemmas.List.{length-set, length-replicate}
+use Rattle.std.proofs.lemmas.List.{length-set}
 use Rattle.ts_model.specs.Plans.{ActionIs, KindIs}
 use Rattle.ts_model.specs.declared.plan.Reason.{Reason}
 use Rattle.ts_model.specs.declared.plan.Reason.TheVariants as reason
@@ -56,16 +56,6 @@ same_kind plan i action kind is h = ap (λ (a : Action). a.kind) (same_Some acti
 pub record IsScanned (plan : Plan) (role : Role) (n : ℕ) (numbers : List ℕ) : Type 0 where
   pub index : IsIndex plan (kind_of role) n numbers
   pub right : (k : ℕ) → k < n → ¬ NotOneOf plan role k
-
-pub IsScanned-none : (plan : Plan) (role : Role) → IsScanned plan role 0 (replicate (length plan.entries) no_action)
-IsScanned-none plan role = record {
-  index = record {
-    size = length-replicate (length plan.entries) no_action;
-    found = λ e i at there. absurd (there (got_replicate (length plan.entries) no_action e i at));
-    complete = λ e i h. absurd (omega arith);
-  };
-  right = λ k h. absurd (omega arith);
-}
 
 -- no action's own place is a lacking one
 own_place : (plan : Plan) (n e : ℕ) (action : Action) → ActionIs plan n action → n ≡ length plan.actions + e → ⊥

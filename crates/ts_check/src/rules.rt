@@ -3,6 +3,7 @@ ghost use Rattle.ts_check.specs.Pieces.{IsStagedMap};
 ghost use Rattle.ts_check.specs.Places.{IsIndex, kind_of};
 ghost use Rattle.ts_check.specs.Verdict.{HoldBelow, IsSafe, IsTold};
 ghost use Rattle.ts_check.specs.declared.census.Role.TheVariants.{Commits, Marks};
+ghost use Rattle.ts_check.specs.declared.fault.CheckFault.TheVariants.{Broken};
 ghost use Rattle.ts_model.specs.Plans.{Valid, action_limit, entry_limit};
 ghost use Rattle.ts_model.specs.Sync.{listed_snapshot};
 ghost use Rattle.ts_need.specs.Needs.{AreListings, snapshot_of};
@@ -34,6 +35,13 @@ struct Index {
     staged: Staged,
 }
 
+/// The refusal of a plan that breaks this rule first, and here.
+fn broken(rule: PlanRule, place: u64) -> CheckFault
+    ensures { result ≡ Broken rule place }
+{
+    CheckFault::Broken { rule, place }
+}
+
 /// The rules about limits, entries and reasons.
 fn check_entries(alloc: Global, plan: &Plan, state: &State) -> Result<(), CheckFault>
     requires { AreListings state.now }
@@ -41,17 +49,11 @@ fn check_entries(alloc: Global, plan: &Plan, state: &State) -> Result<(), CheckF
     ensures told { IfErr result (IsTold (snapshot_of state.now) plan.now) }
 {
     if let Some(place) = limits::first_wrong(plan) {
-        return Err(CheckFault::Broken {
-            rule: PlanRule::Limits,
-            place,
-        });
+        return Err(broken(PlanRule::Limits, place));
     }
     let entries = plan.entries.as_slice();
     if let Some(place) = first_out_of_order(entries) {
-        return Err(CheckFault::Broken {
-            rule: PlanRule::EntriesAscend,
-            place: place as u64,
-        });
+        return Err(broken(PlanRule::EntriesAscend, place as u64));
     }
     match first_wrong(
         alloc,
@@ -61,10 +63,7 @@ fn check_entries(alloc: Global, plan: &Plan, state: &State) -> Result<(), CheckF
         state.second,
         state.holds,
     )? {
-        Some(broken) => Err(CheckFault::Broken {
-            rule: broken.rule,
-            place: broken.place,
-        }),
+        Some(found) => Err(broken(found.rule, found.place)),
         None => Ok(()),
     }
 }
@@ -80,39 +79,24 @@ fn check_actions(alloc: Global, plan: &Plan, state: &State) -> Result<Index, Che
     ensures staged { IfOk result (λ index. IsStagedMap state.now.first.now state.now.second.now plan.now (length plan.now.actions) index.staged) }
 {
     if let Some(place) = first_bad_preds(plan) {
-        return Err(CheckFault::Broken {
-            rule: PlanRule::PredsAscend,
-            place: place as u64,
-        });
+        return Err(broken(PlanRule::PredsAscend, place as u64));
     }
     let commits = match one_each(alloc, plan, Role::Commits)? {
         Ok(commits) => commits,
-        Err(place) => return Err(CheckFault::Broken {
-            rule: PlanRule::OneCommit,
-            place,
-        }),
+        Err(place) => return Err(broken(PlanRule::OneCommit, place)),
     };
     let first = state.first.rows();
     let second = state.second.rows();
     if let Some(place) = first_unlawful(plan, first, second) {
-        return Err(CheckFault::Broken {
-            rule: PlanRule::PiecesLawful,
-            place: place as u64,
-        });
+        return Err(broken(PlanRule::PiecesLawful, place as u64));
     }
     let staged = match each_once(alloc, plan, first, second)? {
         Ok(staged) => staged,
-        Err(place) => return Err(CheckFault::Broken {
-            rule: PlanRule::PiecesComplete,
-            place,
-        }),
+        Err(place) => return Err(broken(PlanRule::PiecesComplete, place)),
     };
     let marks = match one_each(alloc, plan, Role::Marks)? {
         Ok(marks) => marks,
-        Err(place) => return Err(CheckFault::Broken {
-            rule: PlanRule::OneMark,
-            place,
-        }),
+        Err(place) => return Err(broken(PlanRule::OneMark, place)),
     };
     Ok(Index {
         commits,
@@ -130,23 +114,14 @@ fn check_order(alloc: Global, plan: &Plan, state: &State, index: &Index) -> Resu
     ensures told { IfErr result (IsTold (snapshot_of state.now) plan.now) }
 {
     if let Some(place) = first_without_piece(plan, &index.commits) {
-        return Err(CheckFault::Broken {
-            rule: PlanRule::PiecesFirst,
-            place: place as u64,
-        });
+        return Err(broken(PlanRule::PiecesFirst, place as u64));
     }
     if let Some(place) = first_without_commit(plan, &index.commits) {
-        return Err(CheckFault::Broken {
-            rule: PlanRule::CommitFirst,
-            place: place as u64,
-        });
+        return Err(broken(PlanRule::CommitFirst, place as u64));
     }
     let nearest = nearest_dirs(alloc, plan.entries.as_slice())?;
     match first_without_dir(plan, &nearest, &index.marks) {
-        Some(place) => Err(CheckFault::Broken {
-            rule: PlanRule::DirFirst,
-            place: place as u64,
-        }),
+        Some(place) => Err(broken(PlanRule::DirFirst, place as u64)),
         None => Ok(()),
     }
 }

@@ -122,13 +122,6 @@ pub above_first : (ps : List Path) (p : Path) (at : ℕ) → AreAscending ps →
 above_first ps p at ascending topmost parts none l =
     (λ e. absurd (false_not_true false refl e), λ found. absurd (above_none ps p at (omega arith) ascending topmost parts (λ more. absurd (omega arith)) none found))
 
--- either test
-pub touches_yes : (A B : Type 0) (b : Bool) → b ≡ true → (IsTrue b ↔ B) → IsTrue true ↔ (A ⊎ B)
-touches_yes A B b e test = (λ _. inr (test.0 e), λ _. refl)
-
-pub touches_else : (A B : Type 0) (b c : Bool) → b ≡ false → (IsTrue b ↔ B) → (IsTrue c ↔ A) → IsTrue c ↔ (A ⊎ B)
-touches_else A B b c e test more = (λ h. inl (more.0 h), λ h. elim h [ inl a ↦ more.1 a | inr b_is ↦ absurd (false_not_true b e (test.1 b_is)) ])
-
 -- ---- what is found says what is dirty
 
 -- whether two contents are one

@@ -12,7 +12,7 @@ use Rattle.ts_model.specs.Trees.{Listing, listed, at, Ascend, IsListing}
 use Rattle.ts_model.specs.declared.row.Content.{Content}
 use Rattle.ts_model.specs.declared.row.Content.TheVariants.{Absent}
 use Rattle.ts_model.specs.declared.row.Row.{Row}
-use Rattle.ts_dirty.specs.Walks.{ArePlain, IsStep, HasNoneBefore, IsEarlier, IsLeastPath, Left, IsWalkStep, left_count}
+use Rattle.ts_dirty.specs.Walks.{ArePlain, IsStep, HasNoneBefore, IsEarlier, IsLeastPath}
 use Rattle.ts_name.specs.Laws.{path_total, tied_paths, same_path_itself, same_path_differ}
 use Rattle.ts_name.proofs.Order.{before_itself, before_trans, before_cases, before_turned, decide_before}
 use Rattle.ts_dirty.proofs.Order.{before_upto, upto_before}
@@ -74,14 +74,6 @@ step_left {F} row rows p h less = record {
 -- without rows each path is a step
 pub step_none : {F : Type 0} (p : Path) → IsStep {F = F} p Absent [] []
 step_none p = record { here = refl; before = λ q h. refl; later = λ q h. refl; gone = λ q h. refl; no_more = omega arith; less = λ there. absurd (there refl) }
-
--- the rows of a listing are plain
-pub ArePlain-from_listing : {F : Type 0} (rows : Listing F) → IsListing rows → ArePlain rows
-ArePlain-from_listing {F} rows lists = record { ascending = lists.ascending; there = each rows lists.rows_are }
-  where
-    each : (rows : Listing F) → AllByRecursion (λ row. IsPath row.path × (row.path ≢ []) × (row.content ≢ Absent)) rows → AllByRecursion (λ row. row.content ≢ Absent) rows
-    each [] h = tt
-    each (row ∷ rows) h = (h.0.2, each rows h.1)
 
 -- the root is not listed
 pub root_not_listed : {F : Type 0} (rows : Listing F) → AllByRecursion (λ row. IsPath row.path × (row.path ≢ []) × (row.content ≢ Absent)) rows → listed rows [] ≡ Absent
@@ -273,13 +265,3 @@ least_path x y (Some path) archive first second in_x in_y in_z = go y x in_y in_
           | inl f ↦ inl (some_x x in_x (f ∙ ap (λ (p : Path). Some p) g))
           | inr there ↦ inr (inl (subst (λ (p : Path). listed first p ≢ Absent) g there))
         ]
-
--- a walk's step leaves less
-pub walk_less : (p : Path) (archive first second : Content Stamp) (old new : Left) → IsWalkStep p archive first second old new → left_count new < left_count old
-walk_less p archive first second old new step = elim step.some [
-  | inl there ↦ let a : length new.archive < length old.archive = step.in_archive.less there in let b = step.in_first.no_more in let d = step.in_second.no_more in omega arith
-  | inr more ↦ elim more [
-    | inl there ↦ let a : length new.first < length old.first = step.in_first.less there in let b = step.in_archive.no_more in let d = step.in_second.no_more in omega arith
-    | inr there ↦ let a : length new.second < length old.second = step.in_second.less there in let b = step.in_archive.no_more in let d = step.in_first.no_more in omega arith
-  ]
-]

@@ -44,13 +44,6 @@ first_or_later pattern x name fits = go fits.0 fits.1 fits.2 fits.3
     go [] rest is fits = inl (subst (λ z. Fits pattern z) (sym is) fits)
     go (y ∷ front) rest is fits = inr (front, rest, (let e : x ∷ name ≡ y ∷ (front ++ rest) = is in cc), fits)
 
-pub only_whole : (pattern : List Symbol) → Fits (Star ∷ pattern) [] → Fits pattern []
-only_whole pattern fits = go fits.0 fits.1 fits.2 fits.3
-  where
-    go : (front rest : Name) → [] ≡ front ++ rest → Fits pattern rest → Fits pattern []
-    go [] rest is fits = subst (λ z. Fits pattern z) (sym is) fits
-    go (y ∷ front) rest is fits = absurd (let e : [] ≡ y ∷ (front ++ rest) = is in cc)
-
 -- what fits the rest fits the whole, and the other way round
 pub fits_whole : (pattern : List Symbol) (name : Name) (symbols : List Symbol) (bytes : Name) → Passed pattern name symbols bytes → Fits symbols bytes → Fits pattern name
 fits_whole pattern name symbols bytes passed fits =

@@ -1,12 +1,10 @@
 -- From a path up to the root.
-use Rattle.std.proofs.Common.{◌≡◌, ◌≢◌, ℕ, suc, ◌<◌, List, [], ◌∷◌, ◌++◌, length, MatchOption, Option, Some, None, sym, refl, ap, ◌∙◌, subst, append_assoc, append-nil, arith}
-use Rattle.std.proofs.lemmas.List.{length-append}
+use Rattle.std.proofs.Common.{◌≡◌, ◌≢◌, ℕ, suc, List, [], ◌∷◌, ◌++◌, length, MatchOption, Option, Some, None, sym, refl, ap, ◌∙◌, subst, append_assoc, append-nil}
 use Rattle.std.proofs.lemmas.Option.{none-some, same_Some}
 use Rattle.ts_name.specs.Paths.{Name, Path, IsAbove}
 use Rattle.ts_model.specs.Holds.{Names}
 use Rattle.ts_model.specs.declared.hold.Rule.{Rule}
 use Rattle.ts_name.proofs.Prefixes.{above_parent}
-use Rattle.ts_need.specs.Needs.{IsNamedAbove}
 
 -- the named paths strictly above p are at or above this one
 pub record IsClimb (rules : List Rule) (p : Path) (up : Option Path) : Type 0 where
@@ -52,16 +50,3 @@ IsClimb-up rules p q old up is climb unnamed parent = record { covers = λ h nam
         let same : s ≡ r = same_Some s r (sym f ∙ e) in
         let at = climb.place q is in
         (above.0, at.0 ∷ at.1, at.2 ∙ ap (λ z. z ++ at.0 ∷ at.1) (above.1 ∙ ap (λ z. z ++ above.0 ∷ []) same) ∙ append_assoc r (above.0 ∷ []) (at.0 ∷ at.1))
-
--- a named path met on the way is above
-pub climb_found : (rules : List Rule) (p q : Path) (up : Option Path) → up ≡ Some q → IsClimb rules p up → Names rules q → IsNamedAbove rules p
-climb_found rules p q up is climb named = let at = climb.place q is in (q, at.0, at.1, at.2, named)
-
--- at the root there is none left
-pub climb_end : (rules : List Rule) (p : Path) (up : Option Path) → up ≡ None → IsClimb rules p up → ¬ IsNamedAbove rules p
-climb_end rules p up is climb h = let found = climb.covers h.0 h.1 h.2 h.3 h.4 in none-some found.0 (sym is ∙ found.1)
-
--- each step is shorter
-pub climb_shorter : (q : Path) (up : Option Path) → IsParent q up → climb_left up < suc (length q)
-climb_shorter q None root = omega arith
-climb_shorter q (Some r) parent = let e = ap length parent.1 in omega (arith, length-append r (parent.0 ∷ []))

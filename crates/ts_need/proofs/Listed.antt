@@ -27,9 +27,6 @@ same_lists (x ∷ xs) (y ∷ ys) size each = ap₂ ◌∷◌ (same_Some x y (eac
 pub Any-from : {A : Type 0} (P : A → Type 0) (xs : List A) (k : ℕ) (x : A) → slice_get xs k ≡ Some x → P x → Any P xs
 Any-from P xs k x is h = (k, x, slice_get_within xs k x is, get_or_from_slice_get xs k x x is, h)
 
-pub Any-at : {A : Type 0} (P : A → Type 0) (xs : List A) → Any P xs → (k : ℕ) × (x : A) × (slice_get xs k ≡ Some x) × P x
-Any-at P xs h = (h.0, h.1, slice_get_read xs (length xs) h.0 h.1 refl h.2 (sym h.3), h.4)
-
 -- each row has its fact
 pub all_at : {A : Type 0} (P : A → Type 0) (xs : List A) → AllByRecursion P xs → (k : ℕ) (x : A) → slice_get xs k ≡ Some x → P x
 all_at P [] all k x e = absurd (none-some x e)

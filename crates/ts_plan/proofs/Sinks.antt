@@ -40,12 +40,6 @@ chunk_more : {A : Type 0} (g : A → List ℕ) (xs : List A) (i : ℕ) (x : A) �
 chunk_more g xs i x small is =
     ap (flat_map g) (take_more xs i x small) ∙ flat_map-append g (take i xs) (get_or xs i x ∷ []) ∙ ap (λ z. flat_map g (take i xs) ++ z) (append-nil (g (get_or xs i x)) ∙ ap g (sym is))
 
--- one item more went out
-pub loop_more : {A : Type 0} (g : A → List ℕ) (xs : List A) (i : ℕ) (x : A) (old mid new : Option (List ℕ)) (a b c : ℕ) → i < length xs → x ≡ get_or xs i x
-    → Appends old mid (flat_map g (take i xs)) → b ≡ a → Appends mid new (g x) × (c ≡ b) → Appends old new (flat_map g (take (i + 1) xs)) × (c ≡ a)
-loop_more g xs i x old mid new a b c small is added same h =
-    (subst (λ z. Appends old new z) (sym (chunk_more g xs i x small is)) (Appends-trans old mid new (flat_map g (take i xs)) (g x) added h.0), h.1 ∙ same)
-
 -- one item failed
 pub loop_failed : {A : Type 0} (g : A → List ℕ) (xs : List A) (i : ℕ) (x : A) (old mid new : Option (List ℕ)) (a b c : ℕ) (f : PlanFault) → i < length xs → x ≡ get_or xs i x
     → Appends old mid (flat_map g (take i xs)) → b ≡ a → Sends {A = Unit {0}} mid new b c (g x) (Err f) → Sends {A = Unit {0}} old new a c (flat_map g xs) (Err f)

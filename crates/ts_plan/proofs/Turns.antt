@@ -224,7 +224,3 @@ not_ended p is going q is_q e =
     let done = completed q in
     let here : Some done.0 ≡ Some p = sym done.1 ∙ ap (run start) (same ∙ sym (append-nil (steps p))) ∙ run_steps p [] is in
     going (sym (ap (λ z. z.part) (some_one done.0 p here)) ∙ done.2)
-
--- the lines of the plan that was read
-pub lines_read : (p : Progress) → p.part ≡ Ended → plan_lines (plan_of p) ≡ fed p
-lines_read p end = ap (λ z. fed_in z p.entries (all_actions p)) (sym end)

@@ -114,39 +114,6 @@ refuse_piece fields none (line.Action (Mark e)) fits same = absurd (let k : ◌�
 refuse_piece fields none (line.Pred j) fits same = absurd (let k : ◌≡◌ {A = ℕ} 5112 1112 = ap key (line_parts (codes "piece") fields (line.Pred j) (tested_word (codes "piece") refl) same).0 in omega arith)
 refuse_piece fields none (line.End m n) fits same = absurd (let k : ◌≡◌ {A = ℕ} 5112 3101 = ap key (line_parts (codes "piece") fields (line.End m n) (tested_word (codes "piece") refl) same).0 in omega arith)
 
--- no line of a commit
-pub refuse_commit : (fields : List ℕ) → ((n : ℕ) → n < 2 ^ 32 → fields ≢ decimal n) → (l : PlanLine) → LineFits l → codes "commit" ++ 32 ∷ fields ≢ line_text l
-unfolding key
-refuse_commit fields none line.Header fits same = absurd (let k : ◌≡◌ {A = ℕ} 6099 12116 = ap key (line_parts (codes "commit") fields line.Header (tested_word (codes "commit") refl) same).0 in omega arith)
-refuse_commit fields none (line.Entry e) fits same = absurd (let k : ◌≡◌ {A = ℕ} 6099 5101 = ap key (line_parts (codes "commit") fields (line.Entry e) (tested_word (codes "commit") refl) same).0 in omega arith)
-refuse_commit fields none (line.Action (Piece e offset size p)) fits same = absurd (let k : ◌≡◌ {A = ℕ} 6099 5112 = ap key (line_parts (codes "commit") fields (line.Action (Piece e offset size p)) (tested_word (codes "commit") refl) same).0 in omega arith)
-refuse_commit fields none (line.Action (Commit e)) fits same = none e fits (line_parts (codes "commit") fields (line.Action (Commit e)) (tested_word (codes "commit") refl) same).1
-refuse_commit fields none (line.Action (Mark e)) fits same = absurd (let k : ◌≡◌ {A = ℕ} 6099 4109 = ap key (line_parts (codes "commit") fields (line.Action (Mark e)) (tested_word (codes "commit") refl) same).0 in omega arith)
-refuse_commit fields none (line.Pred j) fits same = absurd (let k : ◌≡◌ {A = ℕ} 6099 1112 = ap key (line_parts (codes "commit") fields (line.Pred j) (tested_word (codes "commit") refl) same).0 in omega arith)
-refuse_commit fields none (line.End m n) fits same = absurd (let k : ◌≡◌ {A = ℕ} 6099 3101 = ap key (line_parts (codes "commit") fields (line.End m n) (tested_word (codes "commit") refl) same).0 in omega arith)
-
--- no line of a mark
-pub refuse_mark : (fields : List ℕ) → ((n : ℕ) → n < 2 ^ 32 → fields ≢ decimal n) → (l : PlanLine) → LineFits l → codes "mark" ++ 32 ∷ fields ≢ line_text l
-unfolding key
-refuse_mark fields none line.Header fits same = absurd (let k : ◌≡◌ {A = ℕ} 4109 12116 = ap key (line_parts (codes "mark") fields line.Header (tested_word (codes "mark") refl) same).0 in omega arith)
-refuse_mark fields none (line.Entry e) fits same = absurd (let k : ◌≡◌ {A = ℕ} 4109 5101 = ap key (line_parts (codes "mark") fields (line.Entry e) (tested_word (codes "mark") refl) same).0 in omega arith)
-refuse_mark fields none (line.Action (Piece e offset size p)) fits same = absurd (let k : ◌≡◌ {A = ℕ} 4109 5112 = ap key (line_parts (codes "mark") fields (line.Action (Piece e offset size p)) (tested_word (codes "mark") refl) same).0 in omega arith)
-refuse_mark fields none (line.Action (Commit e)) fits same = absurd (let k : ◌≡◌ {A = ℕ} 4109 6099 = ap key (line_parts (codes "mark") fields (line.Action (Commit e)) (tested_word (codes "mark") refl) same).0 in omega arith)
-refuse_mark fields none (line.Action (Mark e)) fits same = none e fits (line_parts (codes "mark") fields (line.Action (Mark e)) (tested_word (codes "mark") refl) same).1
-refuse_mark fields none (line.Pred j) fits same = absurd (let k : ◌≡◌ {A = ℕ} 4109 1112 = ap key (line_parts (codes "mark") fields (line.Pred j) (tested_word (codes "mark") refl) same).0 in omega arith)
-refuse_mark fields none (line.End m n) fits same = absurd (let k : ◌≡◌ {A = ℕ} 4109 3101 = ap key (line_parts (codes "mark") fields (line.End m n) (tested_word (codes "mark") refl) same).0 in omega arith)
-
--- no line of a predecessor
-pub refuse_pred : (fields : List ℕ) → ((n : ℕ) → n < 2 ^ 32 → fields ≢ decimal n) → (l : PlanLine) → LineFits l → codes "p" ++ 32 ∷ fields ≢ line_text l
-unfolding key
-refuse_pred fields none line.Header fits same = absurd (let k : ◌≡◌ {A = ℕ} 1112 12116 = ap key (line_parts (codes "p") fields line.Header (tested_word (codes "p") refl) same).0 in omega arith)
-refuse_pred fields none (line.Entry e) fits same = absurd (let k : ◌≡◌ {A = ℕ} 1112 5101 = ap key (line_parts (codes "p") fields (line.Entry e) (tested_word (codes "p") refl) same).0 in omega arith)
-refuse_pred fields none (line.Action (Piece e offset size p)) fits same = absurd (let k : ◌≡◌ {A = ℕ} 1112 5112 = ap key (line_parts (codes "p") fields (line.Action (Piece e offset size p)) (tested_word (codes "p") refl) same).0 in omega arith)
-refuse_pred fields none (line.Action (Commit e)) fits same = absurd (let k : ◌≡◌ {A = ℕ} 1112 6099 = ap key (line_parts (codes "p") fields (line.Action (Commit e)) (tested_word (codes "p") refl) same).0 in omega arith)
-refuse_pred fields none (line.Action (Mark e)) fits same = absurd (let k : ◌≡◌ {A = ℕ} 1112 4109 = ap key (line_parts (codes "p") fields (line.Action (Mark e)) (tested_word (codes "p") refl) same).0 in omega arith)
-refuse_pred fields none (line.Pred j) fits same = none j fits (line_parts (codes "p") fields (line.Pred j) (tested_word (codes "p") refl) same).1
-refuse_pred fields none (line.End m n) fits same = absurd (let k : ◌≡◌ {A = ℕ} 1112 3101 = ap key (line_parts (codes "p") fields (line.End m n) (tested_word (codes "p") refl) same).0 in omega arith)
-
 -- no last line
 pub refuse_end : (fields : List ℕ) → ((m n : ℕ) → m < 2 ^ 64 → n < 2 ^ 64 → fields ≢ decimal m ++ 32 ∷ decimal n) → (l : PlanLine) → LineFits l → codes "end" ++ 32 ∷ fields ≢ line_text l
 unfolding key
@@ -157,17 +124,6 @@ refuse_end fields none (line.Action (Commit e)) fits same = absurd (let k : ◌�
 refuse_end fields none (line.Action (Mark e)) fits same = absurd (let k : ◌≡◌ {A = ℕ} 3101 4109 = ap key (line_parts (codes "end") fields (line.Action (Mark e)) (tested_word (codes "end") refl) same).0 in omega arith)
 refuse_end fields none (line.Pred j) fits same = absurd (let k : ◌≡◌ {A = ℕ} 3101 1112 = ap key (line_parts (codes "end") fields (line.Pred j) (tested_word (codes "end") refl) same).0 in omega arith)
 refuse_end fields none (line.End m n) fits same = none m n fits.0 fits.1 (line_parts (codes "end") fields (line.End m n) (tested_word (codes "end") refl) same).1
-
--- no first line
-pub refuse_header : (fields : List ℕ) → (fields ≢ codes "1") → (l : PlanLine) → LineFits l → codes "twosync-plan" ++ 32 ∷ fields ≢ line_text l
-unfolding key
-refuse_header fields none line.Header fits same = none (line_parts (codes "twosync-plan") fields line.Header (tested_word (codes "twosync-plan") refl) same).1
-refuse_header fields none (line.Entry e) fits same = absurd (let k : ◌≡◌ {A = ℕ} 12116 5101 = ap key (line_parts (codes "twosync-plan") fields (line.Entry e) (tested_word (codes "twosync-plan") refl) same).0 in omega arith)
-refuse_header fields none (line.Action (Piece e offset size p)) fits same = absurd (let k : ◌≡◌ {A = ℕ} 12116 5112 = ap key (line_parts (codes "twosync-plan") fields (line.Action (Piece e offset size p)) (tested_word (codes "twosync-plan") refl) same).0 in omega arith)
-refuse_header fields none (line.Action (Commit e)) fits same = absurd (let k : ◌≡◌ {A = ℕ} 12116 6099 = ap key (line_parts (codes "twosync-plan") fields (line.Action (Commit e)) (tested_word (codes "twosync-plan") refl) same).0 in omega arith)
-refuse_header fields none (line.Action (Mark e)) fits same = absurd (let k : ◌≡◌ {A = ℕ} 12116 4109 = ap key (line_parts (codes "twosync-plan") fields (line.Action (Mark e)) (tested_word (codes "twosync-plan") refl) same).0 in omega arith)
-refuse_header fields none (line.Pred j) fits same = absurd (let k : ◌≡◌ {A = ℕ} 12116 1112 = ap key (line_parts (codes "twosync-plan") fields (line.Pred j) (tested_word (codes "twosync-plan") refl) same).0 in omega arith)
-refuse_header fields none (line.End m n) fits same = absurd (let k : ◌≡◌ {A = ℕ} 12116 3101 = ap key (line_parts (codes "twosync-plan") fields (line.End m n) (tested_word (codes "twosync-plan") refl) same).0 in omega arith)
 
 -- a line of another first word
 pub record IsOther (word : List ℕ) : Type 0 where

@@ -12,14 +12,6 @@ use Rattle.ts_plan_build.proofs.Places.{same_at, get_cases}
 use Rattle.std.proofs.lemmas.List.Sums.{sum_by-append}
 use Rattle.ts_plan_build.proofs.Inside.{block_entry, block_preds}
 
--- nothing yet
-pub built_none : (F S : Listing Stamp) (entries : List Entry) (acts : List Action) → acts ≡ [] → IsBuilt F S entries acts 0
-built_none F S entries acts e = record {
-  below = λ i a h. absurd (none-some a (subst (λ (xs : List Action). slice_get xs i ≡ Some a) e h));
-  located = λ k entry l h. absurd (omega arith);
-  preds = subst (λ (xs : List Action). sum_by (λ a. length a.preds) xs ≤ 2 * length xs) (sym e) (let z : 0 ≤ 2 * 0 = omega arith in z);
-}
-
 -- one more block
 pub built_more : (F S : Listing Stamp) (entries : List Entry) (old new : List Action) (k : ℕ) (entry : Entry) (above : Option ℕ) → IsBuilt F S entries old k → slice_get entries k ≡ Some entry
     → IsAboveMark entries old entry above → new ≡ old ++ block F S k entry.path entry.reason above (length old) → IsBuilt F S entries new (k + 1)

@@ -30,9 +30,6 @@ decide_dir reason.Held = no (λ e. cc)
 
 -- ---- leaving
 
-pub off_none : (p : Path) (dirs : List NewDir) → AreOff p dirs dirs
-off_none p dirs = record { back = []; parts = sym (append-nil dirs); off = λ i d h. absurd (none-some d h) }
-
 -- one more is left out
 pub off_more : (p : Path) (old now next : List NewDir) (popped : Option NewDir) (d : NewDir) → AreOff p old now → now ≡ next ++ option_to_list popped → slice_get now (length now - 1) ≡ Some d → ¬ IsAbove d.path.now p → AreOff p old next
 off_more p old now next None d h e is n = record {

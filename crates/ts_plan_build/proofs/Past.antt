@@ -102,7 +102,3 @@ counted_more F S entries entry k above now new is l at added =
     let here : entry_actions F S (get_or entries k entry) ≡ action_count F S entry.path entry.reason = ap (entry_actions F S) (sym at) in
     let same : length new ≡ length (now ++ block F S k entry.path entry.reason above (length now)) = ap length added in
     omega (arith, is, more, here, same, length-append now (block F S k entry.path entry.reason above (length now)), length-block F S k entry.path entry.reason above (length now))
-
--- all entries
-pub counted_all : (F S : Listing Stamp) (entries : List Entry) (k n : ℕ) → n ≡ planned_actions F S (take k entries) → length entries ≤ k → n ≡ planned_actions F S entries
-counted_all F S entries k n is l = is ∙ ap (planned_actions F S) (take_all k entries l)

@@ -106,10 +106,6 @@ keeps-more top path bytes = record {
 pub IsSubListing-more : (top path : Path) (bytes : List ℕ) (rows : Listing (List ℕ)) → IsSubListing rows → IsSubListing (with_more top path bytes rows)
 IsSubListing-more top path bytes rows is = IsSubListing-changed (λ p x. cond (same_path (top ++ p) path) (more bytes x) x) (keeps-more top path bytes) rows is
 
--- what is staged at a path after more bytes came
-pub listed-more : (top path : Path) (bytes : List ℕ) (rows : Listing (List ℕ)) (p : Path) → listed (with_more top path bytes rows) p ≡ cond (same_path (top ++ p) path) (more bytes (listed rows p)) (listed rows p)
-listed-more top path bytes rows p = listed-changed (λ p x. cond (same_path (top ++ p) path) (more bytes x) x) (keeps-more top path bytes) rows p
-
 -- rows of other paths stay
 more_else : (top rest : Path) (bytes : List ℕ) (rows : Listing (List ℕ)) → AllByRecursion (λ row. row.path ≢ rest) rows → with_more top (top ++ rest) bytes rows ≡ rows
 more_else top rest bytes [] h = refl

@@ -97,11 +97,6 @@ pub read_none : (told : Told) (p : Path) → IfSome told (λ tree. (bytes : List
 read_none None p file = record { count = refl; told_bytes = tt }
 read_none (Some tree) p file = record { count = refl; told_bytes = (file.0, file.1, file.2, omega arith, refl) }
 
--- a file's bytes can be counted
-pub read_fits : (told : Told) (p : Path) (offset : ℕ) (front : List ℕ) → HasRead told p offset front → 2 ^ 64 ≤ offset → told ≡ None
-read_fits None p offset front read long = refl
-read_fits (Some tree) p offset front read long = absurd (let e = read.count in let f = read.told_bytes.2 in let g = read.told_bytes.3 in omega arith)
-
 -- after a short piece all is read
 pub read_all : (told : Told) (p : Path) (offset n : ℕ) (front buffer : List ℕ) (stamp : Stamp) → HasRead told p offset front → n ≤ length buffer → n < length buffer → IfSome told (λ tree. Fills (at tree p) offset buffer n) → stamp.size ≡ offset + n → stamp.digest ≡ sha256 (front ++ take n buffer) → IfSome told (λ tree. HasStamp (at tree p) stamp)
 read_all None p offset n front buffer stamp read short less fills size digest = tt

@@ -211,14 +211,6 @@ IsListing-front {F} xs ys lists = record {
     parents : HasParents (at xs)
     parents p name there = from p name (p ++ name ∷ []) refl there
 
--- a table of no rows
-pub IsListing-none : {F : Type 0} → IsListing {F = F} []
-IsListing-none {F} = record { ascending = tt; rows_are = tt; parents = λ p name there. absurd (none p name there) }
-  where
-    none : (p : Path) (name : Name) → at {F = F} [] (p ++ name ∷ []) ≢ Absent → ⊥
-    none [] name there = there refl
-    none (n ∷ p) name there = there refl
-
 -- ---- rows put between the bounds of a path
 
 pub record IsReplaced {F : Type 0} (rows new : Listing F) (p : Path) (part : Listing F) : Type 0 where

@@ -48,10 +48,6 @@ HasParentAbove p q = (parent : Path) × (name : Name) × (p ≡ parent ++ name �
 abbrev pub MayBeAbove : {F : Type 0} → Row F → Path → Type 0
 MayBeAbove row p = (name : Name) → p ≡ row.path ++ name ∷ [] → row.content ≡ Dir
 
--- the root has no row
-not_empty : (p q : Path) → q ≡ p → q ≢ [] → p ≢ []
-not_empty p q e some none = some (e ∙ none)
-
 -- a row at or below a path's parent makes it a place
 pub place_from_last : {F : Type 0} (rows : Listing F) (p : Path) (n : ℕ) (row : Row F) → IsListing rows → Some row ≡ slice_get rows n → HasParentAbove p row.path → MayBeAbove row p → IsPlace (at rows) p
 place_from_last {F} rows p n row lists got h may = record {
@@ -70,18 +66,6 @@ place_from_last {F} rows p n row lists got h may = record {
         let same : row.path ≡ h.0 = e ∙ append-nil h.0 in
         ap (at rows) (sym same) ∙ here ∙ may h.1 (h.2 ∙ ap (λ z. z ++ h.1 ∷ []) (sym same))
     dir (m ∷ more) e = above_dir (at rows) lists.parents h.0 m more (λ gone. is_row.2 (sym here ∙ ap (at rows) e ∙ gone))
-
--- of a name alone the parent is the root
-pub place_of_name : {F : Type 0} (rows : Listing F) (p : Path) → p ≢ [] → length p ≤ 1 → IsPlace (at rows) p
-place_of_name {F} rows p some short = record { not_root = some; parent = parent }
-  where
-    none : (q : Path) (name : Name) → length (q ++ name ∷ []) ≤ 1 → q ≡ []
-    none [] name h = refl
-    none (m ∷ []) name h = absurd (omega arith)
-    none (m ∷ k ∷ q) name h = absurd (omega arith)
-
-    parent : (q : Path) (name : Name) → p ≡ q ++ name ∷ [] → at rows q ≡ Dir
-    parent q name is = ap (at rows) (none q name (subst (λ z. length z ≤ 1) is short))
 
 -- where p has two names or more, its parent is not the root
 parent_named : (p q : Path) (name : Name) → 1 < length p → p ≡ q ++ name ∷ [] → q ≢ []

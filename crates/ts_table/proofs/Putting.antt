@@ -13,22 +13,10 @@ use Rattle.ts_table.specs.Slots.{HasRoom, PartsFit, paths_of, rerouted, slot_pat
 use Rattle.ts_table.specs.declared.splice.Edit.{Edit}
 use Rattle.ts_table.specs.declared.splice.Put.{Put}
 use Rattle.ts_table.specs.declared.frame.Slot.{Slot}
-use Rattle.ts_table.proofs.Placing.{placed_push, paths_push}
 use Rattle.ts_name.proofs.Utf8.{all_append}
 use Rattle.ts_table.proofs.Taking.{length_paths, rerouted_placed}
 
 -- ---- the paths of a part's rows
-
--- one more row
-pub names_more : {F : Type 0} (p : Path) (xs : Listing F) (i : ℕ) (row : Row F) → i < length xs → row ≡ get_or xs i row → paths_of (placed p (take (i + 1) xs)) ≡ paths_of (placed p (take i xs)) ++ (p ++ row.path) ∷ []
-names_more {F} p xs i row under is =
-    ap (λ z. paths_of (placed p z)) (take_more xs i row under ∙ ap (λ z. take i xs ++ z ∷ []) (sym is))
-    ∙ ap paths_of (placed_push p (take i xs) row) ∙ map-append (λ (r : Row F). r.path) (placed p (take i xs)) (record { path = p ++ row.path; content = row.content } ∷ [])
-
--- whose path is one too
-pub paths_more_placed : {F : Type 0} (p : Path) (xs : Listing F) (i : ℕ) (row : Row F) → i < length xs → row ≡ get_or xs i row → AllByRecursion (λ row. IsPath row.path) (placed p (take i xs)) → IsPath (p ++ row.path) → AllByRecursion (λ row. IsPath row.path) (placed p (take (i + 1) xs))
-paths_more_placed {F} p xs i row under is all one =
-    subst (λ z. AllByRecursion (λ (row : Row F). IsPath row.path) (placed p z)) (sym (take_more xs i row under ∙ ap (λ z. take i xs ++ z ∷ []) (sym is))) (paths_push p (take i xs) row all one)
 
 -- a row at an index is placed with all
 pub placed_at : {F : Type 0} (p : Path) (xs : Listing F) (i : ℕ) (row : Row F) → i < length xs → row ≡ get_or xs i row → AllByRecursion (λ row. IsPath row.path) (placed p xs) → IsPath (p ++ row.path)
@@ -58,10 +46,6 @@ pub record IsFilled {F : Type 0} (slots : List (Slot F)) (paths : List Path) (pa
   pub paths_are : slot_paths slots ≡ paths
   pub listings : AllByRecursion (λ part. IsSubListing part) parts
   pub are_paths : ArePaths (edits_of paths parts)
-
--- none at first
-pub none_filled : {F : Type 0} → IsFilled {F = F} [] [] []
-none_filled {F} = record { fit = tt; paths_are = refl; listings = tt; are_paths = tt }
 
 length_slots : {F : Type 0} (slots : List (Slot F)) → length (slot_paths slots) ≡ length slots
 length_slots [] = refl

@@ -12,7 +12,7 @@ use Rattle.ts_table.specs.declared.splice.Edit.{Edit}
 use Rattle.ts_table.specs.Tables.{placed, IsPlace, IsCut}
 use Rattle.ts_table.specs.Splices.{grafted, ArePlaces, AreInOrder, ArePaths, lead, trail, comes_before, stands_below, spliced, put_of}
 use Rattle.ts_name.proofs.Order.{late_between, before_cases, before_trans}
-use Rattle.ts_name.proofs.Utf8.{all_append, all_parts}
+use Rattle.ts_name.proofs.Utf8.{all_append}
 use Rattle.ts_name.proofs.Basics.{weaker, all_both}
 use Rattle.ts_table.proofs.Rows.{ascend_rest, ascend_first, ascend_right, graft_at_rows}
 use Rattle.ts_table.proofs.Listings.{is_above_gives, not_above_gives, is_above_yes}
@@ -171,9 +171,3 @@ parts_push {F} edits edit all one = all_append (λ (other : Edit F). IsSubListin
 -- one more edit within the limits
 pub edit_paths_push : {F : Type 0} (edits : List (Edit F)) (edit : Edit F) → ArePaths edits → AllByRecursion (λ row. IsPath row.path) (placed edit.path edit.part) → ArePaths (edits ++ edit ∷ [])
 edit_paths_push {F} edits edit all one = all_append (λ (other : Edit F). AllByRecursion (λ (row : Row F). IsPath row.path) (placed other.path other.part)) edits (edit ∷ []) all (one, tt)
-
--- where one edit's rows are past a limit, not all are paths
-pub edit_past_limit : {F : Type 0} (all front back : List (Edit F)) (edit : Edit F) → all ≡ front ++ edit ∷ back → (¬ AllByRecursion (λ row. IsPath row.path) (placed edit.path edit.part)) → ¬ ArePaths all
-edit_past_limit {F} all front back edit is bad h =
-    let parts = subst (λ z. ArePaths z) is h in
-    let rest = (all_parts (λ (other : Edit F). AllByRecursion (λ (row : Row F). IsPath row.path) (placed other.path other.part)) front (edit ∷ back) parts).1 in bad rest.0

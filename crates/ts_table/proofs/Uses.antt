@@ -3,12 +3,12 @@ use Rattle.std.proofs.Common.{◌≡◌, ◌≢◌, [], ◌∷◌, ◌++◌, Opt
 use Rattle.std.specs.List.{AllByRecursion}
 use Rattle.ts_name.specs.Paths.{Name, Path, IsPath, IsAbove, IsBefore, below}
 use Rattle.ts_model.specs.Trees.{Listing, listed, at, IsListing, IsSubListing}
-use Rattle.ts_model.specs.Runs.{graft, bare_directory}
+use Rattle.ts_model.specs.Runs.{graft}
 use Rattle.ts_model.specs.declared.row.Content.{Content}
 use Rattle.ts_model.specs.declared.row.Content.TheVariants.{Absent, Dir}
 use Rattle.ts_model.specs.declared.row.Row.{Row}
 use Rattle.ts_table.specs.Tables.{placed, IsPlace}
-use Rattle.ts_name.proofs.Prefixes.{below_append, below_gives, same_parent}
+use Rattle.ts_name.proofs.Prefixes.{below_gives}
 use Rattle.ts_name.proofs.Order.{below_before}
 use Rattle.ts_name.proofs.Basics.{at_each, weaker}
 use Rattle.ts_table.proofs.Rows.{placed_below}
@@ -55,14 +55,3 @@ IsPlace-graft {F} t content p q off place = record { not_root = place.not_root; 
         go : (o : Option Path) → below p r ≡ o → ◌≡◌ {A = Content F} (elim o [ None ↦ t r | Some rest ↦ content rest ]) Dir
         go None e = place.parent r name is
         go (Some rest) e = absurd (off (rest ++ name ∷ [], is ∙ ap (λ z. z ++ name ∷ []) (below_gives p r rest e) ∙ append_assoc p rest (name ∷ [])))
-
--- in a directory that an edit made, there is a place for each name
-pub IsPlace-bare : {F : Type 0} (t : Path → Content F) (p : Path) (name : Name) → p ++ name ∷ [] ≢ [] → IsPlace (graft t p bare_directory) (p ++ name ∷ [])
-IsPlace-bare {F} t p name some = record { not_root = some; parent = λ q last is. subst (λ z. graft t p bare_directory z ≡ Dir) (same_parent p q name last is) here }
-  where
-    here : graft t p bare_directory p ≡ Dir
-    here = go (below p p) (ap (below p) (sym (append-nil p)) ∙ below_append p [])
-      where
-        go : (o : Option Path) → o ≡ Some [] → ◌≡◌ {A = Content F} (elim o [ None ↦ t p | Some rest ↦ bare_directory rest ]) Dir
-        go None e = cc
-        go (Some rest) e = let f : rest ≡ [] = cc in ap bare_directory f

@@ -13,11 +13,6 @@ use Rattle.ts_tree.specs.Fields.{IsNamed, IsNoHead, SpellsNoPath, head_line}
 use Rattle.ts_tree.specs.declared.field.Head.{Head}
 use Rattle.ts_tree.specs.declared.field.Head.TheVariants as head
 
--- a path that isn't the root has a text
-pub path_text_some : (p : Path) → p ≢ [] → path_text p ≢ []
-path_text_some [] some e = some refl
-path_text_some (x ∷ p) some e = cc
-
 -- a path's text has no space
 pub path_text_word : (p : Path) → IsPath p → HasNo 32 (path_text p)
 path_text_word p is = no_space (path_text p) (clean_path p is)

@@ -1,5 +1,5 @@
 -- Why a decoder answers no tree.
-use Rattle.std.proofs.Common.{◌≡◌, ◌≢◌, ℕ, List, ◌++◌, Option, Some, None, Err, refl, sym, ◌∙◌, subst}
+use Rattle.std.proofs.Common.{◌≡◌, ◌≢◌, ℕ, List, ◌++◌, Option, Some, None, Err, sym, ◌∙◌, subst}
 use Rattle.std.specs.Prelude.{IfSome}
 use Rattle.ts_text.specs.Lines.{Reading, HasEnded, Answers}
 use Rattle.ts_text.specs.declared.fault.TextFault.{TextFault}
@@ -48,9 +48,3 @@ no_tree_ended old now next fed e taken ends none =
     (λ bytes all rows is. none.1 rows is.tree (one_text (tree_lines rows) fed (lines_of rows is.tree) taken.lines (sym is.spelled ∙ all))) (taken_all old now next fed taken ends))
 
 -- ---- the source's count of failures
-
--- it stays, where a reader's fault isn't its source's
-pub unfailed_read : (old now next : Reading) (fed : List Line) (e : TextFault) → Taken old now fed → Answers now (Err e) next → fault_of_text e ≢ fault.Failed → next.failures ≡ old.failures
-unfailed_read old now next fed text_fault.OutOfMemory taken answers other = absurd answers
-unfailed_read old now next fed text_fault.Failed taken answers other = absurd (other refl)
-unfailed_read old now next fed text_fault.NotCanonical taken answers other = answers.failures ∙ taken.failures

@@ -2,7 +2,7 @@
 use Rattle.std.proofs.Common.{◌≡◌, ℕ, ◌+◌, ◌/◌, ◌<◌, suc, min, List, [], ◌∷◌, ◌++◌, length, take, drop, Option, Result, refl, sym, ap, ap₂, inl, inr, ◌∙◌, subst, append_assoc, arith, length-drop, add-one, drop-cons, get_or}
 use Rattle.std.specs.Io.KnownBytes.{Appends}
 use Rattle.std.proofs.KnownBytes.{Appends-nil, Appends-trans}
-use Rattle.std.proofs.lemmas.List.{append-nil, drop_all, take_all}
+use Rattle.std.proofs.lemmas.List.{drop_all, take_all}
 use Rattle.std.proofs.lemmas.Bool.{cases_lt}
 use Rattle.ts_text.specs.Sources.{AppendsFront, Writes}
 use Rattle.ts_text.proofs.Sinks as sinks
@@ -27,10 +27,6 @@ wrote_more old now next all lines rest wrote added = record {
   written = subst (λ z. Appends old next z) (sym (text_append wrote.done lines)) (Appends-trans old now next (text wrote.done) (text lines) wrote.written added);
   split = wrote.split ∙ sym (append_assoc wrote.done lines rest);
 }
-
--- all of them
-pub wrote_all : (old now : Option (List ℕ)) (all : List Line) → Wrote old now all [] → Appends old now (text all)
-wrote_all old now all wrote = subst (λ z. Appends old now (text z)) (sym (wrote.split ∙ append-nil wrote.done)) wrote.written
 
 -- a beginning of them
 pub wrote_front : (old now next : Option (List ℕ)) (all lines rest : List Line) → Wrote old now all (lines ++ rest) → AppendsFront now next (text lines) → AppendsFront old next (text all)

@@ -5,9 +5,6 @@ use Rattle.board_cases.proofs.flow.removal_case.Goals as goal
 pub opened-requires-after_bounds : goal.opened-requires-after_bounds
 opened-requires-after_bounds g c κs within = c.requires.one ∙ sym (removal_commits c.args.checked.now.plan c.requires.actions)
 
-pub invariant_of-desk : goal.invariant_of-desk
-invariant_of-desk g c = let from = c.in_ok-board.ensures.from in record { plan = from.0; first = from.1; second = from.2 }
-
 pub raced-pass-requires-clause-task : goal.raced-pass-requires-clause-task
 raced-pass-requires-clause-task g c κs within = removal_task c.args.checked.now.plan c.requires.actions
 

@@ -5,9 +5,6 @@ use Rattle.board_cases.proofs.flow.worked_case.Goals as goal
 pub opened-requires-after_bounds : goal.opened-requires-after_bounds
 opened-requires-after_bounds g c κs within = let w = c.requires.actions in c.requires.one ∙ sym (worked_commits c.args.checked.now.plan w.0 w.1)
 
-pub invariant_of-desk : goal.invariant_of-desk
-invariant_of-desk g c = let from = c.in_ok-board.ensures.from in record { plan = from.0; first = from.1; second = from.2 }
-
 pub copied-pass-requires-clause-file : goal.copied-pass-requires-clause-file
 copied-pass-requires-clause-file g c κs within = let w = c.requires.actions in worked_task c.args.checked.now.plan w.0 w.1
 

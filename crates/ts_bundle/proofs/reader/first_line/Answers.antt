@@ -1,9 +1,7 @@
 use Rattle.std.proofs.Common.{codes}
 use Rattle.std.proofs.lemmas.Result.{err_from_is_err_and}
 use Rattle.ts_plan.proofs.Words.{differs}
-use Rattle.ts_model.specs.Texts.{print_lines}
-use Rattle.ts_bundle.specs.Parts.{archive_lines}
-use Rattle.ts_bundle.proofs.Growth.{grown, first_done, same_line}
+use Rattle.ts_bundle.proofs.Growth.{same_line}
 use Rattle.ts_bundle.proofs.Refusals.{first_ended, first_refused}
 use Rattle.ts_bundle.proofs.reader.first_line.Goals as goal
 
@@ -13,17 +11,8 @@ returns-in_err-first-clause-refused c =
     let p = err_from_is_err_and c.from_residual.result c.from_residual.ensures.1 in
     rw (p.1, p.2) (first_ended c.args.archive c.args.reader c.args.line.now c.in_err-first.field-0.0 c.requires.apart (same_line c.args.line.now c.as_slice.result.now (codes "second") c.eq.result c.eq.ensures c.as_slice.ensures c.if-eq.true) c.in_err-first.ensures.refused)
 
--- The tree is whole.
-pub returns-then-eq-clause-taken : goal.returns-then-eq-clause-taken
-returns-then-eq-clause-taken c =
-    first_done c.args.archive c.in_ok-first.first c.args.reader c.args.line.now c.new.result c.in_ok-first.ensures.found.1 (same_line c.args.line.now c.as_slice.result.now (codes "second") c.eq.result c.eq.ensures c.as_slice.ensures c.if-eq.true) c.new.ensures
-
 -- No bundle has the line there.
 pub returns-in_err-line-clause-refused : goal.returns-in_err-line-clause-refused
 returns-in_err-line-clause-refused c =
     let p = err_from_is_err_and c.from_residual-in_err-line.result c.from_residual-in_err-line.ensures.1 in
     rw (p.1, p.2) (first_refused c.args.archive c.args.reader c.args.line.now c.in_err-line.field-0.0 c.requires.apart (differs c.args.line.now c.as_slice.result.now (codes "second") c.eq.result c.eq.ensures c.as_slice.ensures c.if-eq.false) c.in_err-line.ensures.refused)
-
--- One line more.
-pub returns-clause-taken : goal.returns-clause-taken
-returns-clause-taken c = grown (archive_lines (print_lines c.args.archive)) (codes "first") c.args.reader c.args.line.now c.line.new.self c.in_ok-line.ensures.taken

@@ -3,9 +3,6 @@ use Rattle.std.proofs.lemmas.Option.{slice_get_within}
 use borrow.Author.Count.{below_more}
 use Rattle.ts_check.proofs.entries.first_out_of_order.Goals as goal
 
-pub loop-i-init : goal.loop-i-init
-loop-i-init c = λ k less wrong. absurd (let e = wrong.3 in omega arith)
-
 pub loop-i-preserved : goal.loop-i-preserved
 loop-i-preserved c = below_more _ _ c.loop-i.invariant (c.is_in_order.ensures.ordered c.if-not-is_in_order.false)
 

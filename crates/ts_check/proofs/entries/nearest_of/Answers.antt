@@ -17,9 +17,6 @@ loop-at-init c =
           (c.requires.known.1 _ _ (slice_get-get_or c.args.nearest.now _ 0 (let e = c.requires.known.0 in omega arith))))
     ]
 
-pub bounds-nearest-at : goal.bounds-nearest-at
-bounds-nearest-at c = let h = candidate_within c.args.entries.now c.requires.ascending c.args.i c.loop-at.at c.loop-at-test.true c.loop-at.invariant in omega (arith, c.requires.known.0)
-
 pub loop-at-smaller : goal.loop-at-smaller
 loop-at-smaller c =
     let h = candidate_within c.args.entries.now c.requires.ascending c.args.i c.loop-at.at c.loop-at-test.true c.loop-at.invariant in

@@ -8,7 +8,7 @@ pub returns-in-Err-clause-told : goal.returns-in-Err-clause-told
 returns-in-Err-clause-told c =
     let s = snapshot_of c.args.state.now in
     let plan = c.args.plan.now in
-    broken_here s plan OneCommit c.in-Err.place (hold_more s plan 5 PredsAscend refl c.requires.before c.in_default.ensures) (first_commit s plan (Some c.in-Err.place) (rw c.in-Err.is at c.in_ok-commits.ensures.wrong))
+    rw c.broken-in-Err.ensures (broken_here s plan OneCommit c.in-Err.place (hold_more s plan 5 PredsAscend refl c.requires.before c.in_default.ensures) (first_commit s plan (Some c.in-Err.place) (rw c.in-Err.is at c.in_ok-commits.ensures.wrong)))
 
 pub returns-in-Some-first_unlawful-clause-told : goal.returns-in-Some-first_unlawful-clause-told
 returns-in-Some-first_unlawful-clause-told c =
@@ -17,8 +17,8 @@ returns-in-Some-first_unlawful-clause-told c =
     let plan = c.args.plan.now in
     let commits = rw c.in-Ok.is at c.in_ok-commits.ensures.index in
     let h7 = hold_commits s plan c.requires.before c.in_default.ensures commits.1 in
-    broken_here s plan PiecesLawful c.in-Some-first_unlawful.place h7 (first_lawful t.archive.now t.first.now t.second.now t.holds.now plan (Some c.in-Some-first_unlawful.place)
-    (rw (c.rows-first.ensures.rows, c.rows-second.ensures.rows) at c.in-Some-first_unlawful.ensures))
+    rw c.broken-in-Some-first_unlawful.ensures (broken_here s plan PiecesLawful c.in-Some-first_unlawful.place h7 (first_lawful t.archive.now t.first.now t.second.now t.holds.now plan (Some c.in-Some-first_unlawful.place)
+    (rw (c.rows-first.ensures.rows, c.rows-second.ensures.rows) at c.in-Some-first_unlawful.ensures)))
 
 pub each_once-requires-clause-places : goal.each_once-requires-clause-places
 each_once-requires-clause-places c = no_root (snapshot_of c.args.state.now) c.args.plan.now c.requires.before
@@ -31,8 +31,8 @@ returns-in-Err-2-clause-told c =
     let commits = rw c.in-Ok.is at c.in_ok-commits.ensures.index in
     let h7 = hold_commits s plan c.requires.before c.in_default.ensures commits.1 in
     let h8 = hold_lawful t.archive.now t.first.now t.second.now t.holds.now plan h7 (rw (c.rows-first.ensures.rows, c.rows-second.ensures.rows) at c.in_default-first_unlawful.ensures) in
-    broken_here s plan PiecesComplete c.in-Err-2.place h8 (first_once t.archive.now t.first.now t.second.now t.holds.now plan (Some c.in-Err-2.place)
-    (rw (c.rows-first.ensures.rows, c.rows-second.ensures.rows, c.in-Err-2.is) at c.in_ok-staged.ensures.wrong))
+    rw c.broken-in-Err-2.ensures (broken_here s plan PiecesComplete c.in-Err-2.place h8 (first_once t.archive.now t.first.now t.second.now t.holds.now plan (Some c.in-Err-2.place)
+    (rw (c.rows-first.ensures.rows, c.rows-second.ensures.rows, c.in-Err-2.is) at c.in_ok-staged.ensures.wrong)))
 
 pub returns-in-Err-3-clause-told : goal.returns-in-Err-3-clause-told
 returns-in-Err-3-clause-told c =
@@ -44,7 +44,7 @@ returns-in-Err-3-clause-told c =
     let h7 = hold_commits s plan c.requires.before c.in_default.ensures commits.1 in
     let h8 = hold_lawful t.archive.now t.first.now t.second.now t.holds.now plan h7 (rw (c.rows-first.ensures.rows, c.rows-second.ensures.rows) at c.in_default-first_unlawful.ensures) in
     let h9 = hold_pieces t.archive.now t.first.now t.second.now t.holds.now plan h8 staged.1 in
-    broken_here s plan OneMark c.in-Err-3.place h9 (rw c.in-Err-3.is at c.in_ok-marks.ensures.wrong)
+    rw c.broken-in-Err-3.ensures (broken_here s plan OneMark c.in-Err-3.place h9 (rw c.in-Err-3.is at c.in_ok-marks.ensures.wrong))
 
 pub returns-clause-holds : goal.returns-clause-holds
 returns-clause-holds c =

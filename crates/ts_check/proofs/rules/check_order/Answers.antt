@@ -14,7 +14,7 @@ pub returns-in-Some-first_without_commit-clause-told : goal.returns-in-Some-firs
 returns-in-Some-first_without_commit-clause-told c =
     let s = snapshot_of c.args.state.now in
     let plan = c.args.plan.now in
-    broken_here s plan CommitFirst c.in-Some-first_without_commit.place (hold_more s plan 10 PiecesFirst refl c.requires.before c.in_default.ensures) c.in-Some-first_without_commit.ensures
+    rw c.broken-in-Some-first_without_commit.ensures (broken_here s plan CommitFirst c.in-Some-first_without_commit.place (hold_more s plan 10 PiecesFirst refl c.requires.before c.in_default.ensures) c.in-Some-first_without_commit.ensures)
 
 pub nearest_dirs-requires-clause-ascending : goal.nearest_dirs-requires-clause-ascending
 nearest_dirs-requires-clause-ascending c = rw c.as_slice.ensures (λ k wrong. c.requires.before EntriesAscend k (omega arith) wrong)
@@ -42,7 +42,7 @@ pub returns-in-Some-first_without_dir-clause-told : goal.returns-in-Some-first_w
 returns-in-Some-first_without_dir-clause-told c =
     let s = snapshot_of c.args.state.now in
     let plan = c.args.plan.now in
-    broken_here s plan DirFirst c.in-Some-first_without_dir.place (hold_more s plan 11 CommitFirst refl (hold_more s plan 10 PiecesFirst refl c.requires.before c.in_default.ensures) c.in_default-first_without_commit.ensures) c.in-Some-first_without_dir.ensures
+    rw c.broken-in-Some-first_without_dir.ensures (broken_here s plan DirFirst c.in-Some-first_without_dir.place (hold_more s plan 11 CommitFirst refl (hold_more s plan 10 PiecesFirst refl c.requires.before c.in_default.ensures) c.in_default-first_without_commit.ensures) c.in-Some-first_without_dir.ensures)
 
 pub returns-clause-holds : goal.returns-clause-holds
 returns-clause-holds c =

@@ -3,11 +3,6 @@ use Rattle.std.proofs.lemmas.Bool.{false≢true}
 use Rattle.ts_check.proofs.Waits.{below_from, from_below, from_at, from_step}
 use Rattle.ts_check.proofs.waiting.ascends_below.Goals as goal
 
-pub loop-number-preserved : goal.loop-number-preserved
-loop-number-preserved c =
-    let h = from_at c.loop-number.low c.args.n c.args.numbers.now c.loop-number.number-index c.loop-number-test.true in
-    (λ rest. c.loop-number.invariant.0 (h.1 (omega arith, omega arith, rest)), λ whole. (h.0 (c.loop-number.invariant.1 whole)).2)
-
 pub returns-then-number-low : goal.returns-then-number-low
 returns-then-number-low c = (
   λ e. absurd (false≢true e),

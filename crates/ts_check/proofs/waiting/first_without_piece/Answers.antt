@@ -4,9 +4,6 @@ use Rattle.ts_check.proofs.Waits.{IsLate-skip, IsLate-none, IsLate-add, IsFirst-
 use Rattle.ts_check.proofs.waiting.first_without_piece.Goals as goal
 use Rattle.ts_check.proofs.waiting.first_without_piece.Goals.{in-Piece+in-Some, in-Piece+in_default-late_commit, in_default}
 
-pub loop-i-init : goal.loop-i-init
-loop-i-init c = λ k late. absurd (omega (arith, late.1))
-
 pub loop-i-preserved : goal.loop-i-preserved
 loop-i-preserved c =
     let plan = c.args.plan.now in

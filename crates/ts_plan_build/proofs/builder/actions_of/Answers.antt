@@ -3,7 +3,7 @@ use Rattle.std.proofs.lemmas.Option.{slice_get_read}
 use Rattle.ts_plan_build.specs.declared.builder.NewDir.{NewDir}
 use Rattle.std.proofs.lemmas.Result.{err_from_is_err_and}
 use Rattle.ts_plan_build.proofs.Dirs.{built_turn}
-use Rattle.ts_plan_build.proofs.Past.{counted_more, counted_all, past_in_entries}
+use Rattle.ts_plan_build.proofs.Past.{counted_more, past_in_entries}
 use Rattle.ts_plan_build.proofs.builder.actions_of.Goals as goal
 
 pub loop-number-preserved : goal.loop-number-preserved
@@ -24,6 +24,3 @@ returns-in_err-add_entry-clause-past c =
     let p = err_from_is_err_and c.from_residual.result c.from_residual.ensures.1 in
     rw (p.1, p.2) (λ e. past_in_entries 1048576 c.args.first.now c.args.second.now c.args.entries.now c.index-entries-number.result c.loop-number.number c.loop-number.actions.items
     c.loop-number.invariant.counted c.loop-number-test.true c.index-entries-number.is (c.in_err-add_entry.ensures.past e))
-
-pub returns-clause-count : goal.returns-clause-count
-returns-clause-count c = counted_all c.args.first.now c.args.second.now c.args.entries.now c.loop-number.number (length c.loop-number.actions.items) c.loop-number.invariant.counted c.loop-number-test.false

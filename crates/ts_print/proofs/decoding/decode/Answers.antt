@@ -17,8 +17,3 @@ returns-in_err-line-clause-refused g c =
     let taken = taken_more c.args.lines.now c.loop.lines c.advance.new.self c.loop.reader c.loop.invariant gives in
     let refused = rw c.line.ensures at c.in_err-line.ensures.refused in
     rw (p.1, p.2) (no_print_line c.args.lines.now c.advance.new.self _ c.in_err-line.field-0.0 taken refused)
-
-pub loop-preserved : goal.loop-preserved
-loop-preserved g c =
-    let gives = rw c.if-not-branch.false at c.in_ok-advance.ensures.answers in
-    rw (c.in_ok-line.ensures.taken, c.line.ensures) (taken_more c.args.lines.now c.loop.lines c.advance.new.self c.loop.reader c.loop.invariant gives)

@@ -1,4 +1,4 @@
-use Rattle.std.proofs.Common.{sym, ap, ap₂, rules, ◌∙◌, ◌∷◌, ◌++◌, decimal}
+use Rattle.std.proofs.Common.{sym, ◌∙◌, decimal}
 use Rattle.hex.specs.Hex.{encode_lower}
 use Rattle.ts_name.proofs.Spelling.{clean_decimal, cut_at, no_cut, no_space}
 use Rattle.ts_print.proofs.NextRows.{first_word}
@@ -39,14 +39,3 @@ returns-then-not-read_hex-clause-none c =
     let rest = (cut_at 32 c.split_word.result.0.now path _ _ c.split_word.ensures.word word (sym parts ∙ e)).1 in
     let digits = (cut_at 32 c.split_word-2.result.0.now (decimal stamp.size) _ _ c.split_word-2.ensures.word (no_space (decimal stamp.size) (clean_decimal stamp.size fits.0)) (sym more ∙ rest)).1 in
     c.read_hex.ensures.none c.if-not-read_hex.true stamp.digest fits.1 fits.2 digits
-
-pub returns-clause-found : goal.returns-clause-found
-returns-clause-found c =
-    let parts = rw c.in_ok-stamp.was at c.split_word.ensures.rest in
-    let more = rw c.in_ok-digits.was at c.split_word-2.ensures.rest in
-    let size = c.in_ok-size.ensures.found in
-    let hex = c.read_hex.ensures.found c.if-not-read_hex.false in (
-      c.split_word.ensures.word,
-      (search rules, c.read_hex.ensures.lawful, search rules),
-      parts ∙ ap (λ z. c.split_word.result.0.now ++ 32 ∷ z) (more ∙ ap₂ (λ x y. x ++ 32 ∷ y) size hex),
-    )

@@ -10,11 +10,6 @@ loop-result-preserved c = λ m less.
     ⊎_elim (λ (same : m ≡ n). ap (λ z. slice_get results z) same ∙ slice_get-get_or results n Done c.loop-result-test.true ∙ ap Some c.in-Done.is)
     (λ (other : m ≢ n). c.loop-result.invariant m (omega arith)) (cases_eq m n)
 
-pub unreachable-requires : goal.unreachable-requires
-unreachable-requires c =
-    let results = c.args.results.now in let n = c.loop-result.result-index in
-    c.in_default.not-OutOfMemory (c.requires.memory n c.in-Failed.fault (slice_get-get_or results n Done c.loop-result-test.true ∙ ap Some c.in-Failed.is))
-
 pub unreachable-requires-in-Blocked : goal.unreachable-requires-in-Blocked
 unreachable-requires-in-Blocked c =
     let results = c.args.results.now in let n = c.loop-result.result-index in

@@ -1,10 +1,10 @@
-use Rattle.std.proofs.Common.{length, sym, ap, arith, ◌∙◌}
+use Rattle.std.proofs.Common.{length, sym, ap, ◌∙◌}
 use Rattle.std.specs.Result.{is_err}
 use Rattle.std.proofs.lemmas.Bool.{false≢true}
 use Rattle.std.proofs.lemmas.Bool.Decides.{Decides-eqb}
 use Rattle.std.proofs.lemmas.Slice.Eq.{slice_eq-Decides}
 use Rattle.hex.specs.Hex.{encode_lower}
-use Rattle.ts_tree.proofs.Fields.{bytes_from_each, decoded_bytes, hex_decoded}
+use Rattle.ts_tree.proofs.Fields.{decoded_bytes, hex_decoded}
 use Rattle.ts_tree.proofs.data.read_hex.Goals as goal
 
 -- What bytes are spelled by decodes to them.
@@ -12,9 +12,6 @@ pub returns-then-is_err-clause-none : goal.returns-then-is_err-clause-none
 returns-then-is_err-clause-none c _ bytes is size same =
     let decoded = rw (hex_decoded c.args.digits.now bytes (length c.args.data.now) is size same) at c.decode_to_slice.ensures.value in
     false≢true (ap is_err (sym decoded.0) ∙ sym c.is_err.ensures.value ∙ c.if-is_err.true)
-
-pub returns-then-is_err-clause-lawful : goal.returns-then-is_err-clause-lawful
-returns-then-is_err-clause-lawful c = bytes_from_each _ (λ i. omega (arith, c.type_inv.data i))
 
 pub returns-clause-lawful : goal.returns-clause-lawful
 returns-clause-lawful c =

@@ -1,9 +1,9 @@
-use Rattle.std.proofs.Common.{◌≡◌, Err, ap, ◌∙◌}
+use Rattle.std.proofs.Common.{◌≡◌}
 use Rattle.std.proofs.lemmas.Result.{err_from_is_err_and, IfErr-weaker}
 use Rattle.ts_tree.specs.Decoding.{FindsNoTree}
 use Rattle.ts_tree.specs.declared.fault.TreeFault.TheVariants as fault
 use Rattle.ts_tree.specs.Readers.{SpellsNoTree}
-use Rattle.ts_tree.proofs.NoTree.{no_tree_ended, no_tree_line, no_tree_read, unfailed_read}
+use Rattle.ts_tree.proofs.NoTree.{no_tree_ended, no_tree_line, no_tree_read}
 use Rattle.ts_tree.proofs.Taken.{taken_more}
 use Rattle.ts_tree.proofs.decoding.decode.Goals as goal
 
@@ -35,18 +35,3 @@ loop-preserved g c =
     rw (c.in_ok-line.ensures.taken, c.line.ensures) (taken_more c.args.lines.now c.loop.lines c.advance.new.self c.loop.reader c.loop.invariant gives)
 
 -- ---- the source's count of failures
-
-pub returns-in_err-advance-clause-unfailed : goal.returns-in_err-advance-clause-unfailed
-returns-in_err-advance-clause-unfailed g c other =
-    let p = err_from_is_err_and c.from_residual.result c.from_residual.ensures.1 in
-    unfailed_read c.args.lines.now c.loop.lines c.advance.new.self c.loop.reader c.in_err-advance.field-0.0 c.loop.invariant c.in_err-advance.ensures.answers (λ same. other (p.1 ∙ ap Err (p.2 ∙ same)))
-
-pub returns-then-not-branch-clause-unfailed : goal.returns-then-not-branch-clause-unfailed
-returns-then-not-branch-clause-unfailed g c other =
-    let ends = rw c.if-not-branch.true at c.in_ok-advance.ensures.answers in
-    ends.failures ∙ c.loop.invariant.failures
-
-pub returns-in_err-line-clause-unfailed : goal.returns-in_err-line-clause-unfailed
-returns-in_err-line-clause-unfailed g c other =
-    let gives = rw c.if-not-branch.false at c.in_ok-advance.ensures.answers in
-    gives.failures ∙ c.loop.invariant.failures

@@ -4,12 +4,11 @@ use Rattle.ts_model.specs.Runs.{Run, IsPending}
 use Rattle.ts_model.specs.declared.plan.Kind.TheVariants.{Mark}
 use Rattle.ts_model.specs.declared.plan.Plan.{Plan}
 use Rattle.ts_model.specs.declared.step.Work.TheVariants.{Marked}
-use Rattle.ts_board.specs.Calls.{mine, work_of}
+use Rattle.ts_board.specs.Calls.{mine}
 use Rattle.ts_board.specs.Keys.{terms_of}
 use Rattle.ts_board.specs.Terms.{work_in}
 use Rattle.ts_board.proofs.Acting.{mark_may}
 use Rattle.board_cases.proofs.Acts.{acted_by, told_same}
-use Rattle.board_cases.proofs.Steps.{more_after}
 use Rattle.board_cases.proofs.desk.Desk.mark.Goals as goal
 
 pub done-requires-clause-acted : goal.done-requires-clause-acted
@@ -21,10 +20,3 @@ done-requires-clause-acted g c κs within =
     acted_by content t own now i Marked c.mark.ensures.acted (c.mark.ensures.action ∙ won.0) (ap work_in c.mark.ensures.slot ∙ fresh.1)
     (mark_may t own i mark.0 pending (subst (λ (z : Plan). KindIs z i (Mark mark.0)) (sym d.plan) mark.1))
     (told_same content t h.action now.action h.slot now.slot c.mark.ensures.action c.mark.ensures.slot fresh.2)
-
-pub returns-clause-won : goal.returns-clause-won
-returns-clause-won g c =
-    let now = c.mark.new.self in let won = c.in_ok-held.ensures.won in
-    c.look-ended.ensures.sees.1
-    ∙ more_after (mine c.args.pass.now) (mine c.claim.new.pass) (mine c.look-claimed.new.pass) (mine c.done.new.pass) c.args.i now.action (work_of now) Marked
-    won.1.2 c.look-claimed.ensures.sees.1 c.done.ensures.done.2 (c.mark.ensures.action ∙ won.0) (ap work_in c.mark.ensures.slot ∙ c.in_ok-held.ensures.fresh.1)

@@ -1,15 +1,13 @@
-use Rattle.std.proofs.Common.{◌≡◌, ◌+◌, sym, ◌∙◌, subst}
+use Rattle.std.proofs.Common.{sym, ◌∙◌, subst}
 use Rattle.ts_model.specs.Plans.{KindIs}
 use Rattle.ts_model.specs.Runs.{Run, IsPending}
 use Rattle.ts_model.specs.declared.plan.Kind.TheVariants.{Piece}
 use Rattle.ts_model.specs.declared.plan.Plan.{Plan}
 use Rattle.ts_model.specs.declared.step.Work.TheVariants.{Staged}
-use Rattle.ts_board.specs.Calls.{mine, work_of}
+use Rattle.ts_board.specs.Calls.{mine}
 use Rattle.ts_board.specs.Keys.{terms_of}
 use Rattle.ts_board.proofs.Acting.{piece_may}
-use Rattle.board_cases.specs.Worked.{act_steps}
 use Rattle.board_cases.proofs.Acts.{acted_by}
-use Rattle.board_cases.proofs.Steps.{acted_after, may_free}
 use Rattle.board_cases.proofs.desk.Desk.stage.Goals as goal
 
 pub stage-requires-clause-site : goal.stage-requires-clause-site
@@ -27,12 +25,3 @@ done-requires-clause-acted g c κs within =
     acted_by content t own now b (Staged c.args.bytes.items) c.stage.ensures.acted (c.stage.ensures.action ∙ won.0) c.stage.ensures.work
     (piece_may t own b f.entry 0 1 f.path c.args.bytes.items pending kind c.requires.one)
     (c.stage.ensures.told t c.in_ok-held.ensures.fresh.2)
-
-pub free-freed-requires-clause-may : goal.free-freed-requires-clause-may
-free-freed-requires-clause-may g c κs within =
-    let d = c.args.self.now in let b = c.args.b in let now = c.stage.new.self in let won = c.in_ok-held.ensures.won in
-    let own : mine c.look-ended.new.pass ≡ act_steps b (work_of now) =
-    c.look-ended.ensures.sees.1
-    ∙ acted_after (mine c.args.pass.now) (mine c.claim.new.pass) (mine c.look-next.new.pass) (mine c.done.new.pass) b now.action (work_of now)
-    c.requires.fresh won.1.2 (c.look-next.ensures.sees.1 ∙ c.look-claimed.ensures.sees.1) c.done.ensures.done.2 (c.stage.ensures.action ∙ won.0) in
-    may_free d.checked.now.plan (mine c.look-ended.new.pass) b (b + 1) (work_of now) own c.requires.file.commit_waits

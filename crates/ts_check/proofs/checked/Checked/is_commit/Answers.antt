@@ -1,11 +1,8 @@
-use Rattle.std.proofs.Common.{refl, ap, sym, subst}
+use Rattle.std.proofs.Common.{ap, sym, subst}
 use Rattle.std.proofs.lemmas.Bool.{false≢true}
 use Rattle.ts_model.specs.declared.plan.Plan.{Plan}
 use Rattle.ts_check.specs.Checkup.{Checkup, IsCommit}
 use Rattle.ts_check.proofs.checked.Checked.is_commit.Goals as goal
-
-pub returns-in-Some : goal.returns-in-Some
-returns-in-Some c = (λ h. subst (λ (p : Plan). IsCommit p c.args.c) (ap (λ (k : Checkup). k.plan) c.self.view_is) (c.in-Some.field-0, c.in-Some.ensures.some), λ commit. refl)
 
 pub returns-in-None : goal.returns-in-None
 returns-in-None c = (

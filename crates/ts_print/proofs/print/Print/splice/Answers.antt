@@ -1,4 +1,0 @@
-use Rattle.ts_print.proofs.print.Print.splice.Goals as goal
-
-pub returns-clause-ok : goal.returns-clause-ok
-returns-clause-ok c = rw (← c.self.view_is) c.in_ok-splice.ensures.ok
