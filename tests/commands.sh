@@ -265,6 +265,9 @@ if [ "$got" = 0 ] && [ ! -s err ] && [ "$(wc -l <out)" -le 40 ]; then ok; else b
 for name in trial scan show plan check run sync ARCHIVE 'twosync sync'; do
   holds_true "help tells of $name" grep -q -- "$name" out
 done
+for number in 1 4 5 6 7 8 9 10 11 12 14 15 16; do
+  holds_true "help tells of fault $number" grep -qE "(^| )$number( [a-z]|$)" out
+done
 expect 'version' 0 'twosync 0.1.0' '' --version
 
 # ---- recovery: a run was stopped between the two renames of a swap

@@ -20,7 +20,12 @@ To see what would be done before it is done:
   twosync plan ~/notes /mnt/stick/notes ~/.notes.archive > plan
   twosync run ~/notes /mnt/stick/notes ~/.notes.archive plan
 
-Exit status: 0 all is done, 1 conflicts or held paths are left, 2 something failed, 3 refused.";
+Exit status: 0 all is done, 1 conflicts or held paths are left, 2 something failed, 3 refused.
+Faults are told by number: 1 no memory is left, 4 a path is too long, 5 a file can't be read or
+written, 6 a text isn't in its form, 7 an archive's last line is wrong, 8 a device failed or another
+run is at work, 9 nothing is there, 10 neither a file nor a folder or a name that isn't lawful, 11 a
+bad hold rule, 12 a plan is too large, 14 what was to be replaced has changed, 15 what was read isn't
+what was scanned, 16 words that are no command.";
 
 /// A file or a folder that a command needs.
 fn place<'a>(alloc: Global, name: &'a str, help: &'a str) -> Arg<'a>

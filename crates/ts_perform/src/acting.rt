@@ -5,17 +5,16 @@ ghost use Rattle.ts_board.specs.Archives.{HasEnded};
 ghost use Rattle.ts_board.specs.Terms.{commit_count};
 
 use crate::answers::write_fault;
-use crate::disk::Disk;
+use crate::disk::{Disk, Machine};
 use crate::fault::PerformFault;
 use crate::room::{largest_commit, workers_with_room};
+use crate::task::Task;
 use std::alloc::Global;
 use std::fs::Files;
-use std::thread::Threads;
 use ts_check::Checked;
 use ts_command::Pair;
 use ts_disk::write_archive;
 use ts_exec::{ActionResult, OpenGate, Outcome, run};
-use ts_folder::Folder;
 use ts_model::plan::{Kind, Plan, Reason};
 use ts_name::Path;
 use ts_report::{Ending, Results};
@@ -25,29 +24,23 @@ use ts_text::Sink;
 /// The exit status where an action failed, or the archive couldn't be written.
 const FAILED: u8 = 2;
 
-/// Carries out a checked plan by so many workers, or fewer where commits are large.
-pub(crate) fn act<R>(
-    rt: &R,
-    pair: &Pair<'_>,
+/// Carries out a checked plan by the task's workers, or by fewer where commits are large.
+pub(crate) fn act<R: Machine>(
+    task: &Task<'_, R>,
     checked: &Checked<'_>,
-    workers: u32,
 ) -> Result<Outcome<R::Site>, PerformFault>
-where
-    R: Disk + AllocGlobal + Threads + Sync,
-    <R::Folder as Folder>::File: Send,
-    requires some { 1 ≤ workers }
-    requires few { workers ≤ 64 }
     ensures count { IfOk result (λ o. length o.results.items ≡ length checked.now.plan.actions) }
     ensures words { IfOk result (λ o. length checked.now.plan.actions ≤ slots_len o.closed.row.words) }
     ensures ended { IfOk result (λ o. HasEnded checked.now (slots_items o.closed.row.words)) }
 {
+    let Task { rt, pair, workers } = task;
     let alloc = rt.alloc();
-    let workers = workers_with_room(largest_commit(checked), workers);
-    let sites = sites(rt, pair, checked)?;
+    let workers = workers_with_room(largest_commit(checked), *workers);
+    let sites = sites(*rt, *pair, checked)?;
     let first = rt.folder(alloc, pair.first)?;
     let second = rt.folder(alloc, pair.second)?;
     match run(
-        rt, alloc, &*checked, &first, &second, sites, workers, &OpenGate,
+        *rt, alloc, &*checked, &first, &second, sites, workers, &OpenGate,
     ) {
         Ok(outcome) => Ok(outcome),
         Err((_sites, fault)) => Err(PerformFault::from(fault)),

@@ -1,6 +1,8 @@
 //! The file system as commands see it.
 use crate::fault::PerformFault;
 use std::alloc::Global;
+use std::fs::{File, Files};
+use std::thread::Threads;
 use ts_disk::{DiskSite, Lock, take_lock};
 use ts_folder::{DiskFolder, Folder};
 use ts_name::Path;
@@ -8,7 +10,9 @@ use ts_site::Site;
 
 /// Folders by their names, the places of commits in them, and their locks.
 pub trait Disk {
-    type Folder: Folder + Sync + Drop;
+    type File: Send + Drop;
+
+    type Folder: Folder<File = Self::File> + Sync + Drop;
 
     type Site: Site;
 
@@ -33,7 +37,14 @@ pub trait Disk {
     fn unlock(&self, lock: Self::Lock);
 }
 
+/// What commands ask of a machine: its file system, its memory, and that threads may share both.
+pub trait Machine: Disk + Files + AllocGlobal + Threads + Clone + Drop + Sync {}
+
+impl<R: Disk + Files + AllocGlobal + Threads + Clone + Drop + Sync> Machine for R {}
+
 impl Disk for HostRuntime {
+    type File = File;
+
     type Folder = DiskFolder<HostRuntime>;
 
     type Site = DiskSite<HostRuntime>;

@@ -2,16 +2,15 @@
 ghost use Rattle.std.specs.Prelude.{◌≤◌, IfOk};
 ghost use Rattle.ts_model.specs.Texts.{IsPlan};
 
-use crate::disk::Disk;
+use crate::disk::Machine;
 use crate::fault::PerformFault;
+use crate::task::Task;
 use std::alloc::Global;
 use std::fs;
 use std::fs::Files;
 use std::io::{ErrorKind, Read};
-use std::thread::Threads;
 use ts_check::{Checked, check};
 use ts_command::Pair;
-use ts_folder::Folder;
 use ts_hold::Holds;
 use ts_model::plan::Plan;
 use ts_print::Print;
@@ -71,10 +70,11 @@ fn read_plan<R: Files + AllocGlobal>(rt: &R, name: &str) -> Result<Plan, Perform
 }
 
 /// The print of a folder.
-pub(crate) fn scan_folder<R>(rt: &R, root: &str, workers: u32) -> Result<Print, PerformFault>
-where
-    R: Disk + Files + AllocGlobal + Threads + Sync,
-    <R::Folder as Folder>::File: Send,
+pub(crate) fn scan_folder<R: Machine>(
+    rt: &R,
+    root: &str,
+    workers: u32,
+) -> Result<Print, PerformFault>
     requires some { 1 ≤ workers }
     requires few { workers ≤ 64 }
 {
@@ -110,15 +110,9 @@ struct Scanned {
 
 impl Scanned {
     /// Scans the first replica, and then the second.
-    fn read<R>(rt: &R, pair: &Pair<'_>, workers: u32) -> Result<Scanned, PerformFault>
-    where
-        R: Disk + Files + AllocGlobal + Threads + Sync,
-        <R::Folder as Folder>::File: Send,
-        requires some { 1 ≤ workers }
-        requires few { workers ≤ 64 }
-    {
-        let first = scan_folder(rt, pair.first, workers)?;
-        let second = scan_folder(rt, pair.second, workers)?;
+    fn read<R: Machine>(task: &Task<'_, R>) -> Result<Scanned, PerformFault> {
+        let first = scan_folder(task.rt, task.pair.first, task.workers)?;
+        let second = scan_folder(task.rt, task.pair.second, task.workers)?;
         Ok(Scanned { first, second })
     }
 }
@@ -132,35 +126,22 @@ pub(crate) struct Snapshot {
 
 impl Snapshot {
     /// Reads the archive and the rules, and then scans both replicas.
-    pub(crate) fn read<R>(rt: &R, pair: &Pair<'_>, workers: u32) -> Result<Snapshot, PerformFault>
-    where
-        R: Disk + Files + AllocGlobal + Threads + Sync,
-        <R::Folder as Folder>::File: Send,
-        requires some { 1 ≤ workers }
-        requires few { workers ≤ 64 }
-    {
-        let known = Known::read(rt, pair)?;
-        let now = Scanned::read(rt, pair, workers)?;
+    pub(crate) fn read<R: Machine>(task: &Task<'_, R>) -> Result<Snapshot, PerformFault> {
+        let known = Known::read(task.rt, task.pair)?;
+        let now = Scanned::read(task)?;
         Ok(Snapshot { known, now })
     }
 
     /// The same, with a plan that is read before both replicas are scanned.
-    pub(crate) fn read_for<R>(
-        rt: &R,
-        pair: &Pair<'_>,
+    pub(crate) fn read_for<R: Machine>(
+        task: &Task<'_, R>,
         plan: &str,
-        workers: u32,
     ) -> Result<(Snapshot, Plan), PerformFault>
-    where
-        R: Disk + Files + AllocGlobal + Threads + Sync,
-        <R::Folder as Folder>::File: Send,
-        requires some { 1 ≤ workers }
-        requires few { workers ≤ 64 }
         ensures { IfOk result (λ read. IsPlan read.1) }
     {
-        let known = Known::read(rt, pair)?;
-        let plan = read_plan(rt, plan)?;
-        let now = Scanned::read(rt, pair, workers)?;
+        let known = Known::read(task.rt, task.pair)?;
+        let plan = read_plan(task.rt, plan)?;
+        let now = Scanned::read(task)?;
         Ok((Snapshot { known, now }, plan))
     }
 

@@ -9,7 +9,8 @@ mod inputs;
 pub mod performing;
 mod room;
 mod running;
+mod task;
 
-pub use disk::Disk;
+pub use disk::{Disk, Machine};
 pub use fault::PerformFault;
 pub use performing::{REFUSED, perform};

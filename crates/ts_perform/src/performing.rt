@@ -5,15 +5,14 @@ ghost use Rattle.ts_perform.specs.Trials.{Answers, IsQuiet};
 ghost use Rattle.ts_trial.specs.Answers.{WritesOne};
 
 use crate::answers::{write_fault, write_refusal};
-use crate::disk::Disk;
+use crate::disk::Machine;
 use crate::fault::PerformFault;
 use crate::inputs::{Snapshot, read_archive, scan_folder};
-use crate::running::{run_plan, sync};
+use crate::task::Task;
 use std::alloc::Global;
 use std::fs::Files;
 use std::thread::Threads;
-use ts_command::{Command, Job, Pair};
-use ts_folder::Folder;
+use ts_command::{Command, Job};
 use ts_text::{Lines, Sink, Source, write_all, write_line};
 use ts_trial::trial;
 
@@ -22,16 +21,13 @@ pub const REFUSED: u8 = 3;
 
 /// Does what a command asks for, with these for standard input, standard output and standard error, and answers the exit
 /// status: 0 where all is done, 1 where only conflicts or held paths are left, 2 where something failed, 3 for a refusal.
-pub fn perform<R, I: Source + Drop, O: Sink, E: Sink>(
+pub fn perform<R: Machine, I: Source + Drop, O: Sink, E: Sink>(
     rt: &R,
     command: &Command<'_>,
     input: I,
     out: &mut O,
     err: &mut E,
 ) -> u8
-where
-    R: Disk + Files + AllocGlobal + Threads + Clone + Drop + Sync,
-    <R::Folder as Folder>::File: Send,
     ensures trial { command.now.job ≡ Job.Trial → IfSome (I.holds input) (λ bytes. HasContentsApart bytes → Answers (Trial bytes) (O.holds out.old) (O.holds out.new) result) }
 {
     match answer(rt, command, input, out, err) {
@@ -57,16 +53,13 @@ fn refuse<O: Sink, E: Sink>(alloc: Global, fault: &PerformFault, out: &mut O, er
 }
 
 /// Does what a command asks for.
-fn answer<R, I: Source + Drop, O: Sink, E: Sink>(
+fn answer<R: Machine, I: Source + Drop, O: Sink, E: Sink>(
     rt: &R,
     command: &Command<'_>,
     input: I,
     out: &mut O,
     err: &mut E,
 ) -> Result<u8, PerformFault>
-where
-    R: Disk + Files + AllocGlobal + Threads + Clone + Drop + Sync,
-    <R::Folder as Folder>::File: Send,
     ensures trial { command.now.job ≡ Job.Trial → IfSome (I.holds input) (λ bytes. HasContentsApart bytes → WritesOne (Trial bytes) (O.holds out.old) (O.holds out.new) result) }
     ensures quiet { command.now.job ≡ Job.Trial → IfErr result IsQuiet }
 {
@@ -80,10 +73,10 @@ where
         Job::Trial => answer_bundle(rt, input, out, workers),
         Job::Scan { folder } => print_scan(rt, folder, workers, out),
         Job::Show { archive } => show(rt, archive, out),
-        Job::Plan { pair } => plan(rt, pair, workers, out),
-        Job::Check { pair, plan } => check_plan(rt, pair, plan, workers, out),
-        Job::Run { pair, plan } => run_plan(rt, pair, plan, workers, out, err),
-        Job::Sync { pair } => sync(rt, pair, workers, out, err),
+        Job::Plan { pair } => print_plan(&Task { rt, pair, workers }, out),
+        Job::Check { pair, plan } => check_plan(&Task { rt, pair, workers }, plan, out),
+        Job::Run { pair, plan } => Task { rt, pair, workers }.run_plan(plan, out, err),
+        Job::Sync { pair } => Task { rt, pair, workers }.sync(out, err),
     }
 }
 
@@ -108,15 +101,12 @@ fn answer_bundle<R: AllocGlobal + Threads + Sync, I: Source + Drop, O: Sink>(
 }
 
 /// Prints the archive that a folder would give.
-fn print_scan<R, O: Sink>(
+fn print_scan<R: Machine, O: Sink>(
     rt: &R,
     folder: &str,
     workers: u32,
     out: &mut O,
 ) -> Result<u8, PerformFault>
-where
-    R: Disk + Files + AllocGlobal + Threads + Sync,
-    <R::Folder as Folder>::File: Send,
     requires some { 1 ≤ workers }
     requires few { workers ≤ 64 }
 {
@@ -139,35 +129,21 @@ fn show<R: Files + AllocGlobal, O: Sink>(
 }
 
 /// Prints a plan for the pair.
-fn plan<R, O: Sink>(rt: &R, pair: &Pair<'_>, workers: u32, out: &mut O) -> Result<u8, PerformFault>
-where
-    R: Disk + Files + AllocGlobal + Threads + Clone + Drop + Sync,
-    <R::Folder as Folder>::File: Send,
-    requires some { 1 ≤ workers }
-    requires few { workers ≤ 64 }
-{
-    let snapshot = Snapshot::read(rt, pair, workers)?;
-    let plan = snapshot.plan(rt.alloc())?;
-    ts_plan::encode(rt.alloc(), &plan, out)?;
+fn print_plan<R: Machine, O: Sink>(task: &Task<'_, R>, out: &mut O) -> Result<u8, PerformFault> {
+    let alloc = task.rt.alloc();
+    let plan = Snapshot::read(task)?.plan(alloc)?;
+    ts_plan::encode(alloc, &plan, out)?;
     Ok(0)
 }
 
 /// Says whether a plan is valid for the pair.
-fn check_plan<R, O: Sink>(
-    rt: &R,
-    pair: &Pair<'_>,
+fn check_plan<R: Machine, O: Sink>(
+    task: &Task<'_, R>,
     plan: &str,
-    workers: u32,
     out: &mut O,
-) -> Result<u8, PerformFault>
-where
-    R: Disk + Files + AllocGlobal + Threads + Clone + Drop + Sync,
-    <R::Folder as Folder>::File: Send,
-    requires some { 1 ≤ workers }
-    requires few { workers ≤ 64 }
-{
-    let (snapshot, plan) = Snapshot::read_for(rt, pair, plan, workers)?;
-    let _checked = snapshot.check(rt.alloc(), &plan)?;
+) -> Result<u8, PerformFault> {
+    let (snapshot, plan) = Snapshot::read_for(task, plan)?;
+    let _checked = snapshot.check(task.rt.alloc(), &plan)?;
     write_line(out, b"valid")?;
     Ok(0)
 }

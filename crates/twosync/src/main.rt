@@ -6,15 +6,12 @@ ghost use Rattle.twosync.specs.Faults.{fault_number};
 
 use std::alloc::AllocError;
 use std::env;
-use std::fs::Files;
 use std::io::{self, BufWriter, Input, Write};
 use std::process::ExitCode;
 use std::rt::Env;
-use std::thread::Threads;
 use ts_command::{Command, CommandFault, command};
-use ts_folder::Folder;
 use ts_perform::performing::REFUSED;
-use ts_perform::{Disk, perform};
+use ts_perform::{Machine, perform};
 use ts_text::{Counted, Sink, write_all};
 
 /// Why the program ends without an answer: the number that it prints.
@@ -45,11 +42,7 @@ impl From<AllocError> for Fault {
 }
 
 /// Reads the words and does what they ask for. Answers the exit status.
-fn run<R, E: Sink>(rt: &R, err: &mut E) -> Result<u8, Fault>
-where
-    R: Env + Input + Print + Disk + Files + AllocGlobal + Threads + Clone + Drop + Sync,
-    <R::Folder as Folder>::File: Send,
-{
+fn run<R: Env + Input + Print + Machine, E: Sink>(rt: &R, err: &mut E) -> Result<u8, Fault> {
     let words = env::args(rt).map_err(|_| Fault::OutOfMemory)?;
     let words: Vec<String> = words.collect(rt.alloc())?;
     match command(rt.alloc(), words.as_slice()) {
@@ -64,11 +57,11 @@ where
 }
 
 /// Does what a command asks for, and sees that all of its answer goes out.
-fn answer<R, E: Sink>(rt: &R, command: &Command<'_>, err: &mut E) -> Result<u8, Fault>
-where
-    R: Input + Print + Disk + Files + AllocGlobal + Threads + Clone + Drop + Sync,
-    <R::Folder as Folder>::File: Send,
-{
+fn answer<R: Input + Print + Machine, E: Sink>(
+    rt: &R,
+    command: &Command<'_>,
+    err: &mut E,
+) -> Result<u8, Fault> {
     let out = BufWriter::new(rt.alloc(), io::writer(rt)).map_err(|_| Fault::OutOfMemory)?;
     let mut out = Counted::new(out);
     let input = Counted::new(rt.reader());
