@@ -21,7 +21,7 @@ commits_from kind actions = elim kind [ Piece e offset size p ↦ commit_count a
 
 module _ {S : Type 0} where
   -- the slots of an action of this kind and of those after it
-  abbrev slots_of : Kind → List Action → List S → List (Slot S)
+  abbrev pub slots_of : Kind → List Action → List S → List (Slot S)
   slots_of kind actions sites = elim kind [
     | Piece e offset size p ↦ Empty ∷ placed actions sites
     | Commit e ↦ elim sites [ [] ↦ Empty ∷ placed actions [] | site ∷ more ↦ Place site ∷ placed actions more ]

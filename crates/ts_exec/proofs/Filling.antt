@@ -21,7 +21,7 @@ use Rattle.ts_laws.proofs.Steps.{same_kind}
 use Rattle.ts_print.specs.Assemblies.{begun, begun_rows, more, with_more}
 use Rattle.ts_print.specs.Prints.{stamped_rows}
 use Rattle.ts_print.proofs.Assembling.{KeepsKinds, listed-changed}
-use Rattle.ts_print.proofs.Stamping.{listed-stamped}
+use Rattle.ts_print.proofs.Stamping.{ascend-stamped, listed-stamped, stamped_absent}
 use Rattle.ts_table.proofs.Listings.{one_listed}
 use Rattle.ts_check.specs.Pieces.{IsEarlierPiece}
 use Rattle.ts_exec.proofs.Rows.{among_take}
@@ -84,19 +84,9 @@ there_of_filled : (had : Path → List ℕ) (rows : Listing Stamp) → AllByRecu
 there_of_filled had [] h = tt
 there_of_filled had (row ∷ rows) h = ((λ e. h.0.1 (ap (filled (had row.path)) e)), there_of_filled had rows h.1)
 
-ascend_stamped : (rows : Listing (List ℕ)) → Ascend rows → Ascend (stamped_rows rows)
-ascend_stamped [] h = tt
-ascend_stamped (row ∷ []) h = tt
-ascend_stamped (row ∷ next ∷ rows) h = (h.0, ascend_stamped (next ∷ rows) h.1)
-
-stamped_there : (x : Content (List ℕ)) → stamped x ≡ Absent → x ≡ Absent
-stamped_there Absent e = refl
-stamped_there Dir e = cc
-stamped_there (File bytes) e = cc
-
 there_stamped : (rows : Listing (List ℕ)) → AllByRecursion (λ row. IsPath row.path × (row.content ≢ Absent)) rows → AllByRecursion (λ row. row.content ≢ Absent) (stamped_rows rows)
 there_stamped [] h = tt
-there_stamped (row ∷ rows) h = ((λ e. h.0.1 (stamped_there row.content e)), there_stamped rows h.1)
+there_stamped (row ∷ rows) h = ((λ e. h.0.1 (stamped_absent row.content e)), there_stamped rows h.1)
 
 -- a filled row has its stamp where its bytes are the file's
 filled_stamp : (had : List ℕ) (x : Content (List ℕ)) → ((bytes : List ℕ) → x ≡ File bytes → had ≡ bytes) → stamped (filled had (stamped x)) ≡ stamped x
@@ -114,7 +104,7 @@ filled_content had (File bytes) same = ap File (same bytes refl)
 pub whole_rows : (had : Path → List ℕ) (rows : Listing Stamp) (tree : Tree) → IsSubListing (filled_rows had rows) → ((p : Path) → listed rows p ≡ stamped (tree p)) → ((p : Path) (bytes : List ℕ) → tree p ≡ File bytes → had p ≡ bytes)
     → stamped_rows (filled_rows had rows) ≡ rows
 whole_rows had rows tree stand print same = one_listed (stamped_rows (filled_rows had rows)) rows
-    (ascend_stamped (filled_rows had rows) stand.ascending) (ascend_of_filled had rows stand.ascending) (there_stamped (filled_rows had rows) stand.rows_are) (there_of_filled had rows stand.rows_are)
+    (ascend-stamped (filled_rows had rows) stand.ascending) (ascend_of_filled had rows stand.ascending) (there_stamped (filled_rows had rows) stand.rows_are) (there_of_filled had rows stand.rows_are)
     (λ p. listed-stamped (filled_rows had rows) p ∙ ap stamped (listed-filled had rows p) ∙ ap (λ z. stamped (filled (had p) z)) (print p) ∙ filled_stamp (had p) (tree p) (same p) ∙ sym (print p))
 
 -- ---- members of a list that grows

@@ -8,10 +8,10 @@ use Rattle.ts_model.specs.Trees.{Listing, Ascend, IsListing, at, listed, print_o
 use Rattle.ts_print.specs.Prints.{stamped_rows}
 
 -- a stamp stands exactly where a file does
-stamped_there : (x : Content (List ℕ)) → x ≢ Absent → stamped x ≢ Absent
-stamped_there Absent there e = there refl
-stamped_there Dir there e = cc
-stamped_there (File bytes) there e = cc
+pub stamped_absent : (x : Content (List ℕ)) → stamped x ≡ Absent → x ≡ Absent
+stamped_absent Absent e = refl
+stamped_absent Dir e = cc
+stamped_absent (File bytes) e = cc
 
 there_stamped : (x : Content (List ℕ)) → stamped x ≢ Absent → x ≢ Absent
 there_stamped x there e = there (ap stamped e)
@@ -30,7 +30,7 @@ pub at-stamped : (rows : Listing (List ℕ)) (p : Path) → at (stamped_rows row
 at-stamped rows [] = refl
 at-stamped rows (name ∷ names) = listed-stamped rows (name ∷ names)
 
-ascend-stamped : (rows : Listing (List ℕ)) → Ascend rows → Ascend (stamped_rows rows)
+pub ascend-stamped : (rows : Listing (List ℕ)) → Ascend rows → Ascend (stamped_rows rows)
 ascend-stamped [] h = tt
 ascend-stamped (row ∷ []) h = tt
 ascend-stamped (row ∷ next ∷ rows) h = (h.0, ascend-stamped (next ∷ rows) h.1)
@@ -38,7 +38,7 @@ ascend-stamped (row ∷ next ∷ rows) h = (h.0, ascend-stamped (next ∷ rows) 
 each-stamped : (rows : Listing (List ℕ)) → AllByRecursion (λ row. IsPath row.path × (row.path ≢ []) × (row.content ≢ Absent)) rows
     → AllByRecursion (λ row. IsPath row.path × (row.path ≢ []) × (row.content ≢ Absent)) (stamped_rows rows)
 each-stamped [] h = tt
-each-stamped (row ∷ rows) h = ((h.0.0, h.0.1, stamped_there row.content h.0.2), each-stamped rows h.1)
+each-stamped (row ∷ rows) h = ((h.0.0, h.0.1, λ e. h.0.2 (stamped_absent row.content e)), each-stamped rows h.1)
 
 pub IsListing-stamped : (rows : Listing (List ℕ)) → IsListing rows → IsListing (stamped_rows rows)
 IsListing-stamped rows is = record {

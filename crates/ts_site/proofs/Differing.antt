@@ -1,21 +1,15 @@
 -- Rows that aren't those of a print have another print.
-use Rattle.std.proofs.Common.{◌≡◌, ◌≢◌, ℕ, List, refl, sym, ◌∙◌}
+use Rattle.std.proofs.Common.{◌≢◌, ℕ, List, refl, sym, ◌∙◌}
 use Rattle.ts_model.specs.Trees.{IsSubListing, Listing, listed, print_of, stamped}
-use Rattle.ts_model.specs.declared.row.Content.{Content}
-use Rattle.ts_model.specs.declared.row.Content.TheVariants.{Absent, Dir, File}
 use Rattle.ts_model.specs.declared.row.Stamp.{Stamp}
 use Rattle.ts_print.specs.Prints.{stamped_rows}
 use Rattle.ts_print.proofs.Assembling.{IsSubListing-changed, print-listed}
+use Rattle.ts_print.proofs.Stamping.{stamped_absent}
 use Rattle.ts_table.proofs.Uses.{one_sub_listing}
-
-stamped_there : (x : Content (List ℕ)) → stamped x ≡ Absent → x ≡ Absent
-stamped_there Absent e = refl
-stamped_there Dir e = cc
-stamped_there (File bytes) e = cc
 
 IsSubListing-stamped : (rows : Listing (List ℕ)) → IsSubListing rows → IsSubListing (stamped_rows rows)
 IsSubListing-stamped rows is =
-    IsSubListing-changed (λ p x. stamped x) (record { absent = λ p. refl; dir = λ p. refl; there = λ p x e. stamped_there x e }) rows is
+    IsSubListing-changed (λ p x. stamped x) (record { absent = λ p. refl; dir = λ p. refl; there = λ p x e. stamped_absent x e }) rows is
 
 -- since a print has one listing
 pub other_print : (rows : Listing (List ℕ)) (before : Listing Stamp) → IsSubListing rows → IsSubListing before → stamped_rows rows ≢ before → print_of (listed rows) ≢ listed before

@@ -17,11 +17,11 @@ use Rattle.ts_laws.proofs.Steps.{same_kind}
 use Rattle.ts_check.proofs.Scans.{got_beside}
 use Rattle.ts_laws.proofs.Lists.{element_at}
 use Rattle.ts_board.specs.Terms.{commit_count, placed, site_in}
-use Rattle.ts_board.specs.declared.law.Slot.{Slot}
-use Rattle.ts_board.specs.declared.law.Slot.TheVariants.{Empty, Place}
+use Rattle.ts_board.specs.declared.law.Slot.TheVariants.{Empty}
 use Rattle.ts_exec.specs.Failures.{of_side}
 use Rattle.ts_through.specs.Parts.{AreHeld, AreLaid, ArePlaced}
 use Rattle.ts_through.proofs.Parts.{from_here}
+use Rattle.ts_board.proofs.Sites.{slots_of}
 use Rattle.ts_through.proofs.Taking.{commit_entry}
 
 -- ---- which site a commit has
@@ -29,14 +29,6 @@ use Rattle.ts_through.proofs.Taking.{commit_entry}
 -- the commits of an action of this kind and of n others
 abbrev commits_with : Kind → ℕ → ℕ
 commits_with kind n = elim kind [ Piece e offset size p ↦ n | Commit e ↦ n + 1 | Mark e ↦ n ]
-
--- the slots of an action of this kind and of those after it
-abbrev slots_of : {S : Type 0} → Kind → List Action → List S → List (Slot S)
-slots_of kind actions sites = elim kind [
-  | Piece e offset size p ↦ Empty ∷ placed actions sites
-  | Commit e ↦ elim sites [ [] ↦ Empty ∷ placed actions [] | site ∷ more ↦ Place site ∷ placed actions more ]
-  | Mark e ↦ Empty ∷ placed actions sites
-]
 
 more_commits : (kind : Kind) (n m k : ℕ) → n + m ≡ k → commits_with kind n + m ≡ commits_with kind k
 more_commits (Piece e offset size p) n m k h = h
