@@ -384,11 +384,11 @@ expect 'a large file' 0 $'done second /large\ntotal 1 done 1 skipped 0 failed 0 
 alike 'a large file'
 holds_true 'the size of the large file' test "$(stat -c %s first/large)" = 67108864
 
-# until_plan: waits until the run that was started last has written its plan to both replicas, and stops it there
+# until_plan: waits, a minute at most, until the run that was started last has written its plan to both replicas, and stops
+# it there
 until_plan() {
-  for _ in $(seq 100000); do
-    [ ! -e second/.twosync/plan ] || break
-  done
+  local end=$((SECONDS + 60))
+  until [ -e second/.twosync/plan ] || [ "$SECONDS" -ge "$end" ] || ! kill -0 "$child" 2>/dev/null; do :; done
   kill -STOP "$child" 2>/dev/null
 }
 
@@ -498,7 +498,7 @@ for delay in 0.02 0.05 0.1 0.2 0.4; do
   printf b >second/b
   "$program" "${sync[@]}" >/dev/null 2>&1 &
   child=$!
-  for _ in $(seq 1000); do
+  for _ in $(seq 10000); do
     [ ! -e second/.twosync/plan ] || break
     sleep 0.005
   done
