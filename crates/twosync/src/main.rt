@@ -36,6 +36,10 @@ impl Fault {
 }
 
 impl From<AllocError> for Fault {
+    ghost use Rattle.twosync.specs.declared.Fault.TheVariants.{OutOfMemory};
+
+    ghost from_gives = { λ _ e. e ≡ OutOfMemory };
+
     fn from(_fault: AllocError) -> Fault {
         Fault::OutOfMemory
     }
