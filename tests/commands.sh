@@ -4,81 +4,7 @@
 # usage: tests/commands.sh [PROGRAM]
 set -u
 cd "$(dirname "$0")/.."
-program=$(realpath "${1:-crates/twosync/out/twosync}")
-# After `rt ci` the program stands there; else it is built.
-[ -x "$program" ] || (cd crates/twosync && rt run -- trial <stdin >/dev/null)
-work=$(mktemp -d)
-trap 'chmod -R u+rwx "$work"; rm -rf "$work"' EXIT
-chmod 755 "$work"
-cd "$work" || exit 1
-passed=0
-failed=0
-# The digests of the one-byte files `a` and `b`.
-SA=ca978112ca1bbdcafac231b39a23dc4da786eff8147c4e72b9807785afee48bb
-SB=3e23e8160039594a33894f6564e1b1348bbd7a0088d42c4acb73eeaed59c009d
-
-ok() { passed=$((passed + 1)); }
-bad() {
-  failed=$((failed + 1))
-  echo "FAILED: $*"
-}
-
-# fresh: empty replicas, no archive
-fresh() {
-  chmod -R u+rwx first second 2>/dev/null
-  rm -rf first second archive archive.new plan holds
-  mkdir first second
-}
-
-# expect NAME STATUS OUT ERR WORDS..: what the program prints for these words, and its status
-expect() {
-  local name=$1 status=$2 out=$3 err=$4 got
-  shift 4
-  "$program" "$@" >out 2>err
-  got=$?
-  if [ "$got" = "$status" ] && [ "$(cat out)" = "$out" ] && [ "$(cat err)" = "$err" ]; then
-    ok
-  else
-    bad "$name: status $got, wanted $status"
-    diff <(printf '%s' "$out") <(printf '%s' "$(cat out)") | head -n 8
-    diff <(printf '%s' "$err") <(printf '%s' "$(cat err)") | head -n 8
-  fi
-}
-
-# holds_true NAME COMMAND..: the command succeeds
-holds_true() {
-  local name=$1
-  shift
-  if "$@"; then ok; else bad "$name"; fi
-}
-
-# alike NAME: both replicas hold the same, and nothing of a run is left in them
-alike() {
-  local name=$1
-  if ! diff -r -x .twosync first second >differences; then
-    bad "$name: the replicas differ: $(head -n 3 differences)"
-  elif [ -n "$(find first/.twosync second/.twosync -mindepth 1 2>/dev/null)" ]; then
-    bad "$name: something is left in .twosync"
-  elif [ -e archive.new ]; then
-    bad "$name: archive.new is left"
-  else
-    ok
-  fi
-}
-
-# archive_of BODY: an archive file with this body, by sha256sum
-archive_of() {
-  local lines=0
-  [ -z "$1" ] || lines=$(printf '%s\n' "$1" | wc -l)
-  {
-    echo 'twosync-archive 1'
-    [ -z "$1" ] || printf '%s\n' "$1"
-  } >front
-  cat front
-  echo "end $lines $(sha256sum <front | cut -c1-64)"
-}
-
-sync=(sync first second archive)
+. tests/cases.sh
 
 # ---- a first sync, and one with nothing to do
 fresh
@@ -322,9 +248,11 @@ holds_true 'the original is back' test "$(cat first/gone/a)" = o
 fresh
 printf a >first/a
 mkdir -p second/.twosync/new-0
-expect 'a spot that is taken' 2 $'failed first /a\ntotal 1 done 0 skipped 0 failed 1 blocked 0' 'twosync: fault 8 /a' "${sync[@]}"
-expect 'a spot that was cleared' 0 $'done first /a\ntotal 1 done 1 skipped 0 failed 0 blocked 0' '' "${sync[@]}"
-alike 'a spot that was cleared'
+expect 'a spot that no plan explains' 3 '' 'twosync: fault 8' "${sync[@]}"
+holds_true 'it is left alone' test -d second/.twosync/new-0 -a ! -e second/a -a ! -e archive
+rmdir second/.twosync/new-0
+expect 'a spot that was cleared by hand' 0 $'done first /a\ntotal 1 done 1 skipped 0 failed 0 blocked 0' '' "${sync[@]}"
+alike 'a spot that was cleared by hand'
 fresh
 printf a >first/a
 mkdir first/.twosync second/.twosync
@@ -383,14 +311,6 @@ head -c 67108864 /dev/urandom >second/large
 expect 'a large file' 0 $'done second /large\ntotal 1 done 1 skipped 0 failed 0 blocked 0' '' "${sync[@]}"
 alike 'a large file'
 holds_true 'the size of the large file' test "$(stat -c %s first/large)" = 67108864
-
-# until_plan: waits, a minute at most, until the run that was started last has written its plan to both replicas, and stops
-# it there
-until_plan() {
-  local end=$((SECONDS + 60))
-  until [ -e second/.twosync/plan ] || [ "$SECONDS" -ge "$end" ] || ! kill -0 "$child" 2>/dev/null; do :; done
-  kill -STOP "$child" 2>/dev/null
-}
 
 # ---- targets that change after a run has scanned them and before it comes to them
 # each source is large, so that none of its commits can be made before the run is stopped
@@ -533,9 +453,7 @@ fi
 alike 'two runs'
 
 # ---- what must not be read or written; who may do everything runs this part as nobody
-as=(env)
-[ "$(id -u)" != 0 ] || as=(setpriv --reuid=65534 --regid=65534 --clear-groups)
-if "${as[@]}" true 2>/dev/null && "${as[@]}" "$program" --version >/dev/null 2>&1; then
+if may_be_refused; then
   mkdir open
   chmod 777 open
   cd open || exit 1
@@ -562,7 +480,7 @@ total 3 done 2 skipped 0 failed 1 blocked 0" ] && [ "$(cat second/ok)" = a ]; th
   own 'chmod 755 second/d && mkdir shut && chmod 555 shut && rm -rf first/.twosync second/.twosync'
   "${as[@]}" "$program" sync first second shut/archive >../out 2>../err
   got=$?
-  if [ "$got" = 2 ] && [ "$(cat ../err)" = 'twosync: fault 5' ] && diff -r -x .twosync first second >/dev/null; then
+  if [ "$got" = 3 ] && [ "$(cat ../err)" = 'twosync: fault 5' ] && [ ! -s ../out ] && [ ! -e second/d/x ] && [ ! -e second/.twosync ]; then
     ok
   else
     bad "an archive that can't be written: status $got, $(cat ../err)"
@@ -572,5 +490,4 @@ else
   echo 'skipped: no other user to run as, so what must not be read or written is not tried'
 fi
 
-echo "commands: $passed passed, $failed failed"
-[ "$failed" = 0 ]
+ended commands

@@ -1,18 +1,27 @@
 //! Replicas on a disk: the places of a swap, the sites of commits, recovery, the lock, and the files that commands write.
 #![tactic(auto)]
 
+mod archive;
+mod aside;
 mod compare;
 mod fault;
-mod files;
+mod flushing;
 mod lock;
+mod look;
+mod modes;
 mod place;
 mod places;
+mod plan_file;
 mod recovery;
+mod replacement;
 mod site;
+mod staging;
 
+pub use archive::{ArchivePlace, claim_archive};
 pub use fault::DiskFault;
-pub use files::{save_plan, write_archive};
+pub use flushing::flush_above;
 pub use lock::{Lock, take_lock};
 pub use places::DiskPlaces;
-pub use recovery::{clear_leftovers, recover_replica};
+pub use plan_file::{remove_plan, save_plan};
+pub use recovery::{check_leftovers, clear_leftovers, recover_replica};
 pub use site::DiskSite;

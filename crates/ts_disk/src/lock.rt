@@ -1,10 +1,15 @@
 //! One run at a time on a replica.
 use crate::fault::DiskFault;
-use crate::place::{Standing, look_at, make_own, own_place};
+use crate::modes::PRIVATE_FILE;
+use crate::place::{Standing, look_at, make_own, mark_used, own_place};
 use std::alloc::Global;
-use std::fs::{File, Files, TryLockError};
-use std::os::unix::fs::MetadataExt;
+use std::fs::{File, Files, OpenOptions, TryLockError};
+use std::io::ErrorKind;
+use std::os::unix::fs::{MetadataExt, OpenOptionsExt};
 use std::{fs, io};
+
+/// How often the lock is tried where another run takes the program's directory away in between.
+const TRIES: u32 = 10;
 
 /// Others that take the lock of the replica are refused until this is dropped.
 #[derive(Drop)]
@@ -12,13 +17,37 @@ pub struct Lock {
     // open for as long as the lock is held
     _file: File,
     place: String,
+    own: String,
+    took_part: bool,
 }
 
 impl Lock {
+    /// Whether the replica took part in a run before this one: it had a directory `.twosync`, and not one that a run left which
+    /// was stopped before it came so far.
+    pub fn took_part(&self) -> bool {
+        self.took_part
+    }
+
+    /// Notes that the replica takes part in this run.
+    pub fn take_part<R: Files>(&self, files: &R) -> Result<(), DiskFault> {
+        if self.took_part {
+            return Ok(());
+        }
+        mark_used(files, self.own.as_str()).map_err(|_| DiskFault::Failed)
+    }
+
     /// Removes the lock's file, and then gives the lock up. The file stays where it can't be removed, which hurts no later run.
-    /// The directory `.twosync` stays in any case: another run may be about to make its lock's file there, and would fail.
+    /// The directory `.twosync` stays: it tells that the replica took part in a run.
     pub fn release<R: Files>(self, files: &R) {
         let _ = fs::remove_file(files, self.place.as_str());
+    }
+
+    /// The same where the run was refused: where the replica hadn't taken part before, its directory `.twosync` goes too.
+    pub fn withdraw<R: Files>(self, files: &R) {
+        let _ = fs::remove_file(files, self.place.as_str());
+        if !self.took_part {
+            let _ = fs::remove_dir(files, self.own.as_str());
+        }
     }
 }
 
@@ -36,42 +65,62 @@ pub fn take_lock<R: Files<File = File>>(
         _ => return Ok(None),
     }
     let own = own_place(alloc, root)?;
-    make_own(files, own.as_str()).map_err(|_| DiskFault::Failed)?;
     let place = format!(in alloc; "{own}/lock")?;
-    match look_at(files, place.as_str(), root.len()).map_err(|_| DiskFault::Failed)? {
-        Standing::Nothing | Standing::File => {}
-        Standing::CutOff | Standing::Dir | Standing::Other => return Err(DiskFault::Failed),
+    for _ in 0..TRIES {
+        let took_part = make_own(files, own.as_str()).map_err(|_| DiskFault::Failed)?;
+        match look_at(files, place.as_str(), root.len()).map_err(|_| DiskFault::Failed)? {
+            Standing::Nothing | Standing::File | Standing::CutOff => {}
+            Standing::Dir | Standing::Other => return Err(DiskFault::Failed),
+        }
+        if let Some(file) = open_locked(files, place.as_str())? {
+            return Ok(Some(Lock {
+                _file: file,
+                place,
+                own,
+                took_part,
+            }));
+        }
     }
-    let file = open_locked(files, place.as_str())?;
-    Ok(Some(Lock { _file: file, place }))
+    Err(DiskFault::Failed)
 }
 
-/// Opens the file at a place, which is made where it isn't there, and locks it.
-fn open_locked<R: Files<File = File>>(files: &R, place: &str) -> Result<File, DiskFault> {
-    let file = File::options()
-        .write(true)
-        .create(true)
-        .open(files, place)
-        .map_err(|_| DiskFault::Failed)?;
-    match file.try_lock() {
-        Ok(()) => {}
-        Err(TryLockError::WouldBlock) => return Err(DiskFault::Locked),
-        Err(TryLockError::Error(_)) => return Err(DiskFault::Failed),
-    }
+/// Opens the file at a place, which is made where it isn't there, and locks it. None where its directory isn't there.
+fn open_locked<R: Files<File = File>>(files: &R, place: &str) -> Result<Option<File>, DiskFault> {
+    let mut options = OpenOptions::new();
+    options.write(true).create(true).mode(PRIVATE_FILE);
+    let file = match options.open(files, place) {
+        Ok(file) => file,
+        Err(e) if e.kind() == ErrorKind::NotFound => return Ok(None),
+        Err(_) => return Err(DiskFault::Failed),
+    };
+    lock_file(&file)?;
     // A run that ended since the file was opened has removed it, and another one may hold the lock of a new file there.
     match is_at(files, &file, place) {
-        Ok(true) => Ok(file),
+        Ok(true) => Ok(Some(file)),
         Ok(false) => Err(DiskFault::Locked),
         Err(_) => Err(DiskFault::Failed),
     }
 }
 
+/// Locks an open file, unless another run has.
+pub(crate) fn lock_file(file: &File) -> Result<(), DiskFault> {
+    match file.try_lock() {
+        Ok(()) => Ok(()),
+        Err(TryLockError::WouldBlock) => Err(DiskFault::Locked),
+        Err(TryLockError::Error(_)) => Err(DiskFault::Failed),
+    }
+}
+
 /// Whether an open file is the one at a place.
-fn is_at<R: Files<File = File>>(files: &R, file: &File, place: &str) -> io::Result<bool> {
+pub(crate) fn is_at<R: Files<File = File>>(
+    files: &R,
+    file: &File,
+    place: &str,
+) -> io::Result<bool> {
     let own = file.metadata()?;
     match fs::symlink_metadata(files, place) {
         Ok(there) => Ok(there.dev() == own.dev() && there.ino() == own.ino()),
-        Err(e) if e.kind() == io::ErrorKind::NotFound => Ok(false),
+        Err(e) if e.kind() == ErrorKind::NotFound => Ok(false),
         Err(e) => Err(e),
     }
 }

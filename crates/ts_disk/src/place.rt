@@ -2,10 +2,18 @@
 ghost use Rattle.std.specs.Prelude.{◌≡◌, ◌++◌, IfOk, codes};
 ghost use Rattle.std.specs.String.{string_bytes};
 
+use crate::modes::PRIVATE_DIR;
 use std::alloc::{AllocError, Global};
-use std::fs::{FileType, Files};
+use std::fs::{DirBuilder, FileType, Files, Metadata, Permissions};
 use std::io::ErrorKind;
+use std::os::unix::fs::{DirBuilderExt, MetadataExt, PermissionsExt};
 use std::{fs, io};
+
+/// The bits of a mode by which others than the owner may use a file.
+const OTHERS: u32 = 0o077;
+
+/// The bit that marks the program's own directory until its replica takes part in a run.
+const UNUSED: u32 = 0o1000;
 
 /// The place of the directory in a replica's root that belongs to the program itself.
 pub(crate) fn own_place(alloc: Global, root: &str) -> Result<String, AllocError>
@@ -52,17 +60,25 @@ fn is_cut_before<R: Files>(files: &R, spelled: &str, end: usize) -> io::Result<b
 }
 
 /// What stands at a place, whatever stands above it.
-fn kind_at<R: Files>(files: &R, spelled: &str) -> io::Result<Standing> {
+pub(crate) fn kind_at<R: Files>(files: &R, spelled: &str) -> io::Result<Standing> {
+    match metadata_at(files, spelled)? {
+        Some(metadata) => Ok(kind_of(metadata.file_type())),
+        None => Ok(Standing::Nothing),
+    }
+}
+
+/// What the system says of what stands at a place, without following a link there. None where nothing stands.
+pub(crate) fn metadata_at<R: Files>(files: &R, spelled: &str) -> io::Result<Option<Metadata>> {
     match fs::symlink_metadata(files, spelled) {
-        Ok(metadata) => Ok(kind_of(metadata.file_type())),
+        Ok(metadata) => Ok(Some(metadata)),
         Err(e) => match e.kind() {
-            ErrorKind::NotFound | ErrorKind::NotADirectory => Ok(Standing::Nothing),
+            ErrorKind::NotFound | ErrorKind::NotADirectory => Ok(None),
             _ => Err(e),
         },
     }
 }
 
-fn kind_of(file_type: FileType) -> Standing {
+pub(crate) fn kind_of(file_type: FileType) -> Standing {
     if file_type.is_dir() {
         Standing::Dir
     } else if file_type.is_file() {
@@ -72,16 +88,52 @@ fn kind_of(file_type: FileType) -> Standing {
     }
 }
 
-/// Makes the program's own directory in a root, where it isn't there.
-pub(crate) fn make_own<R: Files>(files: &R, own: &str) -> io::Result<()> {
-    if kind_at(files, own)? == Standing::Nothing {
-        // another thread may have made it meanwhile, so the outcome is looked at below
-        let _ = fs::create_dir(files, own);
+/// Whether one and the same file stands at two places, under two names.
+pub(crate) fn are_one<R: Files>(files: &R, one: &str, other: &str) -> io::Result<bool> {
+    let one = metadata_at(files, one)?;
+    let other = metadata_at(files, other)?;
+    match (one, other) {
+        (Some(one), Some(other)) => Ok(one.dev() == other.dev() && one.ino() == other.ino()),
+        _ => Ok(false),
     }
-    match kind_at(files, own)? {
-        Standing::Dir => Ok(()),
-        Standing::Nothing | Standing::CutOff | Standing::File | Standing::Other => {
-            Err(io::Error::from(ErrorKind::NotADirectory))
+}
+
+/// Makes the program's own directory in a root, for its owner alone, where it isn't there. One that is there is closed to
+/// others, where that can be done. Answers whether the replica took part in a run before: one that was made for a run that
+/// never came so far is marked by its sticky bit, which means nothing else on a directory of one owner.
+pub(crate) fn make_own<R: Files>(files: &R, own: &str) -> io::Result<bool> {
+    let mut builder = DirBuilder::new();
+    builder.mode(PRIVATE_DIR | UNUSED);
+    if builder.create(files, own).is_ok() {
+        return Ok(false);
+    }
+    match metadata_at(files, own)? {
+        Some(metadata) if metadata.is_dir() => {
+            let mode = metadata.mode();
+            if mode & OTHERS != 0 {
+                let kept = PRIVATE_DIR | (mode & UNUSED);
+                let _ = fs::set_permissions(files, own, Permissions::from_mode(kept));
+            }
+            Ok(mode & UNUSED == 0)
         }
+        _ => Err(io::Error::from(ErrorKind::NotADirectory)),
     }
+}
+
+/// Notes at the program's own directory that the replica takes part in a run.
+pub(crate) fn mark_used<R: Files>(files: &R, own: &str) -> io::Result<()> {
+    fs::set_permissions(files, own, Permissions::from_mode(PRIVATE_DIR))
+}
+
+/// Makes a directory that nobody else may enter, where nothing is.
+pub(crate) fn make_private_dir<R: Files>(files: &R, place: &str) -> io::Result<()> {
+    let mut builder = DirBuilder::new();
+    builder.mode(PRIVATE_DIR);
+    builder.create(files, place)
+}
+
+/// Waits until what a directory lists has reached its device.
+pub(crate) fn flush_dir<R: Files>(files: &R, place: &str) -> io::Result<()> {
+    use std::fs::OpenFile;
+    fs::open(files, place)?.sync_all()
 }

@@ -6,15 +6,19 @@ ghost use Rattle.ts_name.specs.Paths.{place_text};
 ghost use Rattle.ts_swap.specs.Leavings.{Counts};
 
 use crate::fault::DiskFault;
-use crate::place::{Standing, look_at, make_own, own_place};
+use crate::place::{Standing, are_one, kind_at, look_at, make_own, own_place};
+use crate::staging::{Bits, write_tree};
 use std::alloc::Global;
-use std::fs::{File, Files};
-use std::io::{ErrorKind, Write};
+use std::fs::Files;
+use std::io::ErrorKind;
 use std::{fs, io};
 use ts_model::items::Items;
-use ts_model::row::{Content, Row};
+use ts_model::row::Row;
 use ts_name::Path;
-use ts_swap::{Failed, Places, Spot};
+use ts_swap::{Failed, Places, Spot, recover};
+
+/// How many names are tried for what can be put back nowhere.
+const NAMES_TRIED: u32 = 1_000_000;
 
 /// The spots of the swap of one entry in a replica on a disk: the entry's place below the root, and for entry `k` the places
 /// `.twosync/new-k` and `.twosync/old-k` in it. They tell nothing of what lies there.
@@ -23,7 +27,7 @@ use ts_swap::{Failed, Places, Spot};
 /// there between the look and the call is followed.
 #[derive(Drop)]
 pub struct DiskPlaces<R> {
-    files: R,
+    pub(crate) files: R,
     root: usize,
     own: String,
     at_target: String,
@@ -70,7 +74,7 @@ impl<R: Drop> DiskPlaces<R> {
     }
 
     /// Counts a failure, if it is one, and answers what is told of it.
-    fn counted(&mut self, done: &io::Result<()>) -> Result<(), Failed>
+    pub(crate) fn counted(&mut self, done: &io::Result<()>) -> Result<(), Failed>
         ensures { Counts self.old.failures self.new.failures result }
     {
         match done {
@@ -82,7 +86,7 @@ impl<R: Drop> DiskPlaces<R> {
         }
     }
 
-    fn place(&self, spot: Spot) -> &str {
+    pub(crate) fn place(&self, spot: Spot) -> &str {
         match spot {
             Spot::Target => self.at_target.as_str(),
             Spot::New => self.at_new.as_str(),
@@ -92,43 +96,31 @@ impl<R: Drop> DiskPlaces<R> {
 }
 
 impl<R: Files + AllocGlobal + Drop> DiskPlaces<R> {
-    fn look(&self, spot: Spot) -> io::Result<Standing> {
+    /// What stands at a spot.
+    pub(crate) fn look(&self, spot: Spot) -> io::Result<Standing> {
         look_at(&self.files, self.place(spot), self.root)
     }
 
-    fn write_rows(&self, tree: &[Row<Items<u8>>]) -> io::Result<()> {
-        make_own(&self.files, self.own.as_str())?;
-        for row in tree {
-            self.write_row(row)?;
-        }
+    /// Makes the program's own directory, where it isn't there.
+    pub(crate) fn make_own(&self) -> io::Result<()> {
+        let _took_part = make_own(&self.files, self.own.as_str())?;
         Ok(())
     }
 
-    /// Makes one directory or file, where nothing is. A file gets the permissions of a new file.
-    fn write_row(&self, row: &Row<Items<u8>>) -> io::Result<()> {
-        let alloc = self.files.alloc();
-        let Ok(place) = row.path.place_below(alloc, self.at_new.as_str()) else {
-            return Err(io::Error::from(ErrorKind::OutOfMemory));
-        };
-        match &row.content {
-            Content::Absent => Ok(()),
-            Content::Dir => fs::create_dir(&self.files, place.as_str()),
-            Content::File(bytes) => {
-                let mut file = File::create_new(&self.files, place.as_str())?;
-                file.write_all(bytes.as_slice())
-            }
-        }
-    }
-
-    fn move_over(&self, from: Spot, to: Spot) -> io::Result<()> {
-        make_own(&self.files, self.own.as_str())?;
-        match self.look(from)? {
+    /// Moves what stands at a spot to another, where nothing stands. Others may take the target at any moment, and are never
+    /// replaced there.
+    pub(crate) fn move_over(&self, from: Spot, to: Spot) -> io::Result<()> {
+        let standing = self.look(from)?;
+        match standing {
             Standing::Dir | Standing::File | Standing::Other => {}
             Standing::Nothing | Standing::CutOff => {
                 return Err(io::Error::from(ErrorKind::NotFound));
             }
         }
         match self.look(to)? {
+            Standing::Nothing if to == Spot::Target => {
+                move_anew(&self.files, self.place(from), standing, self.place(to))
+            }
             Standing::Nothing => fs::rename(&self.files, self.place(from), self.place(to)),
             Standing::CutOff => Err(io::Error::from(ErrorKind::NotFound)),
             Standing::Dir | Standing::File | Standing::Other => {
@@ -137,12 +129,88 @@ impl<R: Files + AllocGlobal + Drop> DiskPlaces<R> {
         }
     }
 
-    fn clear(&self, spot: Spot) -> io::Result<()> {
+    /// Removes what stands at a spot, and all below it.
+    pub(crate) fn clear(&self, spot: Spot) -> io::Result<()> {
         match self.look(spot)? {
             Standing::Nothing | Standing::CutOff => Ok(()),
             Standing::Dir => fs::remove_dir_all(&self.files, self.place(spot)),
             Standing::File | Standing::Other => { fs::remove_file(&self.files, self.place(spot)) }
         }
+    }
+
+    /// Keeps what stands at a spot as `.twosync/left-N`, where `N` is the first number that is free: what can't go back to its
+    /// place, and may be the only copy of something.
+    pub(crate) fn keep(&self, spot: Spot) -> io::Result<()> {
+        let alloc = self.files.alloc();
+        let standing = self.look(spot)?;
+        for number in 0..NAMES_TRIED {
+            let own = self.own.as_str();
+            let Ok(left) = format!(in alloc; "{own}/left-{number}") else {
+                return Err(io::Error::from(ErrorKind::OutOfMemory));
+            };
+            if kind_at(&self.files, left.as_str())? == Standing::Nothing {
+                match move_anew(&self.files, self.place(spot), standing, left.as_str()) {
+                    Err(e) if is_taken(&e) => {}
+                    done => return done,
+                }
+            }
+        }
+        Err(io::Error::from(ErrorKind::AlreadyExists))
+    }
+
+    /// Brings the swap to an end. Where others took the target while it was absent, the original is kept first.
+    pub(crate) fn end(&mut self) -> io::Result<()> {
+        if self.is_target_foreign()? {
+            self.keep(Spot::Old)?;
+        }
+        match recover(self) {
+            Ok(()) => Ok(()),
+            Err(_) => Err(io::Error::from(ErrorKind::Other)),
+        }
+    }
+
+    /// Whether the target was taken by others while it was absent, so that neither the new content nor the original is there.
+    fn is_target_foreign(&self) -> io::Result<bool> {
+        for spot in [Spot::Target, Spot::New, Spot::Old] {
+            match self.look(spot)? {
+                Standing::Dir | Standing::File | Standing::Other => {}
+                Standing::Nothing | Standing::CutOff => return Ok(false),
+            }
+        }
+        // a stop between the two steps by which a file is put in place leaves it under both names
+        Ok(!are_one(&self.files, self.place(Spot::Target), self.place(Spot::New))?)
+    }
+}
+
+/// Moves what stands at a place of the program's own to another, and never replaces what came there meanwhile. A directory is
+/// renamed, since the system renames none over anything but an empty directory. All else is linked to its new name, which
+/// fails where that is taken, and then loses the old one; an old name that can't be removed stays as a second one. Where the
+/// file system has no such links, it is renamed after a look.
+fn move_anew<R: Files>(files: &R, from: &str, standing: Standing, to: &str) -> io::Result<()> {
+    if standing == Standing::Dir {
+        return fs::rename(files, from, to);
+    }
+    match fs::hard_link(files, from, to) {
+        Ok(()) => {
+            let _ = fs::remove_file(files, from);
+            Ok(())
+        }
+        Err(e) if is_taken(&e) || e.kind() == ErrorKind::NotFound => Err(e),
+        Err(_) => match kind_at(files, to)? {
+            Standing::Nothing => fs::rename(files, from, to),
+            _ => Err(io::Error::from(ErrorKind::AlreadyExists)),
+        },
+    }
+}
+
+/// Whether a call failed because something stands where its result was to stand.
+pub(crate) fn is_taken(e: &io::Error) -> bool {
+    match e.kind() {
+        ErrorKind::AlreadyExists
+        | ErrorKind::DirectoryNotEmpty
+        | ErrorKind::IsADirectory
+        | ErrorKind::NotADirectory => true,
+        _ => false,
     }
 }
 
@@ -164,7 +232,7 @@ impl<R: Files + AllocGlobal + Drop> Places for DiskPlaces<R> {
     }
 
     fn write(&mut self, tree: &[Row<Items<u8>>]) -> Result<(), Failed> {
-        let done = self.write_rows(tree);
+        let done = write_tree(&self.files, tree, self.at_new.as_str(), &Bits::private());
         self.counted(&done)
     }
 

@@ -1,19 +1,42 @@
 //! Bringing swaps to an end that were stopped or failed.
 use crate::fault::DiskFault;
-use crate::files::{plan_place, remove_plan};
 use crate::place::{Standing, look_at, own_place};
 use crate::places::DiskPlaces;
+use crate::plan_file::{read_plan, remove_plan};
 use std::alloc::Global;
 use std::fs;
-use std::fs::{File, Files};
-use std::io::{BufReader, ErrorKind};
-use ts_model::plan::{Entry, Plan};
-use ts_plan::PlanFault;
-use ts_swap::recover;
-use ts_text::{Counted, Lines};
+use std::fs::Files;
+use std::io::ErrorKind;
+use ts_model::plan::{Entry, Plan, Reason};
 
-/// Recovers a replica from a run that was stopped: where `.twosync/plan` in its root is the text of a plan, the swap of each
-/// entry is brought to its end, and then the plan file is removed. Where it isn't, no swap had begun, and nothing is done.
+/// Looks whether the plan in a replica explains what a stopped run left there: each spot that is taken belongs to an entry of
+/// it that is copied. Nothing is changed.
+///
+/// `Device` where a spot is taken that no plan explains: it may be the only copy of something. `Failed` where the plan file
+/// can't be read.
+pub fn check_leftovers<R: Files + AllocGlobal + Clone + Drop>(
+    files: &R,
+    alloc: Global,
+    root: &str,
+) -> Result<(), DiskFault> {
+    let taken = taken_spots(files, alloc, root)?;
+    if taken.is_empty() {
+        return Ok(());
+    }
+    let Some(plan) = read_plan(files, alloc, root)? else {
+        return Err(DiskFault::Device);
+    };
+    for number in &taken {
+        if copied_entry(&plan, *number, None).is_none() {
+            return Err(DiskFault::Device);
+        }
+    }
+    Ok(())
+}
+
+/// Recovers a replica from a run that was stopped: where `.twosync/plan` in its root is the text of a plan, the swap of each of
+/// its entries that are copied is brought to its end, and then the plan file is removed. Where it isn't, no swap had begun, and
+/// nothing is done.
 ///
 /// `Failed` where the plan file can't be read or removed, `Device` where a swap can't be brought to its end; both may be
 /// called again.
@@ -22,34 +45,63 @@ pub fn recover_replica<R: Files + AllocGlobal + Clone + Drop>(
     alloc: Global,
     root: &str,
 ) -> Result<(), DiskFault> {
-    match read_plan(files, alloc, root)? {
-        Some(plan) => clear_leftovers(files, alloc, root, &plan),
-        None => Ok(()),
-    }
+    let Some(plan) = read_plan(files, alloc, root)? else {
+        return Ok(());
+    };
+    end_swaps(files, alloc, root, &plan, None)?;
+    remove_plan(files, alloc, root)
 }
 
-/// Brings the swap of each entry of a plan to its end in a replica, so that nothing is left of it in `.twosync`, and then
-/// removes the plan file, if it is there. Where a swap can't be brought to its end, it goes on with the others, and the plan
-/// file stays.
+/// Brings the swap of each entry of a plan with this reason to its end in a replica, so that nothing is left of it in
+/// `.twosync`. Where a swap can't be brought to its end, it goes on with the others. What belongs to no such entry is left as it
+/// is.
 pub fn clear_leftovers<R: Files + AllocGlobal + Clone + Drop>(
     files: &R,
     alloc: Global,
     root: &str,
     plan: &Plan,
+    reason: Reason,
+) -> Result<(), DiskFault> {
+    end_swaps(files, alloc, root, plan, Some(reason))
+}
+
+/// The same for all entries that are copied, or for those of one reason.
+fn end_swaps<R: Files + AllocGlobal + Clone + Drop>(
+    files: &R,
+    alloc: Global,
+    root: &str,
+    plan: &Plan,
+    reason: Option<Reason>,
 ) -> Result<(), DiskFault> {
     let mut ended: Result<(), DiskFault> = Ok(());
     // Recovery does nothing where neither spot of a swap is taken, and both lie in the program's own directory: so those
     // entries are enough of which a listing of it tells a spot.
     for number in &taken_spots(files, alloc, root)? {
-        if let Some(entry) = plan.entries.as_slice().get(*number as usize)
+        if let Some(entry) = copied_entry(plan, *number, reason)
             && let Err(fault) = end_swap(files, alloc, root, entry, *number)
         {
             ended = Err(fault);
         }
     }
-    ended?;
-    let place = plan_place(alloc, root)?;
-    remove_plan(files, root, place.as_str())
+    ended
+}
+
+/// The entry of this number, if it is copied, and for this reason where one is given.
+fn copied_entry(plan: &Plan, number: u32, reason: Option<Reason>) -> Option<&Entry> {
+    let entry = plan.entries.as_slice().get(number as usize)?;
+    let is_asked = match reason {
+        Some(reason) => entry.reason == reason,
+        None => true,
+    };
+    match entry.reason {
+        Reason::First | Reason::Second if is_asked => Some(entry),
+        Reason::First
+        | Reason::Second
+        | Reason::Same
+        | Reason::Conflict
+        | Reason::Held
+        | Reason::Dir => None,
+    }
 }
 
 /// The numbers of the new and old spots that lie in the program's own directory of a replica, one for each spot.
@@ -100,23 +152,5 @@ fn end_swap<R: Files + AllocGlobal + Clone + Drop>(
 ) -> Result<(), DiskFault> {
     let own_files = files.clone().map_err(|_| DiskFault::OutOfMemory)?;
     let mut places = DiskPlaces::new(alloc, own_files, root, &entry.path, number)?;
-    recover(&mut places).map_err(|_| DiskFault::Device)
-}
-
-/// The plan that `.twosync/plan` in a root is the text of, if it is there and is one.
-fn read_plan<R: Files>(files: &R, alloc: Global, root: &str) -> Result<Option<Plan>, DiskFault> {
-    let place = plan_place(alloc, root)?;
-    match look_at(files, place.as_str(), root.len()).map_err(|_| DiskFault::Failed)? {
-        Standing::File => {}
-        Standing::Nothing | Standing::CutOff | Standing::Dir | Standing::Other => return Ok(None),
-    }
-    let file = File::open(files, place.as_str()).map_err(|_| DiskFault::Failed)?;
-    let reader = BufReader::new(alloc, file).map_err(|_| DiskFault::OutOfMemory)?;
-    let mut lines = Lines::new(alloc, Counted::new(reader)).map_err(|_| DiskFault::OutOfMemory)?;
-    match ts_plan::decode(alloc, &mut lines) {
-        Ok(plan) => Ok(Some(plan)),
-        Err(PlanFault::OutOfMemory) => Err(DiskFault::OutOfMemory),
-        Err(PlanFault::Failed) => Err(DiskFault::Failed),
-        Err(PlanFault::NotCanonical | PlanFault::PastLimit) => Ok(None),
-    }
+    places.end().map_err(|_| DiskFault::Device)
 }

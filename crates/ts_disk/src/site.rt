@@ -2,18 +2,21 @@
 ghost use Rattle.std.specs.Prelude.{◌≡◌, ◌≢◌, IfErr, IfOk};
 ghost use Rattle.std.specs.String.{string_bytes};
 
-use crate::compare::compare;
 use crate::fault::DiskFault;
 use crate::places::DiskPlaces;
+use crate::replacement::Replacement;
 use std::alloc::Global;
 use ts_folder::DiskFolder;
 use ts_name::Path;
 use ts_print::{Staged, SubPrint};
 use ts_site::{Site, SiteFault};
-use ts_swap::{Places, Spot, recover, replace};
+use ts_swap::{Places, Spot, replace};
 
 /// The place of one entry's commit in a replica on a disk, by the leave to use files that it keeps. It tells nothing of what
 /// is there.
+///
+/// A file that replaces a file keeps that one's permission bits; all else gets those that it has in the other replica, which is
+/// its source.
 ///
 /// A commit that the device fails at tries to leave what was there: it brings its swap to an end once more. That this
 /// succeeded, and that the disk returns what was written to it, is for its user to know. Where the device has failed
@@ -22,21 +25,25 @@ use ts_swap::{Places, Spot, recover, replace};
 pub struct DiskSite<R> {
     files: R,
     root: String,
+    source: String,
     path: Path,
     entry: u32,
     failures: u64,
 }
 
 impl<R: Drop> DiskSite<R> {
-    /// The place below the root for the entry of this number and path. Nothing is looked at yet.
+    /// The place below the root for the entry of this number and path, which is copied from the replica with the root `source`.
+    /// Nothing is looked at yet.
     pub fn new(
         alloc: Global,
         files: R,
         root: &str,
+        source: &str,
         path: &Path,
         entry: u32,
     ) -> Result<DiskSite<R>, DiskFault>
         ensures root { IfOk result (λ site. string_bytes site.root ≡ root.now) }
+        ensures source { IfOk result (λ site. string_bytes site.source ≡ source.now) }
         ensures entry { IfOk result (λ site. (site.path ≡ path.now) × (site.entry ≡ entry)) }
         ensures failures { IfOk result (λ site. site.failures ≡ 0) }
         ensures fault { IfErr result (λ e. e ≡ DiskFault.OutOfMemory) }
@@ -45,9 +52,11 @@ impl<R: Drop> DiskSite<R> {
             return Err(DiskFault::OutOfMemory);
         };
         let root = String::from_str(alloc, root)?;
+        let source = String::from_str(alloc, source)?;
         Ok(DiskSite {
             files,
             root,
+            source,
             path,
             entry,
             failures: 0,
@@ -60,17 +69,17 @@ impl DiskSite<HostRuntime> {
     fn swap(&self, alloc: Global, before: &SubPrint<'_>, staged: &Staged) -> Result<(), SiteFault>
         ensures { IfErr result (λ e. e ≢ SiteFault.Misfit) }
     {
-        let mut places = self.places(alloc)?;
+        let places = self.places(alloc)?;
         if is_taken(&places, Spot::New) || is_taken(&places, Spot::Old) {
             return Err(SiteFault::Device);
         }
         let folder = self.folder(alloc)?;
-        compare(&folder, alloc, before)?;
-        if replace(&mut places, staged.rows()).is_err() {
-            let _ = recover(&mut places);
-            return Err(SiteFault::Device);
-        }
-        Ok(())
+        let Ok(source) = self.path.place_below(alloc, self.source.as_str()) else {
+            return Err(SiteFault::OutOfMemory);
+        };
+        let mut swap = Replacement::new(alloc, places, &folder, before, staged, source.as_str());
+        let replaced = replace(&mut swap, staged.rows());
+        swap.settle(replaced)
     }
 
     fn places(&self, alloc: Global) -> Result<DiskPlaces<HostRuntime>, SiteFault>

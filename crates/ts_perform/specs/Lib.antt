@@ -1,3 +1,4 @@
 pub mod Ends
 pub mod Faults
+pub mod Stands
 pub mod Trials

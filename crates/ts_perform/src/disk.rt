@@ -1,14 +1,19 @@
 //! The file system as commands see it.
+ghost use Rattle.std.specs.Prelude.{◌≡◌, IfOk};
+ghost use Rattle.ts_perform.specs.Stands.{Stand};
+ghost use denote.Param.Send.{IsSync};
+
 use crate::fault::PerformFault;
 use std::alloc::Global;
 use std::fs::{File, Files};
 use std::thread::Threads;
-use ts_disk::{DiskSite, Lock, take_lock};
+use ts_disk::{ArchivePlace, DiskSite, Lock, claim_archive, flush_above, take_lock};
 use ts_folder::{DiskFolder, Folder};
 use ts_name::Path;
+use ts_print::Print;
 use ts_site::Site;
 
-/// Folders by their names, the places of commits in them, and their locks.
+/// Folders by their names, the places of commits in them, their locks, and the places of archives.
 pub trait Disk {
     type File: Send + Drop;
 
@@ -18,23 +23,65 @@ pub trait Disk {
 
     type Lock: Drop;
 
+    type Archive: Drop;
+
+    // Where a site's commit is made.
+    ghost stand: { Self.Site → Stand };
+
     /// The folder at a directory. Nothing is looked at yet.
     fn folder(&self, alloc: Global, root: &str) -> Result<Self::Folder, PerformFault>;
 
-    /// The place in a replica of the commit of the entry of this number and path. Nothing is looked at yet.
+    /// The place in a replica of the commit of the entry of this number and path, which is copied from the replica `source`.
+    /// Nothing is looked at yet.
     fn site(
         &self,
         alloc: Global,
         root: &str,
+        source: &str,
         path: &Path,
         entry: u32,
-    ) -> Result<Self::Site, PerformFault>;
+    ) -> Result<Self::Site, PerformFault>
+        ensures { IfOk result (λ site. stand site ≡ record { root = root.now; source = source.now; path = path.now }) };
 
     /// Locks a replica until what is answered is dropped. There is no lock where no directory is.
     fn lock(&self, alloc: Global, root: &str) -> Result<Option<Self::Lock>, PerformFault>;
 
-    /// Gives a lock up, and removes what it left in the replica, where that can be done.
+    /// Whether the replica took part in a run before it was locked.
+    fn took_part(&self, lock: &Self::Lock) -> bool;
+
+    /// Notes that a replica takes part in this run.
+    fn take_part(&self, lock: &Self::Lock) -> Result<(), PerformFault>;
+
+    /// Gives a lock up, and removes its file from the replica, where that can be done.
     fn unlock(&self, lock: Self::Lock);
+
+    /// The same after a refusal: all that came with the lock goes with it.
+    fn withdraw(&self, lock: Self::Lock);
+
+    /// Takes the place of an archive, so that no other run writes it.
+    fn claim(&self, alloc: Global, name: &str) -> Result<Self::Archive, PerformFault>;
+
+    /// Writes an archive in its place, and waits until it has reached the device.
+    fn write_archive(
+        &self,
+        alloc: Global,
+        place: &mut Self::Archive,
+        archive: &Print,
+    ) -> Result<(), PerformFault>;
+
+    /// Gives the place of an archive up.
+    fn release(&self, place: Self::Archive);
+
+    /// Waits until the directories in which these paths of a replica stand have reached the device.
+    fn flush_above<T: Threads + Sync>(
+        &self,
+        rt: &T,
+        alloc: Global,
+        root: &str,
+        paths: &[&Path],
+        workers: u32,
+    ) -> Result<(), PerformFault>
+        requires { IsSync T.row };
 }
 
 /// What commands ask of a machine: its file system, its memory, and that threads may share both.
@@ -43,6 +90,10 @@ pub trait Machine: Disk + Files + AllocGlobal + Threads + Clone + Drop + Sync {}
 impl<R: Disk + Files + AllocGlobal + Threads + Clone + Drop + Sync> Machine for R {}
 
 impl Disk for HostRuntime {
+    ghost use Rattle.std.specs.String.{string_bytes};
+
+    ghost stand = { λ site. record { root = string_bytes site.root; source = string_bytes site.source; path = site.path } };
+
     type File = File;
 
     type Folder = DiskFolder<HostRuntime>;
@@ -50,6 +101,8 @@ impl Disk for HostRuntime {
     type Site = DiskSite<HostRuntime>;
 
     type Lock = Lock;
+
+    type Archive = ArchivePlace;
 
     fn folder(&self, alloc: Global, root: &str) -> Result<DiskFolder<HostRuntime>, PerformFault> {
         match DiskFolder::new(alloc, self.clone()?, root) {
@@ -62,17 +115,58 @@ impl Disk for HostRuntime {
         &self,
         alloc: Global,
         root: &str,
+        source: &str,
         path: &Path,
         entry: u32,
     ) -> Result<DiskSite<HostRuntime>, PerformFault> {
-        Ok(DiskSite::new(alloc, self.clone()?, root, path, entry)?)
+        Ok(DiskSite::new(alloc, self.clone()?, root, source, path, entry)?)
     }
 
     fn lock(&self, alloc: Global, root: &str) -> Result<Option<Lock>, PerformFault> {
         Ok(take_lock(self, alloc, root)?)
     }
 
+    fn took_part(&self, lock: &Lock) -> bool {
+        lock.took_part()
+    }
+
+    fn take_part(&self, lock: &Lock) -> Result<(), PerformFault> {
+        Ok(lock.take_part(self)?)
+    }
+
     fn unlock(&self, lock: Lock) {
         lock.release(self);
+    }
+
+    fn withdraw(&self, lock: Lock) {
+        lock.withdraw(self);
+    }
+
+    fn claim(&self, alloc: Global, name: &str) -> Result<ArchivePlace, PerformFault> {
+        Ok(claim_archive(self, alloc, name)?)
+    }
+
+    fn write_archive(
+        &self,
+        alloc: Global,
+        place: &mut ArchivePlace,
+        archive: &Print,
+    ) -> Result<(), PerformFault> {
+        Ok(place.write(self, alloc, archive)?)
+    }
+
+    fn release(&self, place: ArchivePlace) {
+        place.release(self);
+    }
+
+    fn flush_above<T: Threads + Sync>(
+        &self,
+        rt: &T,
+        alloc: Global,
+        root: &str,
+        paths: &[&Path],
+        workers: u32,
+    ) -> Result<(), PerformFault> {
+        Ok(flush_above(rt, self, alloc, root, paths, workers)?)
     }
 }

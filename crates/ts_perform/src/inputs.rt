@@ -18,8 +18,14 @@ use ts_resume::resume;
 use ts_scan::scan;
 use ts_text::{Counted, Lines};
 
-/// Opens a file to be read. None where nothing is there.
+/// Opens a file to be read. None where nothing is there. What is no file, as a directory, a device or a pipe, is never opened:
+/// it might be waited for.
 fn open<R: Files>(rt: &R, name: &str) -> Result<Option<R::File>, PerformFault> {
+    if let Ok(metadata) = fs::metadata(rt, name)
+        && !metadata.is_file()
+    {
+        return Err(PerformFault::Failed);
+    }
     match fs::open(rt, name) {
         Ok(file) => Ok(Some(file)),
         Err(e) => match e.kind() {
@@ -128,6 +134,20 @@ impl Snapshot {
     /// Reads the archive and the rules, and then scans both replicas.
     pub(crate) fn read<R: Machine>(task: &Task<'_, R>) -> Result<Snapshot, PerformFault> {
         let known = Known::read(task.rt, task.pair)?;
+        let now = Scanned::read(task)?;
+        Ok(Snapshot { known, now })
+    }
+
+    /// The same for a `sync`, which is refused where only one of the replicas took part in a run before, though the archive
+    /// names a path: then the other one isn't the folder that the archive is of, as where a disk isn't mounted.
+    pub(crate) fn read_of_both<R: Machine>(
+        task: &Task<'_, R>,
+        is_one_new: bool,
+    ) -> Result<Snapshot, PerformFault> {
+        let known = Known::read(task.rt, task.pair)?;
+        if is_one_new && !known.archive.rows().is_empty() {
+            return Err(PerformFault::NotThere);
+        }
         let now = Scanned::read(task)?;
         Ok(Snapshot { known, now })
     }

@@ -1,0 +1,157 @@
+//! Whether trees on a disk are what they were, or what was written.
+use crate::compare::PIECE;
+use crate::look::Look;
+use crate::place::{Standing, kind_at, metadata_at};
+use sha2::{Digest, Sha256};
+use std::fs::Files;
+use std::io::{ErrorKind, Read};
+use std::{fs, io};
+use ts_model::items::Items;
+use ts_model::row::{Content, Row, Stamp};
+use ts_name::Path;
+use ts_print::SubPrint;
+
+/// Whether what was moved aside is still the part that was compared: the same files, with the sizes and times that were seen,
+/// and nothing else. The bytes are read again where a change may not show in a file's time.
+pub(crate) fn is_untouched<R: Files + AllocGlobal + Clone + Drop>(
+    files: &R,
+    before: &SubPrint<'_>,
+    looks: &[Option<Look>],
+    aside: &str,
+) -> io::Result<bool> {
+    let rows = before.rows();
+    let mut found: u64 = 1;
+    for (row, look) in rows.iter().zip(looks) {
+        let place = place_aside(files, &row.path, before.top(), aside)?;
+        let same = match (&row.content, look) {
+            (Content::Dir, None) => add_children(files, place.as_str(), &mut found)?,
+            (Content::File(stamp), Some(look)) => {
+                is_file_untouched(files, place.as_str(), stamp, look)?
+            }
+            _ => false,
+        };
+        if !same {
+            return Ok(false);
+        }
+    }
+    Ok(found == rows.len() as u64)
+}
+
+/// Whether a tree lies at a place, byte by byte, and nothing else.
+pub(crate) fn is_same_tree<R: Files + AllocGlobal + Clone + Drop>(
+    files: &R,
+    tree: &[Row<Items<u8>>],
+    top: &str,
+) -> io::Result<bool> {
+    let mut found: u64 = 1;
+    for row in tree {
+        let Ok(place) = row.path.place_below(files.alloc(), top) else {
+            return Err(io::Error::from(ErrorKind::OutOfMemory));
+        };
+        let same = match &row.content {
+            Content::Absent => false,
+            Content::Dir => add_children(files, place.as_str(), &mut found)?,
+            Content::File(bytes) => has_bytes(files, place.as_str(), bytes.as_slice())?,
+        };
+        if !same {
+            return Ok(false);
+        }
+    }
+    Ok(found == tree.len() as u64)
+}
+
+/// Where a path that stood below a top lies now that the top was moved aside.
+fn place_aside<R: AllocGlobal>(
+    files: &R,
+    path: &Path,
+    top: &Path,
+    aside: &str,
+) -> io::Result<String> {
+    let alloc = files.alloc();
+    if let Ok(Some(rest)) = path.below(alloc, top)
+        && let Ok(place) = rest.place_below(alloc, aside)
+    {
+        return Ok(place);
+    }
+    Err(io::Error::from(ErrorKind::OutOfMemory))
+}
+
+/// Adds how many children a directory has. False where no directory is, or one of its names is no text.
+fn add_children<R: Files + AllocGlobal + Clone + Drop>(
+    files: &R,
+    place: &str,
+    found: &mut u64,
+) -> io::Result<bool> {
+    if kind_at(files, place)? != Standing::Dir {
+        return Ok(false);
+    }
+    for entry in fs::read_dir(files, place)? {
+        match entry {
+            Ok(_) => *found = found.saturating_add(1),
+            Err(e) if e.kind() == ErrorKind::InvalidFilename => return Ok(false),
+            Err(e) => return Err(e),
+        }
+    }
+    Ok(true)
+}
+
+/// Whether a file is the one that was looked at, unchanged.
+fn is_file_untouched<R: Files + AllocGlobal>(
+    files: &R,
+    place: &str,
+    stamp: &Stamp,
+    look: &Look,
+) -> io::Result<bool> {
+    match metadata_at(files, place)? {
+        Some(metadata) if metadata.is_file() && look.is_same(&metadata) => {
+            Ok(!look.is_recent() || digest_at(files, place)? == stamp.digest)
+        }
+        _ => Ok(false),
+    }
+}
+
+/// The SHA-256 of a file.
+fn digest_at<R: Files + AllocGlobal>(files: &R, place: &str) -> io::Result<[u8; 32]> {
+    let mut file = fs::open(files, place)?;
+    let mut buffer = new_buffer(files)?;
+    let mut hasher = Sha256::new();
+    for _ in 0..u64::MAX {
+        match file.read(buffer.as_mut_slice()) {
+            Ok(0) => break,
+            Ok(count) => hasher.update(&buffer[..count]),
+            Err(e) if e.kind() == ErrorKind::Interrupted => {}
+            Err(e) => return Err(e),
+        }
+    }
+    Ok(hasher.finalize())
+}
+
+/// Whether a file with just these bytes is at a place.
+fn has_bytes<R: Files + AllocGlobal>(files: &R, place: &str, bytes: &[u8]) -> io::Result<bool> {
+    match metadata_at(files, place)? {
+        Some(metadata) if metadata.is_file() && metadata.len() == bytes.len() as u64 => {}
+        _ => return Ok(false),
+    }
+    let mut file = fs::open(files, place)?;
+    let mut buffer = new_buffer(files)?;
+    let mut rest = bytes;
+    for _ in 0..u64::MAX {
+        match file.read(buffer.as_mut_slice()) {
+            Ok(0) => break,
+            Ok(count) => match rest.strip_prefix(&buffer[..count]) {
+                Some(left) => rest = left,
+                None => return Ok(false),
+            },
+            Err(e) if e.kind() == ErrorKind::Interrupted => {}
+            Err(e) => return Err(e),
+        }
+    }
+    Ok(rest.is_empty())
+}
+
+fn new_buffer<R: AllocGlobal>(files: &R) -> io::Result<Vec<u8>> {
+    match vec![in files.alloc(); 0u8; PIECE] {
+        Ok(buffer) => Ok(buffer),
+        Err(_) => Err(io::Error::from(ErrorKind::OutOfMemory)),
+    }
+}

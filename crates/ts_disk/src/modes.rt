@@ -1,0 +1,26 @@
+//! Permissions of what is put in place.
+use crate::place::{Standing, kind_of, metadata_at};
+use std::fs::{Files, Metadata};
+use std::os::unix::fs::MetadataExt;
+
+/// The bits of a mode that say who may read, write and run. Those that change who a program runs as are never copied.
+const PERMISSIONS: u32 = 0o777;
+
+/// Files that nobody else may read.
+pub(crate) const PRIVATE_FILE: u32 = 0o600;
+
+/// Directories that nobody else may enter.
+pub(crate) const PRIVATE_DIR: u32 = 0o700;
+
+/// The permission bits of what has this mode.
+pub(crate) fn permissions(metadata: &Metadata) -> u32 {
+    metadata.mode() & PERMISSIONS
+}
+
+/// The permission bits of what stands at a place, if it is of this kind.
+pub(crate) fn permissions_at<R: Files>(files: &R, place: &str, kind: Standing) -> Option<u32> {
+    match metadata_at(files, place) {
+        Ok(Some(metadata)) if kind_of(metadata.file_type()) == kind => Some(permissions(&metadata)),
+        _ => None,
+    }
+}

@@ -1,0 +1,98 @@
+//! The plan of a run, which lies in both replicas while swaps may be half done.
+ghost use Rattle.ts_model.specs.Texts.{IsPlan};
+
+use crate::fault::DiskFault;
+use crate::modes::PRIVATE_FILE;
+use crate::place::{Standing, flush_dir, kind_at, make_own, own_place};
+use std::alloc::Global;
+use std::fs::{Files, OpenFile, OpenOptions};
+use std::io::{BufReader, BufWriter, Write};
+use std::os::unix::fs::OpenOptionsExt;
+use std::{fs, io};
+use ts_model::plan::Plan;
+use ts_plan::PlanFault;
+use ts_text::{Counted, Lines};
+
+/// The place of the plan file in a replica.
+fn plan_place(alloc: Global, root: &str) -> Result<String, DiskFault> {
+    let own = own_place(alloc, root)?;
+    Ok(format!(in alloc; "{own}/plan")?)
+}
+
+/// Writes the plan to `.twosync/plan` in a replica's root, in place of the file that is there: first whole under another name,
+/// `.twosync/plan.new`. It has reached the device when the call ends. After a fault there may be a beginning of it under that
+/// other name.
+pub fn save_plan<R: Files>(
+    files: &R,
+    alloc: Global,
+    root: &str,
+    plan: &Plan,
+) -> Result<(), DiskFault>
+    requires { IsPlan plan.now }
+{
+    let own = own_place(alloc, root)?;
+    make_own(files, own.as_str()).map_err(|_| DiskFault::Failed)?;
+    let place = plan_place(alloc, root)?;
+    let new = format!(in alloc; "{place}.new")?;
+    remove_at(files, new.as_str()).map_err(|_| DiskFault::Failed)?;
+    write_plan(files, alloc, new.as_str(), plan)?;
+    fs::rename(files, new.as_str(), place.as_str()).map_err(|_| DiskFault::Failed)?;
+    flush_dir(files, own.as_str()).map_err(|_| DiskFault::Failed)
+}
+
+/// Writes a plan where nothing is, and waits until it has reached the device.
+fn write_plan<R: Files>(files: &R, alloc: Global, place: &str, plan: &Plan) -> Result<(), DiskFault>
+    requires { IsPlan plan.now }
+{
+    let mut options = OpenOptions::new();
+    options.write(true).create_new(true).mode(PRIVATE_FILE);
+    let file = options.open(files, place).map_err(|_| DiskFault::Failed)?;
+    let out = BufWriter::new(alloc, file).map_err(|_| DiskFault::OutOfMemory)?;
+    let mut sink = Counted::new(out);
+    match ts_plan::encode(alloc, plan, &mut sink) {
+        Ok(()) => {}
+        Err(PlanFault::OutOfMemory) => return Err(DiskFault::OutOfMemory),
+        Err(_) => return Err(DiskFault::Failed),
+    }
+    sink.inner.flush().map_err(|_| DiskFault::Failed)?;
+    sink.inner
+        .get_ref()
+        .sync_all()
+        .map_err(|_| DiskFault::Failed)
+}
+
+/// Removes the plan file of a replica, or a link in its place, if it is there.
+pub fn remove_plan<R: Files>(files: &R, alloc: Global, root: &str) -> Result<(), DiskFault> {
+    let place = plan_place(alloc, root)?;
+    remove_at(files, place.as_str()).map_err(|_| DiskFault::Failed)
+}
+
+/// Removes a file or a link, if one is at a place.
+fn remove_at<R: Files>(files: &R, place: &str) -> io::Result<()> {
+    match kind_at(files, place)? {
+        Standing::File | Standing::Other => fs::remove_file(files, place),
+        Standing::Nothing | Standing::CutOff | Standing::Dir => Ok(()),
+    }
+}
+
+/// The plan that `.twosync/plan` in a root is the text of, if it is there and is one.
+pub(crate) fn read_plan<R: Files>(
+    files: &R,
+    alloc: Global,
+    root: &str,
+) -> Result<Option<Plan>, DiskFault> {
+    let place = plan_place(alloc, root)?;
+    match kind_at(files, place.as_str()).map_err(|_| DiskFault::Failed)? {
+        Standing::File => {}
+        Standing::Nothing | Standing::CutOff | Standing::Dir | Standing::Other => return Ok(None),
+    }
+    let file = fs::open(files, place.as_str()).map_err(|_| DiskFault::Failed)?;
+    let reader = BufReader::new(alloc, file).map_err(|_| DiskFault::OutOfMemory)?;
+    let mut lines = Lines::new(alloc, Counted::new(reader)).map_err(|_| DiskFault::OutOfMemory)?;
+    match ts_plan::decode(alloc, &mut lines) {
+        Ok(plan) => Ok(Some(plan)),
+        Err(PlanFault::OutOfMemory) => Err(DiskFault::OutOfMemory),
+        Err(PlanFault::Failed) => Err(DiskFault::Failed),
+        Err(PlanFault::NotCanonical | PlanFault::PastLimit) => Ok(None),
+    }
+}

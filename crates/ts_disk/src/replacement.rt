@@ -1,0 +1,303 @@
+//! One commit's swap, which no other process can lose anything by.
+ghost use Rattle.std.specs.Prelude.{◌≡◌, ◌≢◌, IfErr};
+ghost use Rattle.ts_swap.specs.Leavings.{Counts};
+
+use crate::aside::{is_same_tree, is_untouched};
+use crate::compare::compare;
+use crate::look::Look;
+use crate::modes::permissions_at;
+use crate::place::Standing;
+use crate::places::{DiskPlaces, is_taken};
+use crate::staging::{Bits, close_top, write_tree};
+use std::alloc::Global;
+use std::io;
+use std::io::ErrorKind;
+use std::time::Clock;
+use ts_folder::DiskFolder;
+use ts_model::items::Items;
+use ts_model::row::Row;
+use ts_print::{Staged, SubPrint};
+use ts_site::SiteFault;
+use ts_swap::{Failed, Places, Spot};
+
+/// Why a swap isn't made, or was undone.
+#[derive(Clone, Copy, Debug, PartialEq, Eq, Drop)]
+enum Refusal {
+    OutOfMemory,
+    Device,
+    Changed,
+}
+
+/// The spots of one commit's swap, with what has to lie at the target before it.
+///
+/// The target is compared right before it is moved aside. What then lies aside is looked at again, and once more before it is
+/// removed: where it was changed meanwhile it is put back. What came to the target while it was absent is never replaced.
+#[derive(Drop)]
+pub(crate) struct Replacement<'a> {
+    places: DiskPlaces<HostRuntime>,
+    folder: &'a DiskFolder<HostRuntime>,
+    before: &'a SubPrint<'a>,
+    staged: &'a Staged,
+    source: &'a str,
+    // what the comparison saw, one look for each row of `before`
+    looks: Vec<Option<Look>>,
+    // the original was moved aside as it was compared
+    is_aside: bool,
+    // what was moved aside was changed before it was removed
+    is_late: bool,
+    refusal: Option<Refusal>,
+}
+
+impl<'a> Replacement<'a> {
+    pub(crate) fn new(
+        alloc: Global,
+        places: DiskPlaces<HostRuntime>,
+        folder: &'a DiskFolder<HostRuntime>,
+        before: &'a SubPrint<'a>,
+        staged: &'a Staged,
+        source: &'a str,
+    ) -> Replacement<'a> {
+        Replacement {
+            places,
+            folder,
+            before,
+            staged,
+            source,
+            looks: Vec::new(alloc),
+            is_aside: false,
+            is_late: false,
+            refusal: None,
+        }
+    }
+
+    /// Notes why the swap isn't made.
+    fn refuse(&mut self, refusal: Refusal) -> io::Error
+        ensures { self.new.places.failures ≡ self.old.places.failures }
+    {
+        self.refusal = Some(refusal);
+        io::Error::from(ErrorKind::Other)
+    }
+
+    /// Where the permission bits of the new tree come from.
+    fn bits(&self) -> Bits<'a> {
+        let target = self.places.place(Spot::Target);
+        Bits {
+            kept: permissions_at(&self.places.files, target, Standing::File),
+            source: Some(self.source),
+        }
+    }
+
+    /// Writes the new tree.
+    fn write_new(&self, tree: &[Row<Items<u8>>]) -> io::Result<()> {
+        self.places.make_own()?;
+        let bits = self.bits();
+        write_tree(
+            &self.places.files,
+            tree,
+            self.places.place(Spot::New),
+            &bits,
+        )
+    }
+
+    /// Compares what lies at the target, and moves it aside. Where that was changed in between, it is put back; and where
+    /// something else has come there by then, it is kept.
+    fn set_aside(&mut self) -> io::Result<()>
+        ensures { self.new.places.failures ≡ self.old.places.failures }
+    {
+        self.compare()?;
+        self.places.make_own()?;
+        self.places.move_over(Spot::Target, Spot::Old)?;
+        let refusal = match self.is_untouched() {
+            Ok(true) => {
+                self.is_aside = true;
+                return Ok(());
+            }
+            Ok(false) => Refusal::Changed,
+            Err(_) => Refusal::Device,
+        };
+        if self.places.move_over(Spot::Old, Spot::Target).is_err() {
+            let _ = self.places.keep(Spot::Old);
+        }
+        Err(self.refuse(refusal))
+    }
+
+    /// Looks whether the target holds what it has to, and keeps what was seen of its files.
+    fn compare(&mut self) -> io::Result<()>
+        ensures { self.new.places.failures ≡ self.old.places.failures }
+    {
+        let now = self.places.files.since_1970()?;
+        let refusal = match compare(self.folder, self.places.files.alloc(), self.before, now) {
+            Ok(_) if self.before.rows().is_empty() => Refusal::Changed,
+            Ok(looks) => {
+                self.looks = looks;
+                return Ok(());
+            }
+            Err(SiteFault::Changed) => Refusal::Changed,
+            Err(SiteFault::OutOfMemory) => Refusal::OutOfMemory,
+            Err(SiteFault::Device) => Refusal::Device,
+            Err(SiteFault::Misfit) => unreachable!(),
+        };
+        Err(self.refuse(refusal))
+    }
+
+    /// Whether what lies aside is what was compared.
+    fn is_untouched(&self) -> io::Result<bool> {
+        let aside = self.places.place(Spot::Old);
+        is_untouched(
+            &self.places.files,
+            self.before,
+            self.looks.as_slice(),
+            aside,
+        )
+    }
+
+    /// Moves the new tree to the target, where nothing lies.
+    fn put_in_place(&mut self) -> io::Result<()>
+        ensures { self.new.places.failures ≡ self.old.places.failures }
+    {
+        // the original was gone before it could be moved aside
+        if self.is_aside == self.before.rows().is_empty() {
+            return Err(self.refuse(Refusal::Changed));
+        }
+        match self.places.move_over(Spot::New, Spot::Target) {
+            Err(e) if is_taken(&e) => Err(self.refuse(Refusal::Changed)),
+            done => done,
+        }
+    }
+
+    /// Removes what lies aside, unless it was changed since it was compared.
+    fn remove_aside(&mut self) -> io::Result<()>
+        ensures { self.new.places.failures ≡ self.old.places.failures }
+    {
+        if self.is_untouched().unwrap_or(false) {
+            self.places.clear(Spot::Old)
+        } else {
+            self.is_late = true;
+            Err(self.refuse(Refusal::Changed))
+        }
+    }
+
+    /// What came of the swap, once what it leaves aside is settled.
+    pub(crate) fn settle(&mut self, replaced: Result<(), Failed>) -> Result<(), SiteFault>
+        ensures { IfErr result (λ e. e ≢ SiteFault.Misfit) }
+    {
+        if replaced.is_ok() {
+            if self.is_late {
+                self.put_back();
+                return Err(SiteFault::Changed);
+            }
+            // what was to be removed was gone before
+            if self.is_aside == self.before.rows().is_empty() {
+                return Err(SiteFault::Changed);
+            }
+            self.close_top();
+            return Ok(());
+        }
+        match self.refusal {
+            Some(refusal) => {
+                self.clean_up();
+                Err(fault_of(refusal))
+            }
+            None => {
+                let _ = self.places.end();
+                Err(SiteFault::Device)
+            }
+        }
+    }
+
+    /// Gives a directory that was put in place the permission bits that it couldn't be moved with.
+    fn close_top(&self) {
+        let bits = self.bits();
+        let target = self.places.place(Spot::Target);
+        let _ = close_top(&self.places.files, self.staged.rows(), target, &bits);
+    }
+
+    /// Puts back what was changed aside after the new tree was put in place. What others made of the new tree meanwhile is
+    /// kept.
+    fn put_back(&mut self) {
+        if self.is_as_staged(Spot::Target)
+            && self.places.move_over(Spot::Target, Spot::New).is_ok()
+        {
+            if self.places.move_over(Spot::Old, Spot::Target).is_err() {
+                let _ = self.places.keep(Spot::Old);
+            }
+            let _ = if self.is_as_staged(Spot::New) {
+                self.places.clear(Spot::New)
+            } else {
+                self.places.keep(Spot::New)
+            };
+        } else {
+            let _ = self.places.keep(Spot::Old);
+        }
+    }
+
+    /// Keeps an original that can't go back, since others have taken the target. Only then the new tree is removed: as long as
+    /// it is there, recovery knows that the target isn't it.
+    fn clean_up(&mut self) {
+        let is_clear = match self.places.look(Spot::Old) {
+            Ok(Standing::Nothing | Standing::CutOff) => true,
+            Ok(_) => self.places.keep(Spot::Old).is_ok(),
+            Err(_) => false,
+        };
+        if is_clear {
+            let _ = self.places.clear(Spot::New);
+        }
+    }
+
+    /// Whether what lies at a spot is the staged tree, byte by byte.
+    fn is_as_staged(&self, spot: Spot) -> bool {
+        is_same_tree(
+            &self.places.files,
+            self.staged.rows(),
+            self.places.place(spot),
+        )
+        .unwrap_or(false)
+    }
+}
+
+/// The fault that tells a refusal.
+fn fault_of(refusal: Refusal) -> SiteFault
+    ensures { result ≢ SiteFault.Misfit }
+{
+    match refusal {
+        Refusal::OutOfMemory => SiteFault::OutOfMemory,
+        Refusal::Device => SiteFault::Device,
+        Refusal::Changed => SiteFault::Changed,
+    }
+}
+
+impl Places for Replacement<'_> {
+    ghost use Rattle.std.specs.Prelude.{None};
+
+    ghost spots = { λ _. None };
+
+    ghost failures = { λ r. r.places.failures };
+
+    ghost hides = { λ _ _. Unit {0} };
+
+    fn present(&self, spot: Spot) -> Result<bool, Failed> {
+        self.places.present(spot)
+    }
+
+    fn write(&mut self, tree: &[Row<Items<u8>>]) -> Result<(), Failed> {
+        let done = self.write_new(tree);
+        self.places.counted(&done)
+    }
+
+    fn rename(&mut self, from: Spot, to: Spot) -> Result<(), Failed> {
+        let done = match (from, to) {
+            (Spot::Target, Spot::Old) => self.set_aside(),
+            (Spot::New, Spot::Target) => self.put_in_place(),
+            _ => self.places.move_over(from, to),
+        };
+        self.places.counted(&done)
+    }
+
+    fn remove(&mut self, spot: Spot) -> Result<(), Failed> {
+        let done = match spot {
+            Spot::Old => self.remove_aside(),
+            Spot::Target | Spot::New => self.places.clear(spot),
+        };
+        self.places.counted(&done)
+    }
+}

@@ -1,0 +1,151 @@
+//! New trees, written beside a replica until they are put in place.
+use crate::modes::{PRIVATE_DIR, PRIVATE_FILE, permissions_at};
+use crate::place::{Standing, make_private_dir};
+use std::fs::{Files, OpenFile, OpenOptions, Permissions};
+use std::io::{ErrorKind, Write};
+use std::os::unix::fs::{OpenOptionsExt, PermissionsExt};
+use std::{fs, io};
+use ts_model::items::Items;
+use ts_model::row::{Content, Row};
+
+/// The bit by which an owner may write to a directory, as it takes to move one.
+const OWNER_WRITES: u32 = 0o200;
+
+/// Where the permission bits of a new tree come from: a file that replaces a file has that one's, all else has those of what
+/// it is copied from. Without either nobody but the owner may do anything.
+#[derive(Clone, Copy, Drop)]
+pub(crate) struct Bits<'a> {
+    /// The permission bits of the file that is replaced by a file.
+    pub kept: Option<u32>,
+    /// Where the tree is copied from.
+    pub source: Option<&'a str>,
+}
+
+impl Bits<'_> {
+    /// Those of nothing: for the owner alone.
+    pub(crate) fn private() -> Bits<'static> {
+        Bits {
+            kept: None,
+            source: None,
+        }
+    }
+
+    /// The permission bits that a row's file or directory is to have.
+    fn of<R: Files + AllocGlobal, T>(
+        &self,
+        files: &R,
+        row: &Row<T>,
+        kind: Standing,
+    ) -> io::Result<u32> {
+        let private = if kind == Standing::Dir {
+            PRIVATE_DIR
+        } else {
+            PRIVATE_FILE
+        };
+        if kind == Standing::File
+            && row.path.is_root()
+            && let Some(kept) = self.kept
+        {
+            return Ok(kept);
+        }
+        let Some(source) = self.source else {
+            return Ok(private);
+        };
+        let place = below(files, row, source)?;
+        Ok(permissions_at(files, place.as_str(), kind).unwrap_or(private))
+    }
+}
+
+/// Writes a tree where nothing is, for the owner alone, waits until all has reached the device, and then gives each file and
+/// directory its permission bits. A directory at the top that its owner must not write to gets its bits by `close_top`, once it
+/// stands in its place.
+pub(crate) fn write_tree<R: Files + AllocGlobal>(
+    files: &R,
+    tree: &[Row<Items<u8>>],
+    top: &str,
+    bits: &Bits<'_>,
+) -> io::Result<()> {
+    for row in tree {
+        let place = below(files, row, top)?;
+        match &row.content {
+            Content::Absent => {}
+            Content::Dir => make_private_dir(files, place.as_str())?,
+            Content::File(bytes) => write_file(files, place.as_str(), bytes.as_slice())?,
+        }
+    }
+    // from the last to the first: a directory is closed only when all below it is done
+    for row in tree.iter().rev() {
+        close_row(files, row, top, bits)?;
+    }
+    Ok(())
+}
+
+/// Gives one file or directory its permission bits. Where the file system keeps no such bits, it does without.
+fn close_row<R: Files + AllocGlobal>(
+    files: &R,
+    row: &Row<Items<u8>>,
+    top: &str,
+    bits: &Bits<'_>,
+) -> io::Result<()> {
+    let place = below(files, row, top)?;
+    match &row.content {
+        Content::Absent => Ok(()),
+        Content::File(_) => {
+            let mode = bits.of(files, row, Standing::File)?;
+            if mode != PRIVATE_FILE {
+                let _ = fs::set_permissions(files, place.as_str(), Permissions::from_mode(mode));
+            }
+            Ok(())
+        }
+        Content::Dir => {
+            let mode = bits.of(files, row, Standing::Dir)?;
+            let is_top = row.path.is_root();
+            let mode = if is_top { mode | OWNER_WRITES } else { mode };
+            close_dir(files, place.as_str(), mode)
+        }
+    }
+}
+
+/// Gives a directory that was put in place the permission bits that it couldn't be moved with.
+pub(crate) fn close_top<R: Files + AllocGlobal>(
+    files: &R,
+    tree: &[Row<Items<u8>>],
+    place: &str,
+    bits: &Bits<'_>,
+) -> io::Result<()> {
+    if let Some(row) = tree.first()
+        && let Content::Dir = &row.content
+    {
+        let mode = bits.of(files, row, Standing::Dir)?;
+        if mode & OWNER_WRITES == 0 {
+            close_dir(files, place, mode)?;
+        }
+    }
+    Ok(())
+}
+
+/// The place of a row below a top.
+fn below<R: AllocGlobal, T>(files: &R, row: &Row<T>, top: &str) -> io::Result<String> {
+    match row.path.place_below(files.alloc(), top) {
+        Ok(place) => Ok(place),
+        Err(_) => Err(io::Error::from(ErrorKind::OutOfMemory)),
+    }
+}
+
+/// Writes a file where nothing is, for the owner alone, and waits until it has reached the device.
+fn write_file<R: Files>(files: &R, place: &str, bytes: &[u8]) -> io::Result<()> {
+    let mut options = OpenOptions::new();
+    options.write(true).create_new(true).mode(PRIVATE_FILE);
+    let mut file = options.open(files, place)?;
+    file.write_all(bytes)?;
+    file.sync_all()
+}
+
+/// Gives a directory its permission bits, and waits until it has reached the device.
+fn close_dir<R: Files>(files: &R, place: &str, mode: u32) -> io::Result<()> {
+    let directory = fs::open(files, place)?;
+    if mode != PRIVATE_DIR {
+        let _ = directory.set_permissions(Permissions::from_mode(mode));
+    }
+    directory.sync_all()
+}

@@ -1,0 +1,70 @@
+-- Where commits are made.
+--     Stand                       below which replica's root, from which replica, and at which path
+--     stand_of first second e     where the commit of an entry is made: in the replica that it is copied to. An entry that isn't copied has no commit
+--     stands_of first second      where the commits of a plan are made, in the order of its actions
+--     IsRunOf                     results, words and slots are those of one run, whose commits were made where they stand
+use Rattle.std.specs.Prelude.{◌≡◌, ℕ, List, [], ◌∷◌, Option, Some, None, map, slice_get}
+use Rattle.ts_name.specs.Paths.{Path}
+use Rattle.ts_board.specs.Terms.{placed, terms_with}
+use Rattle.ts_board.specs.declared.law.Slot.{Slot}
+use Rattle.ts_check.specs.Checkup.{Checkup}
+use Rattle.ts_exec.specs.Failures.{setting_of}
+use Rattle.ts_exec.specs.Outcomes.{IsOutcome}
+use Rattle.ts_exec.specs.declared.outcome.ActionResult.{ActionResult}
+use Rattle.ts_folder.specs.declared.fault.Trouble.{Trouble}
+use Rattle.ts_folder.specs.declared.folder.Call.{Call}
+use Rattle.ts_model.specs.Trees.{Listing}
+use Rattle.ts_model.specs.declared.plan.Action.{Action}
+use Rattle.ts_model.specs.declared.plan.Entry.{Entry}
+use Rattle.ts_model.specs.declared.plan.Kind.{Kind}
+use Rattle.ts_model.specs.declared.plan.Kind.TheVariants.{Piece, Commit, Mark}
+use Rattle.ts_model.specs.declared.plan.Reason.{Reason}
+use Rattle.ts_model.specs.declared.plan.Reason.TheVariants as reason
+
+pub record Stand : Type 0 where
+  pub root : List ℕ
+  pub source : List ℕ
+  pub path : Path
+
+abbrev pub target_root : List ℕ → List ℕ → Reason → List ℕ
+target_root first second reason.First = second
+target_root first second reason.Second = first
+target_root first second reason.Same = second
+target_root first second reason.Conflict = second
+target_root first second reason.Held = second
+target_root first second reason.Dir = second
+
+abbrev pub source_root : List ℕ → List ℕ → Reason → List ℕ
+source_root first second reason.First = first
+source_root first second reason.Second = second
+source_root first second reason.Same = first
+source_root first second reason.Conflict = first
+source_root first second reason.Held = first
+source_root first second reason.Dir = first
+
+abbrev pub stand_of : List ℕ → List ℕ → Entry → Stand
+stand_of first second entry = record {
+  root = target_root first second entry.reason;
+  source = source_root first second entry.reason;
+  path = entry.path;
+}
+
+abbrev pub stand_at : List ℕ → List ℕ → Option Entry → Option Stand
+stand_at first second None = None
+stand_at first second (Some entry) = Some (stand_of first second entry)
+
+abbrev pub stands_of : List ℕ → List ℕ → List Entry → List Action → List (Option Stand)
+stands_of first second entries [] = []
+stands_of first second entries (action ∷ actions) = elim action.kind [
+  | Piece e offset size p ↦ stands_of first second entries actions
+  | Commit e ↦ stand_at first second (slice_get entries e) ∷ stands_of first second entries actions
+  | Mark e ↦ stands_of first second entries actions
+]
+
+-- the sites with which the run began, each at its stand, and the folders that it read
+pub record IsRunOf {S F : Type 0} (stand : S → Stand) (content : S → Option (Listing (List ℕ))) (failures : S → ℕ) (tells : F → Option (Listing (List ℕ))) (lets : F → Call → Path → Trouble → Type 0) (first second : List ℕ) (checkup : Checkup) (results : List ActionResult) (words : List ℕ) (slots : List (Slot S)) : Type 0 where
+  pub sites : List S
+  pub stands : map (λ s. Some (stand s)) sites ≡ stands_of first second checkup.plan.entries checkup.plan.actions
+  pub from_first : F
+  pub from_second : F
+  pub outcome : let t = terms_with content checkup.plan checkup.first checkup.second (placed checkup.plan.actions sites) in IsOutcome content (setting_of failures tells lets checkup from_first from_second t.told) t results words slots

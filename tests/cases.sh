@@ -1,0 +1,154 @@
+# What the scripts that run the program `twosync` share. It is sourced, from the repository's root, with the script's own
+# words: the first one names the program. After it the script is in an empty folder of its own, which goes when it ends.
+# shellcheck shell=bash
+program=$(realpath -m "${1:-crates/twosync/out/twosync}")
+# After `rt ci` the program stands there; else it is built, unless another one is named.
+if [ ! -x "$program" ] && [ "$#" = 0 ]; then
+  (cd crates/twosync && rt run -- trial <stdin >/dev/null)
+fi
+if [ ! -f "$program" ] || [ ! -x "$program" ]; then
+  echo "$(basename "$0"): there is no program $program" >&2
+  exit 1
+fi
+work=$(mktemp -d) || exit 1
+# What was started here and still runs is ended with the script, also where it is stopped.
+leave() {
+  local job
+  for job in $(jobs -pr); do kill -KILL "$job" 2>/dev/null; done
+  chmod -R u+rwx "$work"
+  rm -rf "$work"
+}
+trap leave EXIT
+chmod 755 "$work"
+cd "$work" || exit 1
+# What was started last by a script that stops it and lets it go on.
+child=
+passed=0
+failed=0
+# The digests of the one-byte files `a` and `b`.
+# shellcheck disable=SC2034
+SA=ca978112ca1bbdcafac231b39a23dc4da786eff8147c4e72b9807785afee48bb
+# shellcheck disable=SC2034
+SB=3e23e8160039594a33894f6564e1b1348bbd7a0088d42c4acb73eeaed59c009d
+# The command that most cases run.
+# shellcheck disable=SC2034
+sync=(sync first second archive)
+
+ok() { passed=$((passed + 1)); }
+bad() {
+  failed=$((failed + 1))
+  echo "FAILED: $*"
+}
+
+# ended NAME: the script's last line, and its status
+ended() {
+  echo "$1: $passed passed, $failed failed"
+  [ "$failed" = 0 ]
+}
+
+# fresh: empty replicas, no archive
+fresh() {
+  chmod -R u+rwx first second 2>/dev/null
+  rm -rf first second archive archive.new plan holds
+  mkdir first second
+}
+
+# expect NAME STATUS OUT ERR WORDS..: what the program prints for these words, and its status
+expect() {
+  local name=$1 status=$2 out=$3 err=$4 got
+  shift 4
+  "${before[@]}" "$program" "$@" >out 2>err
+  got=$?
+  answered "$name" "$status" "$out" "$err" "$got"
+}
+
+# answered NAME STATUS OUT ERR GOT: what the program has printed to the files `out` and `err`, and its status GOT
+answered() {
+  if [ "$5" = "$2" ] && [ "$(cat out)" = "$3" ] && [ "$(cat err)" = "$4" ]; then
+    ok
+  else
+    bad "$1: status $5, wanted $2"
+    diff <(printf '%s' "$3") <(printf '%s' "$(cat out)") | head -n 8
+    diff <(printf '%s' "$4") <(printf '%s' "$(cat err)") | head -n 8
+  fi
+}
+# What `expect` puts before the program: a limit of time, or another user.
+before=()
+
+# holds_true NAME COMMAND..: the command succeeds
+holds_true() {
+  local name=$1
+  shift
+  if "$@"; then ok; else bad "$name"; fi
+}
+
+# alike NAME: both replicas hold the same, and nothing of a run is left in them
+alike() {
+  local name=$1
+  if ! diff -r -x .twosync first second >differences; then
+    bad "$name: the replicas differ: $(head -n 3 differences)"
+  elif [ -n "$(find first/.twosync second/.twosync -mindepth 1 2>/dev/null)" ]; then
+    bad "$name: something is left in .twosync"
+  elif [ -e archive.new ]; then
+    bad "$name: archive.new is left"
+  else
+    ok
+  fi
+}
+
+# archive_of BODY: an archive file with this body, by sha256sum
+archive_of() {
+  local lines=0
+  [ -z "$1" ] || lines=$(printf '%s\n' "$1" | wc -l)
+  {
+    echo 'twosync-archive 1'
+    [ -z "$1" ] || printf '%s\n' "$1"
+  } >front
+  cat front
+  echo "end $lines $(sha256sum <front | cut -c1-64)"
+}
+
+# state: all that lies in this folder but what these scripts write themselves: kinds, modes, links, times of files, contents.
+# The mode of .twosync is left out, and so are times of folders: a run may set them and change nothing.
+state() {
+  local own=(-path ./out -o -path ./err -o -path ./front -o -path ./differences -o -path './state.*')
+  find . \( "${own[@]}" \) -prune -o -type d -name .twosync -printf '%p %y\n' -o -type f -printf '%p %y %m %T@\n' \
+    -o -printf '%p %y %m %l\n' | sort
+  find . \( "${own[@]}" \) -prune -o -type f -exec sha256sum {} + | sort
+}
+
+# refused NAME FAULT WORDS..: the program refuses these words at once, by a fault of this number, and changes nothing
+refused() {
+  local name=$1 fault=$2 outer=("${before[@]}")
+  shift 2
+  state >state.before
+  before=(timeout 10 "${outer[@]}")
+  expect "$name" 3 '' "twosync: fault $fault" "$@"
+  before=("${outer[@]}")
+  state >state.after
+  if cmp -s state.before state.after; then
+    ok
+  else
+    bad "$name: something has changed"
+    diff state.before state.after | grep '^[<>]' | cut -c1-150 | head -n 6
+  fi
+}
+
+# until_there PLACE: waits, a minute at most, until something stands there or the run that was started last has ended
+until_there() {
+  local end=$((SECONDS + 60))
+  until [ -e "$1" ] || [ "$SECONDS" -ge "$end" ] || ! kill -0 "$child" 2>/dev/null; do :; done
+}
+
+# until_plan: waits until the run that was started last has written its plan to both replicas, and stops it there
+until_plan() {
+  until_there second/.twosync/plan
+  kill -STOP "$child" 2>/dev/null
+}
+
+# Who may do everything may read and write everything, so what must be refused runs as nobody.
+as=(env)
+# shellcheck disable=SC2034
+[ "$(id -u)" != 0 ] || as=(setpriv --reuid=65534 --regid=65534 --clear-groups)
+# may_be_refused: whether there is such a user, who can run the program
+may_be_refused() { "${as[@]}" true 2>/dev/null && "${as[@]}" "$program" --version >/dev/null 2>&1; }

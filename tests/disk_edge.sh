@@ -1,0 +1,411 @@
+#!/usr/bin/env bash
+# What lies where a run comes to work, and where it must not do harm: leftovers of other runs in .twosync, whatever stands
+# at the archive's place, and a replica that isn't mounted. What is wanted is written out here.
+# usage: tests/disk_edge.sh [PROGRAM]
+set -u
+cd "$(dirname "$0")/.." || exit 1
+. tests/cases.sh
+umask 022
+
+nothing='total 0 done 0 skipped 0 failed 0 blocked 0'
+one='total 1 done 1 skipped 0 failed 0 blocked 0'
+
+# both_at BYTES: both replicas and the archive have one file /f, of one byte `a`; each has its own directory
+both_at() {
+  fresh
+  printf a | tee first/f >second/f
+  archive_of "f /f 1 $SA" >archive
+  mkdir -m 700 first/.twosync second/.twosync
+}
+
+# a_plan ENTRY: a plan of this one entry
+a_plan() {
+  case $1 in
+  first) printf 'twosync-plan 1\nentry first /f\npiece 0 0 1 /f\ncommit 0\np 0\nmark 0\np 1\nend 1 3\n' ;;
+  second) printf 'twosync-plan 1\nentry second /f\npiece 0 0 1 /f\ncommit 0\np 0\nmark 0\np 1\nend 1 3\n' ;;
+  same | dir) printf 'twosync-plan 1\nentry %s /f\nmark 0\nend 1 1\n' "$1" ;;
+  conflict | held) printf 'twosync-plan 1\nentry %s /f\nend 1 0\n' "$1" ;;
+  esac
+}
+
+# plan_file KIND FILE: makes a plan file that doesn't vouch for a spot of entry 0
+plan_file() {
+  case $1 in
+  missing) rm -f "$2" ;;
+  empty) : >"$2" ;;
+  cut) a_plan first | head -c 40 >"$2" ;;
+  'cut by its last byte') a_plan first | head -c -1 >"$2" ;;
+  damaged) a_plan first | sed 's/^end 1 3$/end 1 4/' >"$2" ;;
+  longer) { a_plan first && printf x; } >"$2" ;;
+  'of another version') a_plan first | sed 's/^twosync-plan 1$/twosync-plan 9/' >"$2" ;;
+  'without entries') printf 'twosync-plan 1\nend 0 0\n' >"$2" ;;
+  *) a_plan "${1##* }" >"$2" ;;
+  esac
+}
+no_plans=(missing empty cut 'cut by its last byte' damaged longer 'of another version')
+no_entries=('without entries' 'of conflict' 'of held' 'of same' 'of dir')
+
+# ---- leftovers that no plan vouches for
+# spots REPLICA WHICH: puts the one copy of something at the spots of entry 0; the file that the old one was is gone
+spots() {
+  case $2 in new | both) mkdir "$1/.twosync/new-0" && printf new >"$1/.twosync/new-0/x" ;; esac
+  case $2 in old | both) printf precious >"$1/.twosync/old-0" && rm "$1/f" ;; esac
+}
+for replica in first second; do
+  for spot in new old both; do
+    for kind in "${no_plans[@]}" "${no_entries[@]}"; do
+      both_at
+      spots "$replica" "$spot"
+      plan_file "$kind" "$replica/.twosync/plan"
+      refused "$spot in $replica, a plan $kind: sync" 8 "${sync[@]}"
+      printf 'twosync-plan 1\nend 0 0\n' >plan
+      refused "$spot in $replica, a plan $kind: run" 8 run first second archive plan
+    done
+  done
+done
+for spot in new-1 old-1 new-7 old-4294967295; do
+  both_at
+  printf precious >"second/.twosync/$spot"
+  a_plan first | tee first/.twosync/plan >second/.twosync/plan
+  refused "$spot, which the plan has no entry for" 8 "${sync[@]}"
+done
+# one good spot doesn't vouch for another
+both_at
+rm second/f
+printf a >second/.twosync/old-0
+printf precious >second/.twosync/old-1
+mkdir second/.twosync/new-0
+a_plan first | tee first/.twosync/plan >second/.twosync/plan
+refused 'a spot of the plan and one that is none' 8 "${sync[@]}"
+
+# ---- leftovers of other entries, where this run's entry 0 is one that stays as it is
+# The conflict: /c was changed in the first replica, and deleted in the second.
+for reason in conflict held; do
+  for spot in new old both; do
+    both_at
+    mv first/f first/c
+    rm second/f
+    archive_of "f /c 1 $SA" >archive
+    words=("${sync[@]}")
+    if [ "$reason" = conflict ]; then
+      printf b >first/c
+    else
+      echo 'path /c' >holds
+      words+=(--holds holds)
+    fi
+    case $spot in new | both) printf another >second/.twosync/new-0 ;; esac
+    case $spot in old | both) printf precious >second/.twosync/old-0 ;; esac
+    refused "$spot beside an entry of $reason" 8 "${words[@]}"
+    holds_true "$spot beside an entry of $reason: nothing appears at its path" test ! -e second/c
+  done
+done
+
+# ---- a plan file that is no plan, and no spot: as if it weren't there
+for kind in "${no_plans[@]}" "${no_entries[@]}" 'of first' 'of second'; do
+  both_at
+  printf b >first/f
+  plan_file "$kind" first/.twosync/plan
+  plan_file "$kind" second/.twosync/plan
+  expect "no spot, a plan $kind" 0 $'done first /f\n'"$one" '' "${sync[@]}"
+  alike "no spot, a plan $kind"
+done
+
+# ---- recovery by a good plan in either replica, also where the other one has lost its plan file
+for role in 'first second' 'second first'; do
+  read -r from to <<<"$role"
+  for there in both one; do
+    both_at
+    printf b >"$from/f"
+    mv "$to/f" "$to/.twosync/old-0"
+    printf x >"$to/.twosync/new-0"
+    a_plan "$from" >"$to/.twosync/plan"
+    [ "$there" = one ] || a_plan "$from" >"$from/.twosync/plan"
+    expect "recovery in $to, plans in $there" 0 "done $from /f"$'\n'"$one" '' "${sync[@]}"
+    alike "recovery in $to, plans in $there"
+    holds_true "recovery in $to, plans in $there: the change" test "$(cat "$to/f")" = b
+  done
+done
+
+# ---- what else lies in .twosync stays
+others=(left-0 left-7 notes new-x new- old-x new-0.bak .new-0 old.0 plan.old)
+both_at
+printf b >first/f
+for name in "${others[@]}"; do
+  printf '%s' "$name" | tee "first/.twosync/$name" >"second/.twosync/$name"
+done
+expect 'other names' 0 $'done first /f\n'"$one" '' "${sync[@]}"
+for replica in first second; do
+  for name in "${others[@]}"; do
+    holds_true "$name stays in $replica" test "$(cat "$replica/.twosync/$name" 2>/dev/null)" = "$name"
+  done
+  holds_true "nothing else is in $replica" test "$(find "$replica/.twosync" -mindepth 1 | wc -l)" = "${#others[@]}"
+done
+# Names that spell the number of an entry in another way are no spots of it, however the command answers.
+for name in new-00 old-00 new-+0 old-+0 old-0x0 old-4294967296; do
+  both_at
+  printf b >first/f
+  printf precious >"second/.twosync/$name"
+  timeout 10 "$program" "${sync[@]}" >/dev/null 2>&1
+  holds_true "$name stays" test "$(cat "second/.twosync/$name" 2>/dev/null)" = precious
+done
+# A link in place of the plan or of its beginning isn't followed.
+for name in plan plan.new; do
+  both_at
+  printf b >first/f
+  printf theirs >theirs
+  ln -s ../../theirs "first/.twosync/$name"
+  ln -s ../../theirs "second/.twosync/$name"
+  timeout 10 "$program" "${sync[@]}" >/dev/null 2>&1
+  holds_true "a link in place of $name is not followed" test "$(cat theirs)" = theirs
+  rm theirs
+done
+
+# ---- what stands at the place where the new archive is made
+# changed: /f was changed in the first replica since the last run
+changed() {
+  both_at
+  printf b >first/f
+}
+done_well() {
+  expect "$1" 0 $'done first /f\n'"$one" '' sync first second "${2:-archive}"
+  alike "$1"
+  holds_true "$1: the archive" cmp -s archive <(archive_of "f /f 1 $SB")
+}
+beginning() {
+  case $1 in
+  empty) : ;;
+  'one letter') printf t ;;
+  'a shorter beginning') printf 'twosync-arch' ;;
+  'the word') printf 'twosync-archive ' ;;
+  'a cut archive') printf 'twosync-archive 1\nf /f 1 ca97' ;;
+  'a whole archive') archive_of "f /f 1 $SA" ;;
+  'another version') printf 'twosync-archive 2\n' ;;
+  esac
+}
+for kind in empty 'one letter' 'a shorter beginning' 'the word' 'a cut archive' 'a whole archive' 'another version'; do
+  changed
+  beginning "$kind" >archive.new
+  done_well "archive.new is $kind"
+done
+theirs() {
+  case $1 in
+  'my notes') printf 'my notes\n' >archive.new ;;
+  'nearly an archive') printf 'twosync-archivX' >archive.new ;;
+  'another first letter') printf ' twosync-archive 1\n' >archive.new ;;
+  'a link to notes') printf notes >elsewhere && ln -s elsewhere archive.new ;;
+  'a link to an archive') archive_of '' >elsewhere && ln -s elsewhere archive.new ;;
+  'a link to nothing') ln -s elsewhere archive.new ;;
+  'a folder') mkdir archive.new ;;
+  'a folder with a file') mkdir archive.new && printf x >archive.new/x ;;
+  'a fifo') mkfifo archive.new ;;
+  esac
+}
+for kind in 'my notes' 'nearly an archive' 'another first letter' 'a link to notes' 'a link to an archive' \
+  'a link to nothing' 'a folder' 'a folder with a file' 'a fifo'; do
+  rm -rf elsewhere
+  changed
+  a_plan first >plan
+  theirs "$kind"
+  refused "archive.new is $kind: sync" 5 "${sync[@]}"
+  rm -rf elsewhere
+  changed
+  a_plan first >plan
+  theirs "$kind"
+  refused "archive.new is $kind: run" 5 run first second archive plan
+  rm -rf elsewhere archive.new
+done
+
+# ---- an archive's place that can't have one
+for kind in folder fifo device; do
+  changed
+  a_plan first >plan
+  rm archive
+  case $kind in
+  folder) mkdir archive ;;
+  fifo) mkfifo archive ;;
+  device)
+    if ! mknod archive c 1 3 2>/dev/null; then
+      echo 'skipped: this user may make no device, so none is given as the archive'
+      continue
+    fi
+    ;;
+  esac
+  refused "the archive is a $kind: sync" 5 "${sync[@]}"
+  refused "the archive is a $kind: run" 5 run first second archive plan
+  refused "the archive is a $kind: plan" 5 plan first second archive
+  refused "the archive is a $kind: check" 5 check first second archive plan
+  refused "the archive is a $kind: show" 5 show archive
+done
+changed
+refused 'the archive has no folder' 5 sync first second nowhere/archive
+refused 'the archive is below a file' 5 sync first second archive/archive
+if may_be_refused; then
+  changed
+  mkdir shut
+  cp archive shut
+  chmod 555 shut
+  chmod -R a+rwX first second
+  chmod 777 first/.twosync second/.twosync
+  chown -R 65534 first second shut 2>/dev/null
+  before=("${as[@]}")
+  refused 'a new archive in a folder that must not be written' 5 sync first second shut/new
+  refused 'an archive in a folder that must not be written' 5 sync first second shut/archive
+  before=()
+  chmod 755 shut
+  rm -r shut
+else
+  echo 'skipped: no other user to run as, so a folder that must not be written is not tried'
+fi
+
+# ---- after a refusal there is no new archive
+changed
+printf x >>archive
+refused 'a longer archive' 6 "${sync[@]}"
+changed
+sed -i 's/ 1 ca/ 1 da/' archive
+refused 'a changed archive' 7 "${sync[@]}"
+changed
+mkfifo first/p
+refused 'a fifo in a replica' 10 "${sync[@]}"
+changed
+refused 'no rules there' 9 "${sync[@]}" --holds nowhere
+refused 'no plan there' 9 run first second archive nowhere
+refused 'no first folder' 9 sync nowhere second archive
+changed
+a_plan second >plan
+state >state.before
+expect 'a plan for another pair' 3 'refused 3 0' '' run first second archive plan
+state >state.after
+holds_true 'a plan for another pair: nothing has changed' cmp -s state.before state.after
+
+# ---- the archive may be reached by links
+mkdir real links
+linked() {
+  changed
+  rm -f real/* links/*
+  [ "$2" = dangling ] || mv archive real/archive
+  rm -f archive
+  case $1 in
+  relative) ln -s ../real/archive links/archive ;;
+  absolute) ln -s "$work/real/archive" links/archive ;;
+  twice) ln -s ../real/archive links/other && ln -s other links/archive ;;
+  esac
+  readlink links/archive >state.link
+}
+for kind in relative absolute twice; do
+  for there in there dangling; do
+    linked "$kind" "$there"
+    # where there is no archive yet, the changed file is a conflict, so it is settled first
+    [ "$there" = there ] || printf b >second/f
+    lines=$([ "$there" = there ] && echo first || echo same)
+    expect "a $kind link to an archive, $there" 0 "done $lines /f"$'\n'"$one" '' sync first second links/archive
+    alike "a $kind link to an archive, $there"
+    holds_true "a $kind link to an archive, $there: it stays a link" cmp -s state.link <(readlink links/archive)
+    holds_true "a $kind link to an archive, $there: what it leads to" \
+      cmp -s real/archive <(archive_of "f /f 1 $SB")
+    holds_true "a $kind link to an archive, $there: it is alone" test "$(find real links -type f)" = real/archive
+    expect "a $kind link to an archive, $there: again" 0 "$nothing" '' sync first second links/archive
+  done
+done
+# Whichever place the new archive has, a file of somebody's beside the link or beside what it leads to isn't touched.
+for place in links real; do
+  linked relative there
+  printf 'my notes' >"$place/archive.new"
+  timeout 10 "$program" sync first second links/archive >/dev/null 2>&1
+  holds_true "$place/archive.new stays" test "$(cat "$place/archive.new" 2>/dev/null)" = 'my notes'
+done
+rm -rf real links
+
+# ---- two runs at once with one archive and different pairs
+fresh
+rm -rf third fourth
+mkdir third fourth
+printf c >third/c
+seq 400 | split -l 1 -a 2 - first/f
+ln -s archive other
+"$program" "${sync[@]}" >theirs 2>&1 &
+child=$!
+until_plan
+printf 'twosync-plan 1\nentry first /c\npiece 0 0 1 /c\ncommit 0\np 0\nmark 0\np 1\nend 1 3\n' >plan
+refused 'another pair with an archive that is in use: sync' 8 sync third fourth archive
+refused 'another pair with an archive that is in use: run' 8 run third fourth archive plan
+refused 'another pair with an archive that is in use, by a link' 8 sync third fourth other
+kill -CONT "$child" 2>/dev/null
+wait "$child"
+got=$?
+holds_true 'the first run' test "$got" = 0 -a "$(tail -n 1 theirs)" = 'total 400 done 400 skipped 0 failed 0 blocked 0'
+alike 'the first run'
+holds_true 'its archive' test "$("$program" show archive | wc -l)" = 400
+rm -rf third fourth other theirs
+
+# ---- a replica that isn't mounted
+# seen: a pair that was synchronized
+seen() {
+  fresh
+  printf a | tee first/f >second/f
+  "$program" "${sync[@]}" >/dev/null 2>&1
+}
+for replica in first second; do
+  other=$([ "$replica" = first ] && echo second || echo first)
+  for how in empty others; do
+    seen
+    holds_true "a run leaves .twosync in $replica" test -d "$replica/.twosync"
+    holds_true "a run leaves it empty in $replica" test -z "$(ls -A "$replica/.twosync")"
+    rm -r "$replica"
+    mkdir "$replica"
+    [ "$how" = empty ] || printf z >"$replica/z"
+    refused "$replica isn't mounted, $how there" 9 "${sync[@]}"
+    holds_true "$replica isn't mounted, $how there: the other file stays" test "$(cat "$other/f")" = a
+    refused "$replica isn't mounted, $how there: again" 9 "${sync[@]}"
+    refused "$replica isn't mounted, $how there: with one worker" 9 "${sync[@]}" --workers 1
+  done
+  seen
+  rm -r "$replica"
+  mkdir "$replica"
+  want=$(printf 'twosync-plan 1\nentry %s /f\ncommit 0\nmark 0\np 0\nend 1 2' "$replica")
+  state >state.before
+  expect "$replica isn't mounted: plan" 0 "$want" '' plan first second archive
+  echo "$want" >plan
+  expect "$replica isn't mounted: check" 0 valid '' check first second archive plan
+  rm plan
+  state >state.after
+  holds_true "$replica isn't mounted: plan and check change nothing" cmp -s state.before state.after
+  echo "$want" >plan
+  expect "$replica isn't mounted: run" 0 "done $replica /f"$'\n'"$one" '' run first second archive plan
+  alike "$replica isn't mounted: run"
+  holds_true "$replica isn't mounted: the plan is carried out" test ! -e first/f -a ! -e second/f
+
+  seen
+  rm -r "$replica"
+  mkdir -p "$replica/.twosync"
+  expect "$replica was emptied, but has .twosync" 0 "done $replica /f"$'\n'"$one" '' "${sync[@]}"
+  seen
+  rm -r first/.twosync second/.twosync "$replica/f"
+  expect "neither has .twosync, and $replica was emptied" 0 "done $replica /f"$'\n'"$one" '' "${sync[@]}"
+
+  for kind in absent empty; do
+    fresh
+    printf a >first/f
+    mkdir "$other/.twosync"
+    [ "$kind" = absent ] || archive_of '' >archive
+    expect "$replica has no .twosync, the archive is $kind" 0 $'done first /f\n'"$one" '' "${sync[@]}"
+    alike "$replica has no .twosync, the archive is $kind"
+  done
+done
+
+# ---- a refused command takes its own directory away again, and leaves one that was there
+fresh
+printf x >archive
+refused 'an archive that is none, no .twosync' 6 "${sync[@]}"
+fresh
+mkfifo second/p
+refused 'a fifo, no .twosync' 10 "${sync[@]}"
+mkdir first/.twosync
+refused 'a fifo, one .twosync' 10 "${sync[@]}"
+fresh
+printf b >first/b
+refused 'no second folder, no .twosync' 9 sync first nowhere archive
+printf 'twosync-plan 1\nend 0 00\n' >plan
+refused 'no plan text, no .twosync' 6 run first second archive plan
+
+ended disk_edge

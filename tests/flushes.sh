@@ -1,0 +1,255 @@
+#!/usr/bin/env bash
+# The order of flushes, for the day when the power fails: what a run has put in place is on the disk before the archive says
+# so, and the plan is there before the first target is touched. It is read from a trace of the program's calls.
+# usage: tests/flushes.sh [PROGRAM]
+set -u
+cd "$(dirname "$0")/.." || exit 1
+. tests/cases.sh
+
+if ! command -v strace >/dev/null; then
+  echo 'skipped: strace is missing, so the order of flushes is not looked at'
+  ended flushes
+  exit
+fi
+
+# Reads a trace, and tells for each thing that has to hold whether it does: `ok WHAT`, or `bad WHAT: WHERE`. The words are
+# the folder of the run, and the targets that the run has to touch.
+# A thing is a file or a folder, by whatever names it goes. It is dirty from a change of its bytes or its names to its next
+# flush; a flush counts for what was changed before it began.
+cat >judge.py <<'E'
+import re, sys
+
+log, work, *targets = sys.argv[1:]
+REPLICAS = [work + "/first", work + "/second"]
+ARCHIVE = work + "/archive"
+FLUSHES = {"fsync", "fdatasync"}
+WRITES = {"write", "writev", "pwrite64", "pwritev", "pwritev2", "ftruncate", "sendfile", "copy_file_range", "splice"}
+TEXT = re.compile(r'"((?:[^"\\]|\\.)*)"')
+
+
+class Thing:
+    def __init__(self, folder):
+        self.folder = folder
+        self.changed = -1  # when its bytes or names were changed last, by the number of the call
+        self.flushed = -1  # when its last flush began
+
+
+things = {}  # by place
+
+
+def thing(place, folder=False):
+    found = things.setdefault(place, Thing(folder))
+    found.folder = found.folder or folder
+    return found
+
+
+def parent(place):
+    return place.rsplit("/", 1)[0] or "/"
+
+
+def is_dirty(place):
+    return place in things and things[place].changed > things[place].flushed
+
+
+def below(place):
+    return [p for p in things if p == place or p.startswith(place + "/")]
+
+
+def root_of(place):
+    return next((r for r in REPLICAS if place.startswith(r + "/")), None)
+
+
+def is_target(place):
+    root = root_of(place)
+    return root is not None and not (place + "/").startswith(root + "/.twosync/")
+
+
+failures = {}
+seen = {}
+
+
+def hold(what, true, where=""):
+    seen[what] = True
+    if not true:
+        failures.setdefault(what, where)
+
+
+def places(rest):
+    """The places that a call names, whole: each text, below the folder that stands before it."""
+    found = []
+    for match in TEXT.finditer(rest):
+        text = match.group(1)
+        if not text.startswith("/"):
+            base = re.search(r"(?:AT_FDCWD|\d+)<([^>]*)>, $", rest[: match.start()])
+            text = (base.group(1) if base else work) + "/" + text
+        parts = []
+        for part in text.split("/"):
+            if part == ".." and parts:
+                parts.pop()
+            elif part not in ("", ".", ".."):
+                parts.append(part)
+        found.append("/" + "/".join(parts))
+    return found
+
+
+def calls():
+    """Each call that succeeded: its name, what stands after it, and when it began and ended."""
+    begun = {}
+    for number, line in enumerate(open(log, errors="replace"), 1):
+        match = re.match(r"(\d+)\s+(.*)", line.rstrip("\n"))
+        if not match:
+            continue
+        thread, rest = match.groups()
+        if rest.endswith("<unfinished ...>"):
+            begun[thread] = (number, rest[: -len("<unfinished ...>")])
+            continue
+        start = number
+        resumed = re.match(r"<\.\.\. \w+ resumed>(.*)", rest)
+        if resumed:
+            start, front = begun.pop(thread)
+            rest = front.rstrip() + resumed.group(1)
+        match = re.match(r"(\w+)\((.*)\)\s+= (-?\d+|\?)(.*)", rest)
+        if match and not match.group(3).startswith("-") and match.group(3) != "?":
+            yield match.group(1), match.group(2), match.group(4), start, number
+
+
+plan_at = {r: 0 for r in REPLICAS}  # 0: not there, 1: renamed, 2: and flushed
+archive_at = None
+touched = set()
+for name, rest, result, start, end in calls():
+    descriptor = re.match(r"\d+<([^>]*)>", rest)
+    if name in ("open", "openat", "creat"):
+        place = places(rest)[0]
+        if name == "creat" or "O_CREAT" in rest:
+            if place not in things:
+                thing(place).changed = end
+                thing(parent(place), True).changed = end
+        elif "O_TRUNC" in rest:
+            thing(place).changed = end
+    elif name in ("mkdir", "mkdirat"):
+        place = places(rest)[0]
+        thing(place, True).changed = end
+        thing(parent(place), True).changed = end
+    elif name in WRITES and descriptor:
+        # what is written to comes last for two of these
+        at = re.findall(r"\d+<([^>]*)>", rest)[-1 if name in ("copy_file_range", "splice") else 0]
+        if at.startswith("/"):
+            thing(at).changed = end
+    elif name in FLUSHES and descriptor:
+        flushed = thing(descriptor.group(1))
+        flushed.flushed = max(flushed.flushed, start)
+        for root in REPLICAS:
+            if descriptor.group(1) == root + "/.twosync" and plan_at[root] == 1:
+                plan_at[root] = 2
+    elif name in ("sync", "syncfs"):
+        for each in things.values():
+            each.flushed = max(each.flushed, start)
+        plan_at = {r: 2 if at else 0 for r, at in plan_at.items()}
+    elif name in ("unlink", "rmdir", "unlinkat"):
+        place = places(rest)[0]
+        root = root_of(place)
+        if root and place == root + "/.twosync/plan":
+            plan_at[root] = 0
+            spots = [p for p in things if re.match(re.escape(root) + r"/\.twosync/(new|old)-\d+$", p)]
+            hold("the plan is removed last", not spots, " ".join(spots))
+        things.pop(place, None)
+        thing(parent(place), True).changed = end
+    elif name.startswith(("rename", "link")):
+        old, new = places(rest)[:2]
+        for root in REPLICAS:
+            if new == root + "/.twosync/plan":
+                hold("the plan is written beside its place", old == root + "/.twosync/plan.new", old)
+                hold("the plan is flushed before it is renamed", old in things and not is_dirty(old), old)
+        if (is_target(old) or is_target(new)) and not touched:
+            for root in REPLICAS:
+                hold("both plans are in place before a target is touched", plan_at[root] > 0, root)
+                hold("their folders are flushed before a target is touched", plan_at[root] == 2, root)
+        for place in (old, new):
+            if is_target(place):
+                touched.add(place)
+        if new == ARCHIVE:
+            hold("the archive is written beside its place", old == ARCHIVE + ".new", old)
+            hold("the archive is flushed before it is renamed", old in things and not is_dirty(old), old)
+            dirty = sorted(p for p in things if is_target(p) and is_dirty(p))
+            files = [p for p in dirty if not things[p].folder]
+            inner = [p for p in dirty if things[p].folder]
+            tops = [r for r in REPLICAS if is_dirty(r)]
+            hold("files are flushed before the archive is renamed", not files, " ".join(files[:3]))
+            hold("folders are flushed before the archive is renamed", not inner, " ".join(inner[:3]))
+            hold("the replicas' own folders are flushed before the archive is renamed", not tops, " ".join(tops))
+            archive_at = end
+        if name.startswith("rename"):
+            for place in below(new):
+                things.pop(place)
+            for place in below(old):
+                things[new + place[len(old):]] = things.pop(place)
+        elif old in things:
+            things[new] = things[old]
+        thing(parent(old), True).changed = end
+        thing(parent(new), True).changed = end
+        if new in (r + "/.twosync/plan" for r in REPLICAS):
+            plan_at[root_of(new)] = 1
+
+hold("the run puts the archive in place", archive_at is not None)
+hold("its folder is flushed afterwards", archive_at is not None and not is_dirty(work), work)
+missing = [t for t in targets if work + "/" + t not in touched]
+hold("each target is touched", not missing, " ".join(missing))
+WANTED = [
+    "the plan is written beside its place", "the plan is flushed before it is renamed", "the plan is removed last",
+    "both plans are in place before a target is touched", "their folders are flushed before a target is touched",
+    "the archive is written beside its place", "the archive is flushed before it is renamed",
+    "files are flushed before the archive is renamed", "folders are flushed before the archive is renamed",
+    "the replicas' own folders are flushed before the archive is renamed",
+]
+for what in WANTED:
+    hold(what, what in seen, "it never comes to that")
+for what in seen:
+    print("bad %s: %s" % (what, failures[what].replace(work + "/", "")) if what in failures else "ok " + what)
+E
+
+calls=open,openat,creat,mkdir,mkdirat,write,writev,pwrite64,pwritev,ftruncate,sendfile,copy_file_range,splice
+calls+=,rename,renameat,renameat2,link,linkat,unlink,unlinkat,rmdir,fsync,fdatasync,sync,syncfs
+
+# judged NAME WORKERS STATUS TARGETS..: runs the program on the pair as it stands, and looks at its trace
+judged() {
+  local name=$1 workers=$2 status=$3 got verdict what
+  shift 3
+  strace -qq -f -y -s 1 -e signal=none -e trace="$calls" -o log "$program" "${sync[@]}" --workers "$workers" >out 2>err
+  got=$?
+  holds_true "$name: its status is $got" test "$got" = "$status" -a ! -s err
+  python3 judge.py log "$(pwd -P)" "$@" >judged
+  while read -r verdict what; do
+    if [ "$verdict" = ok ]; then ok; else bad "$name: $what"; fi
+  done <judged
+  holds_true "$name: the trace was judged" test "$(wc -l <judged)" = 13
+}
+
+for workers in 1 4; do
+  fresh
+  mkdir -p first/d/e/f first/d/g second/h/i first/both second/both
+  : >first/d/empty
+  printf a >first/d/e/one
+  head -c 65536 /dev/urandom >first/d/e/f/piece
+  head -c 3145729 /dev/urandom >first/large
+  printf b >first/both/x
+  printf c >second/h/i/c
+  head -c 70000 /dev/urandom >second/both/y
+  judged "a first sync by $workers" "$workers" 0 second/d second/large second/both/x first/h first/both/y
+  alike "a first sync by $workers"
+  printf changed >first/d/e/one
+  rm first/d/empty
+  rm -r first/d/g
+  rm first/large
+  mkdir first/large
+  printf a >first/large/x
+  printf changed >second/both/y
+  rm -r second/h
+  printf file >second/h
+  printf new >second/new
+  rm second/both/x
+  judged "changes by $workers" "$workers" 0 second/d/e/one second/d/empty second/d/g second/large \
+    first/both/y first/h first/new first/both/x
+  alike "changes by $workers"
+done
+
+ended flushes
