@@ -106,7 +106,12 @@ impl<'a> Replacement<'a> {
     {
         self.compare()?;
         self.places.make_own()?;
-        self.places.move_over(Spot::Target, Spot::Old)?;
+        match self.places.move_over(Spot::Target, Spot::Old) {
+            Ok(()) => {}
+            // it went after it was compared
+            Err(e) if e.kind() == ErrorKind::NotFound => return Err(self.refuse(Refusal::Changed)),
+            Err(e) => return Err(e),
+        }
         let refusal = match self.is_untouched() {
             Ok(true) => {
                 self.is_aside = true;
@@ -212,22 +217,23 @@ impl<'a> Replacement<'a> {
         let _ = close_top(&self.places.files, self.staged.rows(), target, &bits);
     }
 
-    /// Puts back what was changed aside after the new tree was put in place. What others made of the new tree meanwhile is
-    /// kept.
+    /// Puts back what was changed aside after the new tree was put in place, unless others have taken the target by then. What
+    /// they made of the new tree meanwhile is kept.
     fn put_back(&mut self) {
-        if self.is_as_staged(Spot::Target)
-            && self.places.move_over(Spot::Target, Spot::New).is_ok()
-        {
-            if self.places.move_over(Spot::Old, Spot::Target).is_err() {
-                let _ = self.places.keep(Spot::Old);
-            }
+        let is_gone = self.staged.rows().is_empty();
+        let is_ours = !is_gone
+            && self.is_as_staged(Spot::Target)
+            && self.places.move_over(Spot::Target, Spot::New).is_ok();
+        let is_free = is_gone || is_ours;
+        if !is_free || self.places.move_over(Spot::Old, Spot::Target).is_err() {
+            let _ = self.places.keep(Spot::Old);
+        }
+        if is_ours {
             let _ = if self.is_as_staged(Spot::New) {
                 self.places.clear(Spot::New)
             } else {
                 self.places.keep(Spot::New)
             };
-        } else {
-            let _ = self.places.keep(Spot::Old);
         }
     }
 
