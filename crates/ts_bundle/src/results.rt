@@ -1,7 +1,8 @@
 //! Writing what is left of a plan that was carried out.
 ghost use Rattle.std.specs.Prelude.{◌≡◌, ◌∷◌, ◌++◌, [], codes, cond, false, true, IfErr, OnOk};
 ghost use Rattle.ts_model.specs.Texts.{text, tree_lines, print_lines};
-ghost use Rattle.ts_model.specs.Trial.{done_count, is_skipped, report_line, result_lines, skipped_count, total_line};
+ghost use Rattle.ts_model.specs.Sync.{is_skipped};
+ghost use Rattle.ts_model.specs.Trial.{done_count, report_line, result_lines, skipped_count, total_line};
 ghost use Rattle.ts_text.specs.Sources.{Writes};
 ghost use Rattle.ts_bundle.specs.Faults.{FailuresFit};
 ghost use Rattle.ts_bundle.specs.Results.{report_lines};
@@ -20,7 +21,10 @@ use ts_text::write::write_line;
 pub fn count_skipped(entries: &[Entry]) -> usize
     ensures { result ≡ skipped_count entries.now }
 {
-    entries.iter().filter(|entry| skips(entry.reason)).count()
+    entries
+        .iter()
+        .filter(|entry| entry.reason.is_skipped())
+        .count()
 }
 
 /// How many entries something is done about.
@@ -156,26 +160,20 @@ fn push_total(entries: &[Entry], line: &mut Vec<u8>) -> Result<(), BundleFault>
     Ok(())
 }
 
-/// Whether nothing is done for this reason.
-fn skips(reason: Reason) -> bool
-    ensures { result ≡ is_skipped reason }
-{
-    match reason {
-        Reason::Conflict | Reason::Held => true,
-        Reason::Same | Reason::First | Reason::Second | Reason::Dir => false,
-    }
-}
-
 /// Whether something is done for this reason.
 fn settles(reason: Reason) -> bool
     ensures { result ≡ cond (is_skipped reason) false true }
 {
-    !skips(reason)
+    !reason.is_skipped()
 }
 
 /// What the report says was done for this reason.
 fn outcome_word(reason: Reason) -> &'static [u8]
     ensures { result.now ≡ cond (is_skipped reason) (codes "skip") (codes "done") }
 {
-    if skips(reason) { b"skip" } else { b"done" }
+    if reason.is_skipped() {
+        b"skip"
+    } else {
+        b"done"
+    }
 }

@@ -4,7 +4,7 @@ use Rattle.std.proofs.lemmas.Bool.{true≢false}
 use Rattle.std.proofs.lemmas.Option.{none-some, same_Some}
 use Rattle.ts_name.specs.Paths.{Path, IsAbove, IsBefore}
 use Rattle.ts_model.specs.Trees.{Tree, Print, sub, IsTree, AreApart}
-use Rattle.ts_model.specs.Sync.{Snapshot, IsSnapshot, AreReplicas, HasReason, IsSkipped, Synced}
+use Rattle.ts_model.specs.Sync.{Snapshot, IsSnapshot, AreReplicas, HasReason, IsSkipped, Synced, is_skipped}
 use Rattle.ts_model.specs.Plans.{EntryIs, source, Valid}
 use Rattle.ts_model.specs.Runs.{Run, graft, marked, with_mark, after, start}
 use Rattle.ts_model.specs.Headline.{AllDone, FinalArchive, Meets}
@@ -16,7 +16,7 @@ use Rattle.ts_model.specs.declared.plan.Entry.{Entry}
 use Rattle.ts_model.specs.declared.plan.Kind.TheVariants.{Commit, Mark}
 use Rattle.ts_model.specs.declared.plan.Plan.{Plan}
 use Rattle.ts_laws.specs.Laws.{Finishes}
-use Rattle.ts_laws.specs.Carried.{same_reason, is_skipped, copied, marked_all, IsCarriedOut, LeavesCarried}
+use Rattle.ts_laws.specs.Carried.{same_reason, copied, marked_all, IsCarriedOut, LeavesCarried}
 use Rattle.ts_laws.proofs.Settings.{Setting, Begun, Ran, begun_at, ran_at, ran_from}
 use Rattle.ts_laws.proofs.Basics.{Dec-both, Dec-either, Dec-not, IsTree-from_print, Start-from, stable, same_names}
 use Rattle.ts_name.proofs.Prefixes.{decide_above}

@@ -8,7 +8,7 @@ use Rattle.std.specs.Prelude.{◌≡◌, ◌≢◌, Bool, true, false, cond, Lis
 use Rattle.std.specs.List.{AllByRecursion}
 use Rattle.ts_name.specs.Paths.{Name, Path, IsBefore}
 use Rattle.ts_model.specs.Trees.{Tree, Print, sub, IsTree}
-use Rattle.ts_model.specs.Sync.{Snapshot, Synced}
+use Rattle.ts_model.specs.Sync.{Snapshot, Synced, is_skipped}
 use Rattle.ts_model.specs.Runs.{Run, Legal, graft, with_mark, after, start}
 use Rattle.ts_model.specs.Headline.{FinalArchive, Premises, AllDone}
 use Rattle.ts_model.specs.declared.row.Content.TheVariants.{Dir}
@@ -26,12 +26,6 @@ same_reason reason.Conflict reason.Conflict = true
 same_reason reason.Held reason.Held = true
 same_reason reason.Dir reason.Dir = true
 same_reason _ _ = false
-
--- whether nothing is done about it
-abbrev pub is_skipped : Reason → Bool
-is_skipped reason.Conflict = true
-is_skipped reason.Held = true
-is_skipped _ = false
 
 -- t with the source's subtree at the path of each entry of this reason, in the entries' order
 abbrev pub copied : Reason → Tree → Tree → List Entry → Tree

@@ -44,6 +44,11 @@ source reason.Conflict = None
 source reason.Held = None
 source reason.Dir = None
 
+-- the replica that isn't this one
+abbrev pub other : Side → Side
+other side.First = side.Second
+other side.Second = side.First
+
 abbrev pub Copies : Plan → ℕ → Entry → Side → Type 0
 Copies plan e entry from = EntryIs plan e entry × (source entry.reason ≡ Some from)
 

@@ -5,7 +5,7 @@
 --     IsRelevant a b p          the root, or a path whose parent is a directory in both
 --     Sync a b da db c d        the replicas a and b, dirty at these paths, may become c and d
 --     HasReason s p r           why p needs attention
-use Rattle.std.specs.Prelude.{◌≡◌, ◌≢◌, ◌⊎◌, List, [], ◌∷◌, ◌++◌}
+use Rattle.std.specs.Prelude.{◌≡◌, ◌≢◌, ◌⊎◌, Bool, true, false, List, [], ◌∷◌, ◌++◌}
 use Rattle.ts_name.specs.Paths.{Name, Path, IsAbove}
 use Rattle.ts_model.specs.declared.row.Content.{Content}
 use Rattle.ts_model.specs.declared.row.Content.TheVariants.{Dir}
@@ -106,3 +106,11 @@ HasReason s p r = IsBelowDirs s.first s.second p × Because s p r
 -- nothing is done about it
 abbrev pub IsSkipped : Reason → Type 0
 IsSkipped r = (r ≡ reason.Conflict) ⊎ (r ≡ reason.Held)
+
+abbrev pub is_skipped : Reason → Bool
+is_skipped reason.Conflict = true
+is_skipped reason.Held = true
+is_skipped reason.Same = false
+is_skipped reason.First = false
+is_skipped reason.Second = false
+is_skipped reason.Dir = false

@@ -6,27 +6,17 @@ use Rattle.std.specs.Prelude.{◌≡◌, ◌⊎◌, ℕ, min, Bool, true, false,
 use Rattle.ts_name.specs.Paths.{path_text}
 use Rattle.ts_model.specs.declared.row.Stamp.{Stamp}
 use Rattle.ts_model.specs.Trees.{Listing, at, print_of, AreApart}
-use Rattle.ts_model.specs.Sync.{Snapshot, Synced}
+use Rattle.ts_model.specs.Sync.{Snapshot, Synced, is_skipped}
 use Rattle.ts_model.specs.Plans.{rule_number, Broken, Valid}
 use Rattle.ts_model.specs.declared.plan.PlanRule.{PlanRule}
 use Rattle.ts_model.specs.Headline.{FinalArchive, Meets}
 use Rattle.ts_model.specs.Texts.{Line, text, words, Bundle, IsBundleText, IsTreeBody, IsPrintBody, tree_lines, print_lines, reason_text}
-use Rattle.ts_model.specs.declared.plan.Reason.{Reason}
-use Rattle.ts_model.specs.declared.plan.Reason.TheVariants as reason
 use Rattle.ts_model.specs.declared.plan.Entry.{Entry}
 
 abbrev pub snapshot_of : Bundle → Snapshot
 snapshot_of b = record { archive = at b.archive; first = print_of (at b.first); second = print_of (at b.second); rules = b.rules }
 
 -- ---- the report of a run in which every action was done
-
-abbrev pub is_skipped : Reason → Bool
-is_skipped reason.Conflict = true
-is_skipped reason.Held = true
-is_skipped reason.Same = false
-is_skipped reason.First = false
-is_skipped reason.Second = false
-is_skipped reason.Dir = false
 
 abbrev pub report_line : Entry → Line
 report_line e = words (cond (is_skipped e.reason) (codes "skip") (codes "done") ∷ reason_text e.reason ∷ path_text e.path ∷ [])

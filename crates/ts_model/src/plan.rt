@@ -1,5 +1,6 @@
 ghost use Rattle.std.specs.Prelude.{◌≡◌};
-ghost use Rattle.ts_model.specs.Plans.{rule_number};
+ghost use Rattle.ts_model.specs.Plans.{other, rule_number, source};
+ghost use Rattle.ts_model.specs.Sync.{is_skipped};
 
 use crate::items::Items;
 use ts_name::Path;
@@ -9,6 +10,18 @@ use ts_name::Path;
 pub enum Side {
     First,
     Second,
+}
+
+impl Side {
+    /// The other replica.
+    pub fn other(self) -> Side
+        ensures { result ≡ other self }
+    {
+        match self {
+            Side::First => Side::Second,
+            Side::Second => Side::First,
+        }
+    }
 }
 
 /// Why a path needs attention.
@@ -26,6 +39,29 @@ pub enum Reason {
     Held,
     /// A directory in both replicas that the archive doesn't have.
     Dir,
+}
+
+impl Reason {
+    /// The replica that an entry of this reason is copied from; `None` for one that isn't copied.
+    pub fn source(self) -> Option<Side>
+        ensures { result ≡ source self }
+    {
+        match self {
+            Reason::First => Some(Side::First),
+            Reason::Second => Some(Side::Second),
+            Reason::Same | Reason::Conflict | Reason::Held | Reason::Dir => None,
+        }
+    }
+
+    /// Whether nothing is done about an entry of this reason.
+    pub fn is_skipped(self) -> bool
+        ensures { result ≡ is_skipped self }
+    {
+        match self {
+            Reason::Conflict | Reason::Held => true,
+            Reason::Same | Reason::First | Reason::Second | Reason::Dir => false,
+        }
+    }
 }
 
 /// A path that needs attention.

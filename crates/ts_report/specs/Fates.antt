@@ -2,7 +2,7 @@
 --     fate skipped done failed     by whether it is skipped, its mark is done, and an action of its own failed
 --     next_fate                    what is known once one more of its actions is looked at
 use Rattle.std.specs.Prelude.{ℕ, Bool, true, false, ◌&&◌, List, codes}
-use Rattle.ts_model.specs.Trial.{is_skipped}
+use Rattle.ts_model.specs.Sync.{is_skipped}
 use Rattle.ts_model.specs.declared.plan.Reason.{Reason}
 use Rattle.ts_report.specs.declared.results.Ending.{Ending}
 use Rattle.ts_report.specs.declared.results.Ending.TheVariants as ending

@@ -4,7 +4,7 @@
 use Rattle.std.specs.Prelude.{ℕ, ◌+◌, ◌==◌, min, nat_lt, if◌then◌else◌, Bool, true, false, ◌&&◌, ◌||◌, List, [], ◌∷◌, ◌++◌, length, codes, decimal, count_by}
 use Rattle.ts_name.specs.Paths.{path_text}
 use Rattle.ts_model.specs.Texts.{Line, text, words, reason_text}
-use Rattle.ts_model.specs.Trial.{is_skipped}
+use Rattle.ts_model.specs.Sync.{is_skipped}
 use Rattle.ts_model.specs.declared.plan.Entry.{Entry}
 use Rattle.ts_model.specs.declared.plan.Action.{Action}
 use Rattle.ts_model.specs.declared.plan.Kind.{Kind}

@@ -1,6 +1,6 @@
 //! What became of an entry.
 ghost use Rattle.std.specs.Prelude.{◌≡◌};
-ghost use Rattle.ts_model.specs.Trial.{is_skipped};
+ghost use Rattle.ts_model.specs.Sync.{is_skipped};
 ghost use Rattle.ts_report.specs.Fates.{fate_word, first_fate, next_fate, same_fate};
 
 use crate::results::Ending;
@@ -24,9 +24,10 @@ impl Fate {
     pub(crate) fn first(reason: Reason) -> Fate
         ensures { result ≡ first_fate reason }
     {
-        match reason {
-            Reason::Conflict | Reason::Held => Fate::Skipped,
-            Reason::Same | Reason::First | Reason::Second | Reason::Dir => Fate::Blocked,
+        if reason.is_skipped() {
+            Fate::Skipped
+        } else {
+            Fate::Blocked
         }
     }
 

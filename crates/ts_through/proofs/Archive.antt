@@ -7,13 +7,13 @@ use Rattle.std.proofs.lemmas.Option.{none-some, slice_get_within}
 use Rattle.ts_model.specs.Trees.{Listing, Print, Tree, IsListing, at}
 use Rattle.ts_model.specs.Plans.{Valid}
 use Rattle.ts_model.specs.Runs.{Run, graft, marked}
-use Rattle.ts_model.specs.Sync.{IsSkipped, Snapshot}
+use Rattle.ts_model.specs.Sync.{IsSkipped, Snapshot, is_skipped}
 use Rattle.ts_model.specs.declared.plan.Entry.{Entry}
 use Rattle.ts_model.specs.declared.plan.Reason.{Reason}
 use Rattle.ts_model.specs.declared.plan.Reason.TheVariants as reason
 use Rattle.ts_model.specs.declared.row.Content.TheVariants.{Absent}
 use Rattle.ts_model.specs.declared.row.Stamp.{Stamp}
-use Rattle.ts_laws.specs.Carried.{is_skipped, marked_all}
+use Rattle.ts_laws.specs.Carried.{marked_all}
 use Rattle.ts_laws.proofs.Carried.{skipped_from_test, test_from_skipped}
 use Rattle.ts_laws.proofs.Plans.{mark_exists}
 use Rattle.ts_laws.proofs.Steps.{mark_is_marked}
