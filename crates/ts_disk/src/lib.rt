@@ -14,6 +14,7 @@ mod places;
 mod plan_file;
 mod recovery;
 mod replacement;
+mod replica;
 mod site;
 mod staging;
 
@@ -24,4 +25,5 @@ pub use lock::{Lock, take_lock};
 pub use places::DiskPlaces;
 pub use plan_file::{remove_plan, save_plan};
 pub use recovery::{check_leftovers, clear_leftovers, recover_replica};
+pub use replica::Replica;
 pub use site::DiskSite;

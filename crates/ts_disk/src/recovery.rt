@@ -1,13 +1,21 @@
 //! Bringing swaps to an end that were stopped or failed.
+ghost use Rattle.std.specs.Fmt.{decimal};
+ghost use Rattle.std.specs.Prelude.{◌≡◌, ◌++◌, IfNone, IfOk, IfSome, codes};
+ghost use Rattle.std.specs.String.{string_bytes};
+ghost use Rattle.ts_disk.specs.Swaps.{IsCopiedInto};
+ghost use Rattle.ts_model.specs.declared.plan.Entry.{Entry};
+ghost use Rattle.ts_name.specs.Paths.{place_text};
+
 use crate::fault::DiskFault;
 use crate::place::{Standing, look_at, own_place};
 use crate::places::DiskPlaces;
 use crate::plan_file::{read_plan, remove_plan};
+use crate::replica::Replica;
 use std::alloc::Global;
 use std::fs;
 use std::fs::Files;
 use std::io::ErrorKind;
-use ts_model::plan::{Entry, Plan, Reason};
+use ts_model::plan::{Entry, Plan, Side};
 
 /// Looks whether the plan in a replica explains what a stopped run left there: each spot that is taken belongs to an entry of
 /// it that is copied. Nothing is changed.
@@ -52,55 +60,47 @@ pub fn recover_replica<R: Files + AllocGlobal + Clone + Drop>(
     remove_plan(files, alloc, root)
 }
 
-/// Brings the swap of each entry of a plan with this reason to its end in a replica, so that nothing is left of it in
+/// Brings the swap of each entry of a plan that is copied into a replica to its end, so that nothing is left of it in
 /// `.twosync`. Where a swap can't be brought to its end, it goes on with the others. What belongs to no such entry is left as it
 /// is.
 pub fn clear_leftovers<R: Files + AllocGlobal + Clone + Drop>(
     files: &R,
     alloc: Global,
-    root: &str,
+    replica: &Replica<'_>,
     plan: &Plan,
-    reason: Reason,
 ) -> Result<(), DiskFault> {
-    end_swaps(files, alloc, root, plan, Some(reason))
+    end_swaps(files, alloc, replica.root, plan, Some(replica.side))
 }
 
-/// The same for all entries that are copied, or for those of one reason.
+/// The same for all entries that are copied, or for those that are copied into this replica of the pair.
 fn end_swaps<R: Files + AllocGlobal + Clone + Drop>(
     files: &R,
     alloc: Global,
     root: &str,
     plan: &Plan,
-    reason: Option<Reason>,
+    into: Option<Side>,
 ) -> Result<(), DiskFault> {
     let mut ended: Result<(), DiskFault> = Ok(());
     // Recovery does nothing where neither spot of a swap is taken, and both lie in the program's own directory: so those
     // entries are enough of which a listing of it tells a spot.
     for number in &taken_spots(files, alloc, root)? {
-        if let Some(entry) = copied_entry(plan, *number, reason)
-            && let Err(fault) = end_swap(files, alloc, root, entry, *number)
-        {
+        if let Err(fault) = end_swap(files, alloc, root, plan, *number, into) {
             ended = Err(fault);
         }
     }
     ended
 }
 
-/// The entry of this number, if it is copied, and for this reason where one is given.
-fn copied_entry(plan: &Plan, number: u32, reason: Option<Reason>) -> Option<&Entry> {
+/// The entry of this number, if it is copied, and into this replica of the pair where one is given.
+fn copied_entry(plan: &Plan, number: u32, into: Option<Side>) -> Option<&Entry>
+    ensures some { IfSome result (λ entry. IsCopiedInto plan.now number into entry.now) }
+    ensures none { IfNone result ((entry : Entry) → ¬ IsCopiedInto plan.now number into entry) }
+{
     let entry = plan.entries.as_slice().get(number as usize)?;
-    let is_asked = match reason {
-        Some(reason) => entry.reason == reason,
-        None => true,
-    };
-    match entry.reason {
-        Reason::First | Reason::Second if is_asked => Some(entry),
-        Reason::First
-        | Reason::Second
-        | Reason::Same
-        | Reason::Conflict
-        | Reason::Held
-        | Reason::Dir => None,
+    let from = entry.reason.source()?;
+    match into {
+        Some(into) if into.other() != from => None,
+        _ => Some(entry),
     }
 }
 
@@ -142,15 +142,39 @@ fn spot_number(name: &str) -> Option<u32> {
     digits.parse().ok()
 }
 
-/// Brings the swap of one entry to its end.
+/// Brings the swap of the entry of this number to its end, if that entry is copied into the replica.
 fn end_swap<R: Files + AllocGlobal + Clone + Drop>(
     files: &R,
     alloc: Global,
     root: &str,
-    entry: &Entry,
+    plan: &Plan,
     number: u32,
+    into: Option<Side>,
 ) -> Result<(), DiskFault> {
-    let own_files = files.clone().map_err(|_| DiskFault::OutOfMemory)?;
-    let mut places = DiskPlaces::new(alloc, own_files, root, &entry.path, number)?;
-    places.end().map_err(|_| DiskFault::Device)
+    let files = files.clone().map_err(|_| DiskFault::OutOfMemory)?;
+    match own_spots(files, alloc, root, plan, number, into)? {
+        Some(mut places) => places.end().map_err(|_| DiskFault::Device),
+        None => Ok(()),
+    }
+}
+
+/// The spots of the swap of the entry of this number, if that entry is copied, and into this replica of the pair where one is
+/// given. No others are ever touched by recovery.
+fn own_spots<R: Drop>(
+    files: R,
+    alloc: Global,
+    root: &str,
+    plan: &Plan,
+    number: u32,
+    into: Option<Side>,
+) -> Result<Option<DiskPlaces<R>>, DiskFault>
+    ensures target { IfOk result (λ spots. IfSome spots (λ own. (entry : Entry) × IsCopiedInto plan.now number into entry × (string_bytes own.at_target ≡ root.now ++ place_text entry.path))) }
+    ensures new { IfOk result (λ spots. IfSome spots (λ own. string_bytes own.at_new ≡ root.now ++ codes "/.twosync/new-" ++ decimal number)) }
+    ensures old { IfOk result (λ spots. IfSome spots (λ own. string_bytes own.at_old ≡ root.now ++ codes "/.twosync/old-" ++ decimal number)) }
+    ensures none { IfOk result (λ spots. IfNone spots ((entry : Entry) → ¬ IsCopiedInto plan.now number into entry)) }
+{
+    match copied_entry(plan, number, into) {
+        Some(entry) => Ok(Some(DiskPlaces::new(alloc, files, root, &entry.path, number)?)),
+        None => Ok(None),
+    }
 }
