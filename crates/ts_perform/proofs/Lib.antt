@@ -1,3 +1,5 @@
 mod Standing
-mod Telling
+mod FaultLines
 mod Trials
+mod Failures
+mod Reported

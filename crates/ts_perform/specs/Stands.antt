@@ -8,39 +8,35 @@ use Rattle.ts_name.specs.Paths.{Path}
 use Rattle.ts_board.specs.Terms.{placed, terms_with}
 use Rattle.ts_board.specs.declared.law.Slot.{Slot}
 use Rattle.ts_check.specs.Checkup.{Checkup}
-use Rattle.ts_exec.specs.Failures.{setting_of}
+use Rattle.ts_exec.specs.Failures.{of_side, setting_of}
 use Rattle.ts_exec.specs.Outcomes.{IsOutcome}
 use Rattle.ts_exec.specs.declared.outcome.ActionResult.{ActionResult}
 use Rattle.ts_folder.specs.declared.fault.Trouble.{Trouble}
 use Rattle.ts_folder.specs.declared.folder.Call.{Call}
+use Rattle.ts_model.specs.Plans.{other, source}
 use Rattle.ts_model.specs.Trees.{Listing}
 use Rattle.ts_model.specs.declared.plan.Action.{Action}
 use Rattle.ts_model.specs.declared.plan.Entry.{Entry}
-use Rattle.ts_model.specs.declared.plan.Kind.{Kind}
 use Rattle.ts_model.specs.declared.plan.Kind.TheVariants.{Piece, Commit, Mark}
 use Rattle.ts_model.specs.declared.plan.Reason.{Reason}
-use Rattle.ts_model.specs.declared.plan.Reason.TheVariants as reason
 
 pub record Stand : Type 0 where
   pub root : List ℕ
   pub source : List ℕ
   pub path : Path
 
+-- of the replica that is copied to, and of the one that is copied from. An entry that isn't copied has no commit
 abbrev pub target_root : List ℕ → List ℕ → Reason → List ℕ
-target_root first second reason.First = second
-target_root first second reason.Second = first
-target_root first second reason.Same = second
-target_root first second reason.Conflict = second
-target_root first second reason.Held = second
-target_root first second reason.Dir = second
+target_root first second r = elim (source r) [
+  | None ↦ second
+  | Some from ↦ of_side first second (other from)
+]
 
 abbrev pub source_root : List ℕ → List ℕ → Reason → List ℕ
-source_root first second reason.First = first
-source_root first second reason.Second = second
-source_root first second reason.Same = first
-source_root first second reason.Conflict = first
-source_root first second reason.Held = first
-source_root first second reason.Dir = first
+source_root first second r = elim (source r) [
+  | None ↦ first
+  | Some from ↦ of_side first second from
+]
 
 abbrev pub stand_of : List ℕ → List ℕ → Entry → Stand
 stand_of first second entry = record {

@@ -1,13 +1,11 @@
 //! What a checked plan comes to on two folders.
-ghost use Rattle.std.specs.Prelude.{◌≡◌, ◌≤◌, length, map, Some, IfOk, MatchResult};
+ghost use Rattle.std.specs.Prelude.{◌≡◌, ◌≤◌, length, map, Some, IfOk};
 ghost use Rattle.std.specs.Mem.Slots.{slots_items, slots_len};
 ghost use Rattle.ts_board.specs.Archives.{HasEnded};
 ghost use Rattle.ts_board.specs.Terms.{commit_count};
-ghost use Rattle.ts_perform.specs.Ends.{ending_at};
+ghost use Rattle.ts_exec.specs.Failures.{of_side};
 ghost use Rattle.ts_perform.specs.Stands.{IsRunOf, source_root, stands_of, target_root};
-ghost use Rattle.ts_report.specs.Reports.{fates, status_of, totals_of};
 
-use crate::answers::write_fault;
 use crate::disk::{Disk, Machine};
 use crate::fault::PerformFault;
 use crate::room::{largest_commit, workers_with_room};
@@ -15,15 +13,10 @@ use crate::task::Task;
 use std::alloc::Global;
 use ts_check::Checked;
 use ts_command::Pair;
+use ts_disk::Replica;
 use ts_exec::{ActionResult, OpenGate, Outcome, run};
-use ts_model::plan::{Kind, Plan, Reason};
+use ts_model::plan::{Kind, Plan, Reason, Side};
 use ts_name::Path;
-use ts_report::{Ending, Results};
-use ts_site::Site;
-use ts_text::Sink;
-
-/// The exit status where an action failed, or the archive couldn't be written.
-pub(crate) const FAILED: u8 = 2;
 
 /// Carries out a checked plan by the task's workers, or by fewer where commits are large. The outcome is that of commits each of
 /// which is made in the replica that its entry is copied to.
@@ -70,42 +63,27 @@ where
     Ok(sites)
 }
 
-/// The replica that entries of this reason are copied to, and the one that they are copied from.
+/// A replica of the pair.
+pub(crate) fn replica<'a>(pair: &Pair<'a>, side: Side) -> Replica<'a>
+    ensures root { result.root.now ≡ of_side pair.now.first.now pair.now.second.now side }
+    ensures side { result.side ≡ side }
+{
+    let root = match side {
+        Side::First => pair.first,
+        Side::Second => pair.second,
+    };
+    Replica { root, side }
+}
+
+/// The roots of the replica that entries of this reason are copied to, and of the one that they are copied from. One that isn't
+/// copied has no commit.
 fn target_and_source<'a>(pair: &Pair<'a>, reason: Reason) -> (&'a str, &'a str)
     ensures target { result.0.now ≡ target_root pair.now.first.now pair.now.second.now reason }
     ensures source { result.1.now ≡ source_root pair.now.first.now pair.now.second.now reason }
 {
-    match reason {
-        Reason::Second => (pair.first, pair.second),
-        Reason::First | Reason::Same | Reason::Conflict | Reason::Held | Reason::Dir => {
-            (pair.second, pair.first)
-        }
-    }
-}
-
-/// Writes the report, and tells the faults of failed actions. Answers the exit status.
-pub(crate) fn tell<S: Site, O: Sink, E: Sink>(
-    alloc: Global,
-    checked: &Checked<'_>,
-    outcome: &Outcome<S>,
-    kept: Result<(), PerformFault>,
-    out: &mut O,
-    err: &mut E,
-) -> Result<u8, PerformFault>
-    requires count { length outcome.now.results.items ≡ length checked.now.plan.actions }
-    ensures status { IfOk result (λ status. MatchResult kept (λ _. status ≡ status_of (totals_of (fates (ending_at outcome.now.results.items) checked.now.plan))) (λ _. status ≡ 2)) }
-{
-    let plan = checked.plan();
-    let _count = checked.action_count();
-    let results = outcome.results();
-    let totals = ts_report::write(alloc, plan, &Report { results }, out)?;
-    tell_failures(alloc, plan, results, err)?;
-    match kept {
-        Ok(()) => Ok(totals.status()),
-        Err(fault) => {
-            write_fault(alloc, fault.number(), None, err)?;
-            Ok(FAILED)
-        }
+    match reason.source() {
+        Some(from) => (replica(pair, from.other()).root, replica(pair, from).root),
+        None => (pair.second, pair.first),
     }
 }
 
@@ -121,10 +99,10 @@ pub(crate) fn keep_archive<R: Machine>(
 {
     let Task { rt, pair, workers } = task;
     let alloc = rt.alloc();
-    for reason in [Reason::First, Reason::Second] {
-        let paths = paths_put(alloc, checked.plan(), outcome.results(), reason)?;
-        let (root, _source) = target_and_source(*pair, reason);
-        rt.flush_above(*rt, alloc, root, paths.as_slice(), *workers)?;
+    for side in [Side::First, Side::Second] {
+        let replica = replica(*pair, side);
+        let paths = paths_put(alloc, checked.plan(), outcome.results(), &replica)?;
+        rt.flush_above(*rt, alloc, replica.root, paths.as_slice(), *workers)?;
     }
     let Ok(archive) = outcome.archive(alloc, checked) else {
         return Err(PerformFault::OutOfMemory);
@@ -132,69 +110,22 @@ pub(crate) fn keep_archive<R: Machine>(
     rt.write_archive(alloc, place, &archive)
 }
 
-/// The paths of the entries with this reason that were put in place.
+/// The paths of the entries that were put in place in a replica.
 fn paths_put<'a>(
     alloc: Global,
     plan: &'a Plan,
     results: &[ActionResult],
-    reason: Reason,
+    replica: &Replica<'_>,
 ) -> Result<Vec<&'a Path>, PerformFault> {
     let mut paths = Vec::new(alloc);
     for (action, result) in plan.actions.as_slice().iter().zip(results) {
         if let Kind::Commit { entry } = action.kind
             && let ActionResult::Done = result
             && let Some(entry) = plan.entries.as_slice().get(entry as usize)
-            && entry.reason == reason
+            && entry.reason.source() == Some(replica.side.other())
         {
             paths.push(&entry.path)?;
         }
     }
     Ok(paths)
-}
-
-/// Tells the fault of each action that failed, with its entry's path, in the order of the actions.
-fn tell_failures<E: Sink>(
-    alloc: Global,
-    plan: &Plan,
-    results: &[ActionResult],
-    err: &mut E,
-) -> Result<(), PerformFault> {
-    for (action, result) in plan.actions.as_slice().iter().zip(results) {
-        if let ActionResult::Failed(fault) = result {
-            write_fault(alloc, fault.number(), path_of(plan, &action.kind), err)?;
-        }
-    }
-    Ok(())
-}
-
-/// The path of the entry that an action is for.
-fn path_of<'a>(plan: &'a Plan, kind: &Kind) -> Option<&'a Path> {
-    let (Kind::Piece { entry, .. } | Kind::Commit { entry } | Kind::Mark { entry }) = kind;
-    match plan.entries.as_slice().get(*entry as usize) {
-        Some(entry) => Some(&entry.path),
-        None => None,
-    }
-}
-
-/// How the actions of a run ended, for the report.
-#[derive(Drop)]
-struct Report<'a> {
-    results: &'a [ActionResult],
-}
-
-impl Results for Report<'_> {
-    ghost use Rattle.std.specs.Prelude.{length};
-    ghost use Rattle.ts_perform.specs.Ends.{ending_at};
-
-    ghost count = { λ r. length r.results.now };
-
-    ghost endings = { λ r i. ending_at r.results.now i };
-
-    fn ending(&self, action: u32) -> Ending {
-        match self.results[action as usize] {
-            ActionResult::Done => Ending::Done,
-            ActionResult::Failed(_) => Ending::Failed,
-            ActionResult::Blocked(_) => Ending::Left,
-        }
-    }
 }

@@ -10,6 +10,7 @@ pub mod performing;
 mod room;
 mod running;
 mod task;
+mod telling;
 
 pub use disk::{Disk, Machine};
 pub use fault::PerformFault;

@@ -1,6 +1,7 @@
 //! Commands, one by one.
 ghost use Rattle.std.specs.Prelude.{◌≡◌, ◌≤◌, IfErr, IfSome};
 ghost use Rattle.ts_model.specs.Trial.{HasContentsApart, Trial};
+ghost use Rattle.ts_perform.specs.Runs.{AnswersRun, IsRefusal, IsRunOrSync, Ran};
 ghost use Rattle.ts_perform.specs.Trials.{Answers, IsQuiet};
 ghost use Rattle.ts_trial.specs.Answers.{WritesOne};
 
@@ -29,6 +30,7 @@ pub fn perform<R: Machine, I: Source + Drop, O: Sink, E: Sink>(
     err: &mut E,
 ) -> u8
     ensures trial { command.now.job ≡ Job.Trial → IfSome (I.holds input) (λ bytes. HasContentsApart bytes → Answers (Trial bytes) (O.holds out.old) (O.holds out.new) result) }
+    ensures run { IsRunOrSync command.now.job → AnswersRun (O.holds out.old) (O.holds out.new) (E.holds err.old) (E.holds err.new) result }
 {
     match answer(rt, command, input, out, err) {
         Ok(status) => status,
@@ -41,6 +43,7 @@ pub fn perform<R: Machine, I: Source + Drop, O: Sink, E: Sink>(
 fn refuse<O: Sink, E: Sink>(alloc: Global, fault: &PerformFault, out: &mut O, err: &mut E) -> u8
     ensures status { result ≡ 3 }
     ensures quiet { IsQuiet fault.now → O.holds out.new ≡ O.holds out.old }
+    ensures refusal { IsRefusal (O.holds out.old) (O.holds out.new) (E.holds err.old) (E.holds err.new) result }
 {
     let _ = match fault {
         PerformFault::Broken { rule, place } => match write_refusal(alloc, *rule, *place, out) {
@@ -62,6 +65,7 @@ fn answer<R: Machine, I: Source + Drop, O: Sink, E: Sink>(
 ) -> Result<u8, PerformFault>
     ensures trial { command.now.job ≡ Job.Trial → IfSome (I.holds input) (λ bytes. HasContentsApart bytes → WritesOne (Trial bytes) (O.holds out.old) (O.holds out.new) result) }
     ensures quiet { command.now.job ≡ Job.Trial → IfErr result IsQuiet }
+    ensures run { IsRunOrSync command.now.job → Ran (O.holds out.old) (O.holds out.new) (E.holds err.old) (E.holds err.new) result }
 {
     let workers = command.workers;
     match &command.job {

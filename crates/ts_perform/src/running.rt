@@ -1,14 +1,16 @@
 //! Plans carried out on two folders.
 ghost use Rattle.ts_model.specs.Texts.{IsPlan};
+ghost use Rattle.ts_perform.specs.Runs.{Ran};
 
-use crate::acting::{FAILED, act, keep_archive, tell};
+use crate::acting::{act, keep_archive, replica};
 use crate::disk::{Disk, Machine};
 use crate::fault::PerformFault;
 use crate::inputs::Snapshot;
 use crate::task::Task;
+use crate::telling::{FAILED, tell};
 use std::alloc::Global;
 use ts_disk::{check_leftovers, clear_leftovers, recover_replica, remove_plan, save_plan};
-use ts_model::plan::{Plan, Reason};
+use ts_model::plan::{Plan, Side};
 use ts_text::Sink;
 
 /// What no other run may use while this one works: both replicas, as far as they are there, and the archive.
@@ -26,7 +28,9 @@ impl<R: Machine> Task<'_, R> {
         plan: &str,
         out: &mut O,
         err: &mut E,
-    ) -> Result<u8, PerformFault> {
+    ) -> Result<u8, PerformFault>
+        ensures ran { Ran (O.holds out.old) (O.holds out.new) (E.holds err.old) (E.holds err.new) result }
+    {
         let mut claims = self.claim()?;
         let status = self.run_claimed(&mut claims, plan, out, err);
         self.give_up(claims, status.is_err());
@@ -38,7 +42,9 @@ impl<R: Machine> Task<'_, R> {
         &self,
         out: &mut O,
         err: &mut E,
-    ) -> Result<u8, PerformFault> {
+    ) -> Result<u8, PerformFault>
+        ensures ran { Ran (O.holds out.old) (O.holds out.new) (E.holds err.old) (E.holds err.new) result }
+    {
         let mut claims = self.claim()?;
         let status = self.sync_claimed(&mut claims, out, err);
         self.give_up(claims, status.is_err());
@@ -129,7 +135,9 @@ impl<R: Machine> Task<'_, R> {
         plan: &str,
         out: &mut O,
         err: &mut E,
-    ) -> Result<u8, PerformFault> {
+    ) -> Result<u8, PerformFault>
+        ensures ran { Ran (O.holds out.old) (O.holds out.new) (E.holds err.old) (E.holds err.new) result }
+    {
         self.recover()?;
         let (snapshot, plan) = Snapshot::read_for(self, plan)?;
         self.take_part(&*claims)?;
@@ -142,7 +150,9 @@ impl<R: Machine> Task<'_, R> {
         claims: &mut Claims<R>,
         out: &mut O,
         err: &mut E,
-    ) -> Result<u8, PerformFault> {
+    ) -> Result<u8, PerformFault>
+        ensures ran { Ran (O.holds out.old) (O.holds out.new) (E.holds err.old) (E.holds err.new) result }
+    {
         self.recover()?;
         let snapshot = Snapshot::read_of_both(self, self.is_one_new(&*claims))?;
         let plan = snapshot.plan(self.rt.alloc())?;
@@ -160,7 +170,8 @@ impl<R: Machine> Task<'_, R> {
         out: &mut O,
         err: &mut E,
     ) -> Result<u8, PerformFault>
-        requires { IsPlan plan.now }
+        requires plan { IsPlan plan.now }
+        ensures ran { Ran (O.holds out.old) (O.holds out.new) (E.holds err.old) (E.holds err.new) result }
     {
         let alloc = self.rt.alloc();
         let checked = snapshot.check(alloc, plan)?;
@@ -195,8 +206,8 @@ impl<R: Machine> Task<'_, R> {
     /// Clears what swaps left in both replicas, and answers for each whether nothing is left.
     fn clear(&self, alloc: Global, plan: &Plan) -> (bool, bool) {
         let Task { rt, pair, .. } = self;
-        let first = clear_leftovers(*rt, alloc, pair.first, plan, Reason::Second);
-        let second = clear_leftovers(*rt, alloc, pair.second, plan, Reason::First);
+        let first = clear_leftovers(*rt, alloc, &replica(*pair, Side::First), plan);
+        let second = clear_leftovers(*rt, alloc, &replica(*pair, Side::Second), plan);
         (first.is_ok(), second.is_ok())
     }
 

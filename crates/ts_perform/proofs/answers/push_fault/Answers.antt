@@ -1,7 +1,7 @@
 use Rattle.std.proofs.Common.{◌∷◌, ◌++◌, [], codes, decimal, sym, ap, ◌∙◌, append_assoc}
 use Rattle.std.proofs.lemmas.Bool.{false≢true}
 use Rattle.ts_name.specs.Paths.{path_text}
-use Rattle.ts_perform.proofs.Telling.{at_root, at_path, with_path}
+use Rattle.ts_perform.proofs.FaultLines.{at_root, at_path, with_path}
 use Rattle.ts_perform.proofs.answers.push_fault.Goals as goal
 
 pub returns-in_default : goal.returns-in_default
