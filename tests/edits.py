@@ -1,79 +1,418 @@
 #!/usr/bin/env python3
 """The further edits that the prover must refuse: tests/edits/CRATE/NAME.edit, in the form of crates/CRATE/must-fail.
 
-The merge gate has a few hours on two processors, and one edit costs it up to half a minute. So it tries those of
-crates/CRATE/must-fail, and of these it only looks whether each still applies: whether its file has each old text once.
+`rt ci` tries the edits of crates/CRATE/must-fail on each run. These here are too many for that: the gate looks whether
+each still applies. Refusals that were seen are kept in tests/edits.record. A line there has an edit and a digest of all that its check reads: the edit,
+the files of its crate and of every crate below it, their lines of crates.txt, and which kit it is. While the digest
+stays the same the answer does too, and the edit stands on its record. Only this program writes the record.
 
-usage: tests/edits.py               says which edits no longer apply
-       tests/edits.py --try [CRATE ..]   has the prover try them in a copy of the repository (all: some hours)
+usage: tests/edits.py                  tries the edits that have no record, and ten of the others
+       tests/edits.py --look           the gate's step: says which edits these are, and tries none
+       tests/edits.py --try CRATE ..   tries all edits of these crates
+       tests/edits.py --try-all        tries all edits, which takes hours
+
+Every edit has to apply, and every line of the record has to name an edit that is there. The ten are chosen by the
+commit. Libraries that aren't built, or that are older than their sources, are built first.
 """
+import copy
+import fcntl
+import hashlib
+import importlib.machinery
+import importlib.util
 import os
+import re
 import shutil
 import subprocess
 import sys
 import tempfile
+import threading
+from dataclasses import dataclass
 
 TOP = os.path.dirname(os.path.dirname(os.path.abspath(__file__)))
-EDITS = os.path.join(TOP, "tests", "edits")
+# How many of the recorded edits the gate tries again.
+SAMPLE = 10
+# A crate's edits are tried in turn, since each uses the work of those before it; where there are more, in several lanes.
+MOST_IN_A_LANE = 16
+NAME = re.compile(r"[A-Za-z0-9_-][A-Za-z0-9_.-]*\.edit")
+LINE = re.compile(r"(\w+/\S+\.edit) ([0-9a-f]{64})")
+# What rt says of a refusal that shows little of the contract.
+SAYS_LITTLE = "only because a proof file names"
 
 
-def edits_of(crate):
-    return sorted(it for it in os.listdir(os.path.join(EDITS, crate)) if it.endswith(".edit"))
+def load_rt():
+    """Returns the kit's command rt, a Python file without that ending, as a module."""
+    file = shutil.which("rt")
+    if not file:
+        raise SystemExit("tests/edits.py: there is no command rt: put the kit's folder bin on the path")
+    sys.dont_write_bytecode = True
+    loader = importlib.machinery.SourceFileLoader("rt", os.path.realpath(file))
+    made = importlib.util.module_from_spec(importlib.util.spec_from_loader("rt", loader))
+    loader.exec_module(made)
+    return made
 
 
-def why_not(crate, edit):
-    """Returns why the edit doesn't apply, or None."""
-    text, pairs = None, 0
-    with open(os.path.join(EDITS, crate, edit), encoding="utf-8") as lines:
+@dataclass(frozen=True)
+class Edit:
+    """An edit: the name of its crate, and its file."""
+
+    crate: str
+    file: str
+
+    @property
+    def key(self):
+        return f"{self.crate}/{os.path.basename(self.file)}"
+
+
+def read_bytes(file):
+    with open(file, "rb") as it:
+        return it.read()
+
+
+def digest_of(parts):
+    """Returns the SHA-256 of some byte strings, each with its length before it, so that no two lists look alike."""
+    made = hashlib.sha256()
+    for part in parts:
+        made.update(len(part).to_bytes(8, "big") + part)
+    return made.hexdigest()
+
+
+class Digests:
+    """Digests of what the checks of edits read. The files of a crate are read once: to look again, make a new one."""
+
+    def __init__(self, rt):
+        self.files_of = rt.rtlib.files_of
+        # the name of the kit, and which commit and which archives it was made from
+        names = [it for it in sorted(os.listdir(rt.KIT)) if it == "KIT-ID" or it.startswith("WHAT")]
+        self.kit = digest_of(read_bytes(f"{rt.KIT}/{it}") for it in names).encode()
+        self.of_crates = {}
+
+    def of_crate(self, crate):
+        """Returns the digest of a crate's line of crates.txt and its files. Proofs count, since crates above cite them."""
+        if crate.name not in self.of_crates:
+            parts = [crate.name.encode(), repr(sorted(crate.said.items())).encode()]
+            for file in self.files_of(crate.folder):
+                parts += [os.path.relpath(file, crate.folder).encode(), read_bytes(file)]
+            self.of_crates[crate.name] = digest_of(parts)
+        return self.of_crates[crate.name]
+
+    def of_edit(self, edit, crate):
+        """Returns the digest of all that the check of the edited crate reads."""
+        crates = [self.of_crate(it).encode() for it in [*crate.below(), crate]]
+        return digest_of([self.kit, read_bytes(edit.file), *crates])
+
+
+class Record:
+    """The file of refusals that were seen: the digest of each edit, by its key."""
+
+    def __init__(self, file):
+        self.file = file
+        self.writing = threading.Lock()
+        self.digests, self.faults = self.read()
+
+    def read(self):
+        """Returns the digests by key, and what is wrong with the file."""
+        digests, faults, last = {}, [], ""
+        lines = read_bytes(self.file).decode(errors="replace").splitlines() if os.path.isfile(self.file) else []
         for line in lines:
-            word, _, rest = line.rstrip("\n").partition(": ")
-            if word == "file":
-                path = os.path.join(TOP, "crates", crate, rest.strip())
-                if not os.path.isfile(path):
-                    return f"there is no file {rest.strip()}"
-                with open(path, encoding="utf-8") as file:
-                    text = file.read()
-            elif word == "old":
-                if text is None or text.count(rest) != 1:
-                    return f"its old text isn't there just once: {rest}"
-                pairs += 1
-    return None if pairs else "it has no old text"
+            found = LINE.fullmatch(line)
+            if not found:
+                faults.append(f"the record has a line that isn't an edit and its digest: {line[:120]}")
+            elif found[1] <= last:
+                faults.append(f"the record isn't sorted, or names an edit twice: {found[1]}")
+            else:
+                digests[found[1]] = found[2]
+                last = found[1]
+        return digests, faults
+
+    def keep(self, seen, gone=()):
+        """Adds what was seen: by key a digest, or None where the edit wasn't refused. Drops the lines of those gone."""
+        folder = os.open(os.path.dirname(self.file), os.O_RDONLY)
+        try:
+            fcntl.flock(folder, fcntl.LOCK_EX)
+            with self.writing:
+                # another run may have added lines meanwhile
+                kept = {**self.read()[0], **seen}
+                self.digests = {key: kept[key] for key in sorted(kept) if kept[key] and key not in gone}
+                self.write()
+        finally:
+            os.close(folder)
+
+    def write(self):
+        """Writes the file whole, in one step, so that a run that is killed leaves the old one or the new one."""
+        with open(f"{self.file}.new", "w", encoding="utf-8") as it:
+            it.writelines(f"{key} {digest}\n" for key, digest in self.digests.items())
+            it.flush()
+            os.fsync(it.fileno())
+        os.replace(f"{self.file}.new", self.file)
 
 
-def look(crates):
-    """Says which edits don't apply, and counts as one test that all do."""
-    failed = 0
-    for crate in crates:
-        for edit in edits_of(crate):
-            why = why_not(crate, edit)
-            if why:
-                print(f"{crate}/{edit}: {why}")
-                failed += 1
-    return int(not failed), failed
+class Repository:
+    """A repository with its crates, its further edits and their record."""
+
+    def __init__(self, rt, root):
+        self.rt, self.root = rt, root
+        os.environ.pop(rt.rtlib.ALLOW_C, None)
+        self.crates = {it.name: it for it in rt.rtlib.crates_below(root)}
+        self.record = Record(f"{root}/tests/edits.record")
+        self.printing = threading.Lock()
+        self.edits, self.faults = self.find_edits()
+
+    def find_edits(self):
+        """Returns the edits that apply, and by its key why another one doesn't."""
+        edits, faults, top = [], {}, f"{self.root}/tests/edits"
+        for crate in sorted(os.listdir(top)):
+            if crate not in self.crates or not os.path.isdir(f"{top}/{crate}"):
+                faults[crate] = "crates.txt has no crate of this name"
+                continue
+            for name in sorted(os.listdir(f"{top}/{crate}")):
+                edit = Edit(crate, f"{top}/{crate}/{name}")
+                why = self.why_not(edit)
+                if why:
+                    faults[edit.key] = why
+                else:
+                    edits.append(edit)
+        return edits, faults
+
+    def why_not(self, edit):
+        """Returns why the edit doesn't apply, or None."""
+        if not NAME.fullmatch(os.path.basename(edit.file)) or not os.path.isfile(edit.file):
+            return "an edit is a plain file whose name has letters, digits, _, - and . and ends in .edit"
+        return self.rt.read_edit(edit.file, self.crates[edit.crate].folder)[1]
+
+    def unknown(self):
+        """Returns the keys of the record that no edit has."""
+        return sorted({*self.record.digests} - {it.key for it in self.edits} - {*self.faults})
+
+    def standing(self):
+        """Returns the edits whose record fits what their checks would read now."""
+        digests, kept = Digests(self.rt), self.record.digests
+        return [it for it in self.edits if kept.get(it.key) == digests.of_edit(it, self.crates[it.crate])]
+
+    def sample(self, edits):
+        """Returns some of the edits, others for each commit, so that over time each is tried again."""
+        # (the repository may belong to another user than the one who runs the gate)
+        words = ["git", "-c", f"safe.directory={self.root}", "-C", self.root, "rev-parse", "HEAD"]
+        commit = subprocess.run(words, stdout=subprocess.PIPE, text=True, check=True).stdout.strip()
+        return sorted(edits, key=lambda it: hashlib.sha256((commit + it.key).encode()).digest())[:SAMPLE]
+
+    def clean_record(self):
+        """Drops the lines of the record that no edit has any more, and those that can't be read."""
+        unknown = self.unknown()
+        if unknown or self.record.faults:
+            self.record.keep({}, unknown)
+            self.record.faults = []
+
+    def say(self, text):
+        with self.printing:
+            print(text, flush=True)
 
 
-def attempt(crates):
-    """Has the prover try the edits of these crates, and returns how many it refuses and how many it doesn't."""
-    passed = failed = 0
-    with tempfile.TemporaryDirectory() as room:
-        copy = os.path.join(room, "copy")
-        shutil.copytree(TOP, copy, ignore=shutil.ignore_patterns("out", "must-fail", ".git"))
-        for crate in crates:
-            shutil.copytree(os.path.join(EDITS, crate), os.path.join(copy, "crates", crate, "must-fail"))
-            words = ["rt", "must-fail", crate]
-            ran = subprocess.run(words, cwd=copy, stdout=subprocess.PIPE, stderr=subprocess.STDOUT, text=True)
-            refused = ran.stdout.count(": refused, as it must be")
-            print(ran.stdout, end="", flush=True)
-            passed, failed = passed + refused, failed + len(edits_of(crate)) - refused
-    return passed, failed
+def changed_at(tops, with_folders):
+    """Returns when each file below some paths was last changed, and each folder, where a file can have gone missing."""
+    found = []
+    for top in tops:
+        for at, _, names in os.walk(top):
+            found += [os.stat(at).st_mtime_ns] if with_folders else []
+            found += [os.stat(f"{at}/{name}").st_mtime_ns for name in names]
+    return found
+
+
+class Libraries:
+    """The libraries below the crates whose edits are tried.
+
+    After `rt ci` in a fresh clone they hold statements alone and have no stamp: then each has to be newer than all that
+    it was made from. Else those are used whose stamp fits, as `rt` itself does. The two kinds don't mix.
+    """
+
+    def __init__(self, repository, crates):
+        self.rt, self.root = repository.rt, repository.root
+        self.say = repository.say
+        self.needed = list(dict.fromkeys(it for crate in crates for it in crate.below()))
+        # (is_built reads every source below a crate, once for each way down to it)
+        built = {it.name for it in self.needed if os.path.isfile(f"{it.folder}/out/rlib/stamp") and it.is_built()}
+        fresh = set()
+        for it in self.needed:
+            if self.is_fresh(it, fresh):
+                fresh.add(it.name)
+        self.are_statements = bool(fresh) and not built
+        self.ready = fresh if self.are_statements else built
+        # (the flag has build_rlib write statements)
+        self.rt.rtlib.Crate.cuts_libraries = self.are_statements
+
+    def is_fresh(self, crate, fresh):
+        """Returns whether the library is newer than its sources and the libraries below it, which are fresh too."""
+        if not os.path.isdir(crate.rlib) or any(it.name not in fresh for it in crate.deps):
+            return False
+        made = changed_at([crate.rlib], with_folders=False)
+        read = changed_at([f"{crate.folder}/{it}" for it in self.rt.rtlib.PARTS], with_folders=True)
+        read += changed_at([it.rlib for it in crate.deps], with_folders=False)
+        read.append(os.stat(f"{self.root}/crates.txt").st_mtime_ns)
+        return bool(made) and max(read) < min(made)
+
+    def tasks(self):
+        """Returns the tasks that build what isn't ready, lowest first, as rt.in_lanes takes them."""
+        missing = [it for it in self.needed if it.name not in self.ready]
+        found = {}
+        for crate in missing:
+            waits = [(it.name, "proof") for it in crate.below() if (it.name, "proof") in found]
+            call = lambda given, jobs, it=crate: self.build(it, given, jobs)
+            found[crate.name, "proof"] = (waits, crate.count(rb"\n"), self.rt.need(crate), call)
+        return found
+
+    def build(self, crate, given, jobs):
+        """Builds a library where those below it were built, and returns whether that went well."""
+        if not all(given.get((it.name, "proof"), True) for it in crate.below()):
+            return False
+        self.say(f"building {crate.name}, which edits need")
+        crate = copy.copy(crate)
+        with tempfile.TemporaryFile("w+", errors="replace") as crate.out:
+            try:
+                status = crate.build_rlib(["--jobs", str(jobs)], anew=self.are_statements)
+            except SystemExit:
+                status = 1
+            crate.out.seek(0)
+            if status:
+                self.say(f"{crate.out.read()}{crate.name} isn't proved, so no edit above it can be tried")
+        return not status
+
+
+class Trial:
+    """Has the prover try some edits, and notes what it answers."""
+
+    def __init__(self, repository, edits):
+        self.repository, self.rt = repository, repository.rt
+        self.edits = edits
+        self.refused, self.little, self.failed = set(), [], []
+
+    def run(self):
+        """Tries the edits side by side, one crate's in a row, as many as processors and memory allow."""
+        if not self.edits:
+            return
+        repository = self.repository
+        crates = [repository.crates[it] for it in dict.fromkeys(it.crate for it in self.edits)]
+        # (its first call sets a signal's handler, which only the main thread may)
+        self.rt.rtlib.guarded()
+        held = self.rt.rtlib.lock(list(dict.fromkeys([*crates, *(it for crate in crates for it in crate.below())])))
+        try:
+            tasks = Libraries(repository, crates).tasks()
+            for crate in crates:
+                tasks.update(self.tasks(crate, tasks))
+            self.rt.in_lanes(tasks)
+        finally:
+            for it in held:
+                os.close(it)
+
+    def tasks(self, crate, others):
+        """Returns the tasks that try a crate's edits: one, or more where there are many."""
+        edits = [it for it in self.edits if it.crate == crate.name]
+        lanes = -(-len(edits) // MOST_IN_A_LANE)
+        waits = [(it.name, "proof") for it in crate.below() if (it.name, "proof") in others]
+        work = crate.count(rb"\n") + sum(it.count(rb"\n") for it in crate.below())
+        found = {}
+        for lane in range(lanes):
+            part = edits[lane::lanes]
+            call = lambda given, jobs, part=part: self.attempt(crate, part, given)
+            # (in_lanes gives one processor to what is called edits)
+            found[f"{crate.name} {lane}", "edits"] = (waits, work * len(part), self.rt.need(crate), call)
+        return found
+
+    def attempt(self, crate, edits, given):
+        """Tries some edits of a crate in turn, and records those that are refused."""
+        lacking = [it.name for it in crate.below() if not given.get((it.name, "proof"), True)]
+        if lacking:
+            self.note(edits, [(False, f"{it.key}: not tried, since {lacking[0]} isn't proved") for it in edits], {})
+            return
+        before = Digests(self.rt)
+        before = {it.key: before.of_edit(it, crate) for it in edits}
+        answers = self.rt.must_fail_all(crate, [it.file for it in edits], ["--jobs", "1"])
+        after, seen = Digests(self.rt), {}
+        for at, (edit, (well, text)) in enumerate(zip(edits, answers)):
+            if well and after.of_edit(edit, crate) != before[edit.key]:
+                answers[at] = (False, f"{edit.key}: a file that its check reads was changed meanwhile: try it again")
+            else:
+                seen[edit.key] = before[edit.key] if well else None
+        self.note(edits, answers, seen)
+
+    def note(self, edits, answers, seen):
+        """Prints the answers, counts them, and writes to the record what was seen."""
+        repository = self.repository
+        with repository.printing:
+            for edit, (well, text) in zip(edits, answers):
+                print(text, flush=True)
+                if well:
+                    self.refused.add(edit.key)
+                    self.little += [edit.key] * (SAYS_LITTLE in text)
+                else:
+                    self.failed.append(edit.key)
+        if seen:
+            repository.record.keep(seen)
+
+
+def chosen(repository, words):
+    """Returns the edits to try: those without a record that fits, and others that stand on theirs."""
+    if words == ["--try-all"]:
+        return repository.edits, []
+    if words[:1] == ["--try"]:
+        unknown = sorted({*words[1:]} - {*repository.crates})
+        if unknown:
+            raise SystemExit(f"tests/edits.py: crates.txt has no crate {unknown[0]}")
+        return [it for it in repository.edits if it.crate in words[1:]], []
+    standing = repository.standing()
+    keys = {it.key for it in standing}
+    return [it for it in repository.edits if it.key not in keys], repository.sample(standing)
+
+
+def faults_of(repository):
+    """Prints what is wrong with the edits and the record before any is tried, and returns how many things that are."""
+    found = [f"{key}: {why}" for key, why in sorted(repository.faults.items())] + repository.record.faults
+    found += [f"{key}: the record names it, and there is no such edit" for key in repository.unknown()]
+    for it in found:
+        print(it)
+    return len(found)
+
+
+def step(repository, words):
+    """Tries the edits that the words ask for, or the gate's, and returns how many passed and how many things failed."""
+    is_by_hand = bool(words)
+    if is_by_hand:
+        repository.clean_record()
+    wrong = faults_of(repository)
+    new, again = chosen(repository, words)
+    trial = Trial(repository, new + again)
+    trial.run()
+    if trial.little:
+        print("says little: " + " ".join(sorted(trial.little)))
+    if trial.failed:
+        print("FAILED: " + " ".join(sorted(trial.failed)))
+    left = len(repository.edits) - len(trial.edits)
+    others = "others were left alone" if is_by_hand else "others stand on their record"
+    print(f"{len(trial.edits)} edits were tried, {len(again)} of them as a sample; {left} {others}")
+    return len(trial.refused) + (0 if is_by_hand else left), len(trial.failed) + wrong
+
+
+def look(repository):
+    """Says which edits the gate would try."""
+    wrong = faults_of(repository)
+    new, again = chosen(repository, [])
+    for edit in new:
+        print(f"no record: {edit.key}")
+    for edit in again:
+        print(f"in the sample: {edit.key}")
+    others = len(repository.edits) - len(new) - len(again)
+    print(f"{len(new) + len(again)} edits would be tried; {others} others stand on their record")
+    print(f"{int(not wrong)} passed, {wrong} failed")
+    return 1 if wrong else 0
 
 
 def main(words):
-    crates = sorted(os.listdir(EDITS))
-    if words[:1] == ["--try"]:
-        passed, failed = attempt(words[1:] or crates)
-    else:
-        passed, failed = look(crates)
+    if words not in ([], ["--look"], ["--try-all"]) and (words[0] != "--try" or len(words) == 1):
+        print(__doc__, file=sys.stderr)
+        return 2
+    os.chdir(TOP)
+    repository = Repository(load_rt(), TOP)
+    if words == ["--look"]:
+        return look(repository)
+    passed, failed = step(repository, words)
     print(f"{passed} passed, {failed} failed")
     return 1 if failed else 0
 

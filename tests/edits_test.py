@@ -1,0 +1,296 @@
+#!/usr/bin/env python3
+"""Tests tests/edits.py on small repositories, with the kit's own rt but a stand-in for the prover.
+
+What is shown: which edits are tried after which change, what is written to the record, and what fails the gate. The
+last line is `N passed, M failed`.
+"""
+import contextlib
+import importlib.util
+import io
+import os
+import subprocess
+import sys
+import tempfile
+
+sys.dont_write_bytecode = True
+HERE = os.path.dirname(os.path.abspath(__file__))
+SPEC = importlib.util.spec_from_file_location("edits", f"{HERE}/edits.py")
+edits = importlib.util.module_from_spec(SPEC)
+sys.modules["edits"] = edits
+SPEC.loader.exec_module(edits)
+RT = edits.load_rt()
+# One lane, so that crates come one after the other.
+os.environ["RT_JOBS"] = "1"
+REFUSED = "refused, as it must be: src/lib.rt:1:1: error"
+LITTLE = "refused, as it must be (only because a proof file names what the edit took away, so this says little)"
+
+FILES = {
+    "crates.txt": "low:\nhigh: low\nother:\n",
+    "crates/low/src/lib.rt": "fn low() { 1 }\n",
+    "crates/low/specs/Low.antt": "low : 1\n",
+    "crates/low/proofs/low/Answers.antt": "low = 1\n",
+    "crates/high/src/lib.rt": "fn high() { 2 }\n",
+    "crates/high/specs/High.antt": "high : 2\n",
+    "crates/high/proofs/high/Answers.antt": "high = 2\n",
+    "crates/other/src/lib.rt": "fn other() { 3 }\n",
+    "tests/edits/low/a.edit": "file: src/lib.rt\nold: 1\nnew: 7\n",
+    "tests/edits/high/b.edit": "file: src/lib.rt\nold: 2\nnew: 7\n",
+    "tests/edits/high/c.edit": "file: src/lib.rt\nold: fn high\nnew: fn higher\n",
+    "tests/edits/other/d.edit": "file: src/lib.rt\nold: 3\nnew: 7\n",
+}
+# The same commits in each run, so that the samples are the same.
+AT = {"GIT_AUTHOR_DATE": "2026-01-01T00:00:00Z", "GIT_COMMITTER_DATE": "2026-01-01T00:00:00Z"}
+ALL = ["high/b.edit", "high/c.edit", "low/a.edit", "other/d.edit"]
+
+
+class World:
+    """A repository in a folder of its own, and a prover that answers what a test wants and notes what it was asked."""
+
+    def __init__(self, root):
+        self.root, self.answers, self.asked, self.said = root, {}, [], ""
+        for name, text in FILES.items():
+            self.put(name, text)
+        self.git("init", "-q")
+        self.commit()
+        self.build()
+
+    def git(self, *words):
+        who = ["-c", "user.name=test", "-c", "user.email=test@example.org"]
+        subprocess.run(["git", "-C", self.root, *who, *words], check=True, env={**os.environ, **AT})
+
+    def commit(self):
+        self.git("commit", "-q", "--allow-empty", "-m", "one more")
+
+    def put(self, name, text):
+        os.makedirs(os.path.dirname(f"{self.root}/{name}"), exist_ok=True)
+        with open(f"{self.root}/{name}", "w", encoding="utf-8") as it:
+            it.write(text)
+
+    def record(self):
+        file = f"{self.root}/tests/edits.record"
+        return open(file, encoding="utf-8").read() if os.path.isfile(file) else ""
+
+    def build(self):
+        """Stands for a build of all libraries with stamps."""
+        # (a new run of the step reads crates.txt anew)
+        RT.rtlib.listed.cache_clear()
+        for crate in RT.rtlib.crates_below(self.root):
+            os.makedirs(crate.rlib, exist_ok=True)
+            with open(f"{crate.folder}/out/rlib/stamp", "w", encoding="utf-8") as it:
+                it.write(crate.stamp())
+
+    def prove(self, crate, files, flags):
+        """Takes the place of must_fail_all: an answer is a text, or a call that is made while the edit is tried."""
+        found = []
+        for file in files:
+            key = f"{crate.name}/{os.path.basename(file)}"
+            self.asked.append(key)
+            answer = self.answers.get(key, REFUSED)
+            text = answer() if callable(answer) else answer
+            found.append((text.startswith("refused"), f"must-fail {key}: {text}"))
+        return found
+
+    def run(self, *words, sample=0):
+        """Runs the step, and returns how many edits passed and failed. What was asked and said is kept."""
+        self.build()
+        edits.SAMPLE, self.asked, said = sample, [], io.StringIO()
+        RT.must_fail_all = self.prove
+        with contextlib.redirect_stdout(said):
+            counts = edits.step(edits.Repository(RT, self.root), list(words))
+        self.said = said.getvalue()
+        return counts
+
+
+def same(found, wanted):
+    if found != wanted:
+        raise AssertionError(f"{found!r}, and not {wanted!r}")
+
+
+def refusals_are_recorded_and_not_tried_again(world):
+    same((world.run(), sorted(world.asked)), ((4, 0), ALL))
+    first = world.record()
+    same([it.split(" ")[0] for it in first.splitlines()], ALL)
+    same((world.run(), world.asked, world.record()), ((4, 0), [], first))
+
+
+def whatever_a_check_reads_has_its_edits_tried_again(world):
+    above = ALL[:3]
+    changes = [
+        ("crates/low/src/lib.rt", "fn low() { 1; }\n", above),
+        ("crates/low/specs/Low.antt", "low : 8\n", above),
+        ("crates/low/proofs/low/Answers.antt", "low = 8\n", above),
+        ("crates/low/proofs/More.antt", "", above),
+        ("crates/high/src/lib.rt", "fn high() { 2; }\n", ALL[:2]),
+        ("crates/high/specs/High.antt", "high : 8\n", ALL[:2]),
+        ("crates/high/proofs/high/Answers.antt", "high = 8\n", ALL[:2]),
+        ("crates/other/src/lib.rt", "fn other() { 3; }\n", ALL[3:]),
+        ("tests/edits/high/c.edit", "file: src/lib.rt\nold: fn high\nnew: fn lower\n", ["high/c.edit"]),
+        ("crates.txt", "low: hex\nhigh: low\nother:\n", above),
+        ("crates.txt", "low: hex\nhigh: low\nother: low\n", ["other/d.edit"]),
+        ("crates.txt", "low: hex\nhigh: low\nother tests_may=Threads: low\n", ["other/d.edit"]),
+    ]
+    world.run()
+    for name, text, wanted in changes:
+        world.put(name, text)
+        same((name, world.run(), sorted(world.asked)), (name, (4, 0), wanted))
+    os.rename(f"{world.root}/crates/low/proofs/More.antt", f"{world.root}/crates/low/proofs/Less.antt")
+    same((world.run(), sorted(world.asked)), ((4, 0), ALL))
+
+
+def another_kit_has_every_edit_tried_again(world):
+    world.run()
+    kit, RT.KIT = RT.KIT, f"{world.root}/kit"
+    try:
+        for name in ("KIT-ID", "WHAT", "WHAT-base"):
+            world.put(f"kit/{name}", "another one\n")
+            same((world.run(), sorted(world.asked)), ((4, 0), ALL))
+    finally:
+        RT.KIT = kit
+
+
+def the_sample_is_another_one_for_each_commit(world):
+    world.run()
+    seen = set()
+    for _ in range(20):
+        world.commit()
+        same((world.run(sample=1), len(world.asked)), ((4, 0), 1))
+        seen.update(world.asked)
+    same(sorted(seen), ALL)
+    asked = world.asked
+    world.run(sample=1)
+    same(world.asked, asked)
+    same((world.run(sample=10), sorted(world.asked)), ((4, 0), ALL))
+
+
+def what_is_not_refused_fails_and_loses_its_record(world):
+    world.run()
+    for text in ("NOT REFUSED: the crate is still proved with this edit", "BAD EDIT: it did not reach the prover"):
+        world.answers = {"high/b.edit": text}
+        same(world.run(sample=10), (3, 1))
+        same([it.split(" ")[0] for it in world.record().splitlines()], ["high/c.edit", "low/a.edit", "other/d.edit"])
+        same((world.run(), world.asked), ((3, 1), ["high/b.edit"]))
+        world.answers = {}
+        same((world.run(), world.asked), ((4, 0), ["high/b.edit"]))
+
+
+def a_record_of_no_edit_fails(world):
+    world.run()
+    whole = world.record()
+    os.remove(f"{world.root}/tests/edits/high/c.edit")
+    same((world.run(), "high/c.edit: the record names it" in world.said), ((3, 1), True))
+    same((world.run("--try", "high"), world.asked), ((1, 0), ["high/b.edit"]))
+    same((world.run(), world.record()), ((3, 0), "".join(it for it in whole.splitlines(True) if "c.edit" not in it)))
+
+
+def a_record_that_was_not_written_by_the_tool_fails(world):
+    world.run()
+    lines = world.record().splitlines(True)
+    for text in ("high/b.edit\n", lines[1] + lines[0], lines[0] + lines[0], lines[0].replace(" ", "  ")):
+        world.put("tests/edits.record", text)
+        same(world.run()[1], 1)
+
+
+def a_digest_that_was_made_up_does_not_count(world):
+    world.put("tests/edits.record", f"low/a.edit {'0' * 64}\n")
+    same((world.run(), sorted(world.asked)), ((4, 0), ALL))
+
+
+def an_edit_that_does_not_apply_fails_untried(world):
+    world.put("tests/edits/other/d.edit", "file: src/lib.rt\nold: 4\nnew: 7\n")
+    world.put("tests/edits/other/e.edit", "file: src/lib.rt\nold: {\nnew: {{\nold: {\nnew: [\n")
+    world.put("tests/edits/other/notes", "")
+    world.put("tests/edits/nobody/a.edit", "")
+    same((world.run(), sorted(world.asked)), ((3, 4), ALL[:3]))
+
+
+def a_file_that_is_changed_meanwhile_leaves_no_record(world):
+    def change():
+        world.put("crates/low/specs/Low.antt", "low : 9\n")
+        return REFUSED
+
+    world.answers = {"high/b.edit": change}
+    same(world.run("--try", "high"), (0, 2))
+    same(("changed meanwhile" in world.said, world.record()), (True, ""))
+
+
+def refusals_that_say_little_are_listed(world):
+    world.answers = {"low/a.edit": LITTLE}
+    same((world.run(), "says little: low/a.edit\n" in world.said), ((4, 0), True))
+
+
+def a_run_that_is_killed_keeps_what_it_saw(world):
+    world.answers = {"low/a.edit": lambda: os._exit(9), "other/d.edit": lambda: os._exit(9)}
+    child = os.fork()
+    if not child:
+        world.run()
+        os._exit(0)
+    same(os.waitstatus_to_exitcode(os.waitpid(child, 0)[1]), 9)
+    same([it.split(" ")[0] for it in world.record().splitlines()], ALL[:2])
+    world.answers = {}
+    same((world.run(), sorted(world.asked)), ((4, 0), ALL[2:]))
+
+
+def trying_by_hand_tries_what_it_is_asked_for(world):
+    same((world.run("--try", "low", "other"), sorted(world.asked)), ((2, 0), ALL[2:]))
+    same((world.run("--try-all"), sorted(world.asked)), ((4, 0), ALL))
+
+
+def an_edit_above_what_is_not_proved_fails_untried(world):
+    build, RT.rtlib.Crate.build_rlib = RT.rtlib.Crate.build_rlib, lambda crate, flags, anew: 1
+    world.build = lambda: None
+    world.put("crates/low/src/lib.rt", "fn low() { 1; }\n")
+    try:
+        same((world.run(), sorted(world.asked)), ((2, 2), ALL[2:]))
+    finally:
+        RT.rtlib.Crate.build_rlib = build
+
+
+def libraries_without_a_stamp_have_to_be_newer_than_their_sources(world):
+    rlib, calls = f"{world.root}/crates/low/out/rlib/low.rlib", []
+    build, RT.rtlib.Crate.build_rlib = RT.rtlib.Crate.build_rlib, lambda it, flags, anew: calls.append(it.name) or 0
+    try:
+        os.remove(f"{world.root}/crates/low/out/rlib/stamp")
+        world.build = lambda: None
+        world.put("crates/low/out/rlib/low.rlib/format", "made by rt ci\n")
+        same((world.run("--try", "high"), calls), ((2, 0), []))
+        os.utime(f"{rlib}/format", (1, 1))
+        same((world.run("--try", "high"), calls), ((2, 0), ["low"]))
+    finally:
+        RT.rtlib.Crate.build_rlib = build
+
+
+TESTS = [
+    refusals_are_recorded_and_not_tried_again,
+    whatever_a_check_reads_has_its_edits_tried_again,
+    another_kit_has_every_edit_tried_again,
+    the_sample_is_another_one_for_each_commit,
+    what_is_not_refused_fails_and_loses_its_record,
+    a_record_of_no_edit_fails,
+    a_record_that_was_not_written_by_the_tool_fails,
+    a_digest_that_was_made_up_does_not_count,
+    an_edit_that_does_not_apply_fails_untried,
+    a_file_that_is_changed_meanwhile_leaves_no_record,
+    refusals_that_say_little_are_listed,
+    a_run_that_is_killed_keeps_what_it_saw,
+    trying_by_hand_tries_what_it_is_asked_for,
+    an_edit_above_what_is_not_proved_fails_untried,
+    libraries_without_a_stamp_have_to_be_newer_than_their_sources,
+]
+
+
+def main():
+    failed = 0
+    for test in TESTS:
+        with tempfile.TemporaryDirectory() as root:
+            world = World(root)
+            try:
+                test(world)
+            except AssertionError as error:
+                print(f"{test.__name__}: {error}\n{world.said}")
+                failed += 1
+    print(f"{len(TESTS) - failed} passed, {failed} failed")
+    return 1 if failed else 0
+
+
+if __name__ == "__main__":
+    sys.exit(main())
