@@ -408,4 +408,18 @@ refused 'no second folder, no .twosync' 9 sync first nowhere archive
 printf 'twosync-plan 1\nend 0 00\n' >plan
 refused 'no plan text, no .twosync' 6 run first second archive plan
 
+# ---- a run that can't be reported is done all the same, and its status says that it wasn't reported
+for words in 'sync first second archive' 'run first second archive plan'; do
+  fresh
+  printf a >first/f
+  "$program" plan first second archive >plan
+  # shellcheck disable=SC2086
+  "$program" $words >/dev/full 2>err
+  status=$?
+  : >out
+  answered "$words, no room for the report" 2 '' 'twosync: fault 5' "$status"
+  alike "$words, no room for the report"
+  expect "$words, no room for the report: again" 0 "$nothing" '' "${sync[@]}"
+done
+
 ended disk_edge

@@ -15,3 +15,4 @@ mod telling;
 pub use disk::{Disk, Machine};
 pub use fault::PerformFault;
 pub use performing::{REFUSED, perform};
+pub use telling::FAILED;

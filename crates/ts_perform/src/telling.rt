@@ -18,8 +18,8 @@ use ts_report::{Ending, Results};
 use ts_site::Site;
 use ts_text::Sink;
 
-/// The exit status where an action failed, or the archive couldn't be written.
-pub(crate) const FAILED: u8 = 2;
+/// The exit status where an action failed, or the archive or the report couldn't be written.
+pub const FAILED: u8 = 2;
 
 /// Writes the report, then the faults of failed actions, and why the new archive wasn't kept, if it wasn't. Answers the exit
 /// status.

@@ -1,36 +1,50 @@
 //! The program `twosync`: reads its words, and does what they ask for.
 #![tactic(auto)]
 
-ghost use Rattle.std.specs.Prelude.{◌≡◌};
-ghost use Rattle.twosync.specs.Faults.{fault_number};
+ghost use Rattle.std.specs.Prelude.{◌≡◌, ◌↔◌, IfErr, IsTrue};
+ghost use Rattle.ts_perform.specs.Runs.{IsRunOrSync};
+ghost use Rattle.twosync.specs.Faults.{fault_number, fault_status};
+ghost use Rattle.twosync.specs.declared.Fault.TheVariants.{Unreported};
 
 use std::alloc::AllocError;
 use std::env;
 use std::io::{self, BufWriter, Input, Write};
 use std::process::ExitCode;
 use std::rt::Env;
-use ts_command::{Command, CommandFault, command};
-use ts_perform::performing::REFUSED;
-use ts_perform::{Machine, perform};
+use ts_command::{Command, CommandFault, Job, command};
+use ts_perform::{FAILED, Machine, REFUSED, perform};
 use ts_text::{Counted, Sink, write_all};
 
-/// Why the program ends without an answer: the number that it prints.
+/// Why the program ends without an answer.
 #[derive(Clone, Copy, Debug, PartialEq, Eq)]
 enum Fault {
     OutOfMemory,
+    /// What a command prints couldn't be written.
     Failed,
+    /// A plan was carried out, and its report couldn't be written.
+    Unreported,
     Usage,
 }
 
 impl Fault {
-    /// 1 for memory, 5 for a reader or writer, 16 for words that are no command.
+    /// The number that is printed: 1 for memory, 5 for a reader or writer, 16 for words that are no command.
     fn number(self) -> u8
         ensures { result ≡ fault_number self }
     {
         match self {
             Fault::OutOfMemory => 1,
-            Fault::Failed => 5,
+            Fault::Failed | Fault::Unreported => 5,
             Fault::Usage => 16,
+        }
+    }
+
+    /// The exit status: that of a refusal, unless a plan was carried out.
+    fn status(self) -> u8
+        ensures { result ≡ fault_status self }
+    {
+        match self {
+            Fault::Unreported => FAILED,
+            Fault::OutOfMemory | Fault::Failed | Fault::Usage => REFUSED,
         }
     }
 }
@@ -60,18 +74,38 @@ fn run<R: Env + Input + Print + Machine, E: Sink>(rt: &R, err: &mut E) -> Result
     }
 }
 
-/// Does what a command asks for, and sees that all of its answer goes out.
+/// Does what a command asks for, and sees that all of its answer goes out. Where it doesn't, what was carried out stays so.
 fn answer<R: Input + Print + Machine, E: Sink>(
     rt: &R,
     command: &Command<'_>,
     err: &mut E,
-) -> Result<u8, Fault> {
+) -> Result<u8, Fault>
+    ensures { IfErr result (λ fault. fault ≡ Unreported → IsRunOrSync command.now.job) }
+{
     let out = BufWriter::new(rt.alloc(), io::writer(rt)).map_err(|_| Fault::OutOfMemory)?;
     let mut out = Counted::new(out);
     let input = Counted::new(rt.reader());
     let status = perform(rt, command, input, &mut out, err);
-    out.inner.flush().map_err(|_| Fault::Failed)?;
-    Ok(status)
+    match out.inner.flush() {
+        Ok(()) => Ok(status),
+        Err(_) if status != REFUSED && is_run_or_sync(&command.job) => Err(Fault::Unreported),
+        Err(_) => Err(Fault::Failed),
+    }
+}
+
+/// Whether a plan is carried out for this job.
+fn is_run_or_sync(job: &Job<'_>) -> bool
+    ensures { IsTrue result ↔ IsRunOrSync job.now }
+{
+    match job {
+        Job::Run { .. } | Job::Sync { .. } => true,
+        Job::Tell { .. }
+        | Job::Trial
+        | Job::Scan { .. }
+        | Job::Show { .. }
+        | Job::Plan { .. }
+        | Job::Check { .. } => false,
+    }
 }
 
 fn main(rt: HostRuntime) -> ExitCode {
@@ -81,7 +115,7 @@ fn main(rt: HostRuntime) -> ExitCode {
         Err(fault) => {
             let number = fault.number();
             let _ = eprintln!(rt; "twosync: fault {number}");
-            ExitCode::from(REFUSED)
+            ExitCode::from(fault.status())
         }
     }
 }
