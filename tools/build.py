@@ -1,0 +1,79 @@
+#!/usr/bin/env python3
+"""Proves and builds the libraries below some crates, side by side: each as soon as those below it are there.
+
+`rt run` and `rt check` build them one after the other, which takes twice as long. What is built stays in each crate's
+folder out/, where `rt` finds it, and a library whose sources haven't changed isn't built again.
+
+usage: tools/build.py [CRATE ..]      the libraries below these crates; below the program, where none is named
+"""
+import copy
+import os
+import sys
+import tempfile
+import time
+
+TOP = os.path.dirname(os.path.dirname(os.path.abspath(__file__)))
+sys.path.insert(0, f"{TOP}/tests")
+
+from edits import load_rt
+
+
+def build(crate, jobs, started):
+    """Builds a library where those below it are built, says how it went, and returns whether that is well."""
+    begun = time.monotonic()
+    crate = copy.copy(crate)
+    with tempfile.TemporaryFile("w+", errors="replace") as crate.out:
+        try:
+            status = crate.build_rlib(["--jobs", str(jobs)], anew=False)
+        except SystemExit:
+            status = 1
+        crate.out.seek(0)
+        said = crate.out.read()
+    now = time.monotonic()
+    at, took = divmod(int(now - started), 60), int(now - begun)
+    print(f"{at[0]:3}:{at[1]:02}  {crate.name} {'NOT PROVED' if status else 'proved'}, {took} s", flush=True)
+    if status:
+        print(said, flush=True)
+    return not status
+
+
+def tasks_of(rt, libraries):
+    """Returns a task for each library that isn't built, lowest first, as rt.in_lanes takes them."""
+    missing = [it for it in libraries if not it.is_built()]
+    names = {it.name for it in missing}
+    started, tasks = time.monotonic(), {}
+    for crate in missing:
+        waits = [(it.name, "proof") for it in crate.below() if it.name in names]
+
+        def call(given, jobs, it=crate, waits=waits):
+            return all(given[key] for key in waits) and build(it, jobs, started)
+
+        tasks[crate.name, "proof"] = (waits, crate.count(rb"\n"), rt.need(crate), call)
+    return tasks
+
+
+def main(words):
+    os.chdir(TOP)
+    rt = load_rt()
+    crates = {it.name: it for it in rt.rtlib.crates_below(TOP)}
+    unknown = [it for it in words if it not in crates]
+    if unknown:
+        print(f"tools/build.py: crates.txt has no crate {unknown[0]}\n\n{__doc__}", file=sys.stderr)
+        return 2
+    wanted = [crates[it] for it in words or ["twosync"]]
+    libraries = list(dict.fromkeys(it for crate in wanted for it in crate.below()))
+    # (its first call sets a signal's handler, which only the main thread may)
+    rt.rtlib.guarded()
+    held = rt.rtlib.lock(libraries)
+    try:
+        done = rt.in_lanes(tasks_of(rt, libraries))
+    finally:
+        for it in held:
+            os.close(it)
+    failed = [key[0] for key, well in done.items() if not well]
+    print(f"{len(libraries) - len(failed)} of {len(libraries)} libraries are built")
+    return 1 if failed else 0
+
+
+if __name__ == "__main__":
+    sys.exit(main(sys.argv[1:]))
