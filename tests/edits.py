@@ -190,6 +190,8 @@ class Repository:
 
     def sample(self, edits):
         """Returns some of the edits, others for each commit, so that over time each is tried again."""
+        if not edits:
+            return []
         # (the repository may belong to another user than the one who runs the gate)
         words = ["git", "-c", f"safe.directory={self.root}", "-C", self.root, "rev-parse", "HEAD"]
         commit = subprocess.run(words, stdout=subprocess.PIPE, text=True, check=True).stdout.strip()
