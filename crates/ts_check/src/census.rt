@@ -35,8 +35,8 @@ impl Role {
         ensures { IsTrue result ↔ IsWanted self reason }
     {
         match self {
-            Role::Commits => matches!(reason, Reason::First | Reason::Second),
-            Role::Marks => !matches!(reason, Reason::Conflict | Reason::Held),
+            Role::Commits => reason.source().is_some(),
+            Role::Marks => !reason.is_skipped(),
         }
     }
 }

@@ -6,7 +6,7 @@ ghost use Rattle.ts_model.specs.Plans.{Copies, IsCopied, KindIs};
 ghost use Rattle.ts_model.specs.declared.plan.Entry.{Entry};
 ghost use Rattle.ts_model.specs.declared.plan.Kind.TheVariants.{Commit};
 
-use ts_model::plan::{Kind, Plan, Reason, Side};
+use ts_model::plan::{Kind, Plan, Side};
 
 /// The entry of a commit; none for what is no commit.
 pub fn commit_entry(plan: &Plan, c: u32) -> Option<u32>
@@ -50,9 +50,5 @@ pub fn source_side(plan: &Plan, e: u32) -> Option<Side>
     if i >= entries.len() {
         return None;
     }
-    match entries[i].reason {
-        Reason::First => Some(Side::First),
-        Reason::Second => Some(Side::Second),
-        _ => None,
-    }
+    entries[i].reason.source()
 }

@@ -13,7 +13,7 @@ ghost use Rattle.ts_model.specs.declared.row.Stamp.{Stamp};
 use crate::order::row_of;
 use std::alloc::{AllocError, Global};
 use std::collections::BTreeMap;
-use ts_model::plan::{Kind, Plan, Reason};
+use ts_model::plan::{Kind, Plan, Side};
 use ts_model::row::{Content, Row, Stamp};
 use ts_name::Path;
 
@@ -44,10 +44,9 @@ fn source_of<'a>(
     if e >= entries.len() {
         return None;
     }
-    match entries[e].reason {
-        Reason::First => Some(first),
-        Reason::Second => Some(second),
-        _ => None,
+    match entries[e].reason.source()? {
+        Side::First => Some(first),
+        Side::Second => Some(second),
     }
 }
 

@@ -9,7 +9,7 @@ ghost use Rattle.ts_model.specs.declared.plan.Side.{Side};
 use std::alloc::Global;
 use ts_board::Board;
 use ts_check::Checked;
-use ts_model::plan::{Kind, Reason};
+use ts_model::plan::{Kind, Side};
 use ts_site::Site;
 
 /// What all workers share: the checked plan, its board, the folders that pieces are read from, and the gate.
@@ -41,9 +41,13 @@ impl<'a, 'b, S: Site, F, G> Job<'a, 'b, S, F, G> {
         requires { (copied : Entry) × (from : Side) × Copies self.now.checked.now.plan entry copied from }
         ensures { (copied : Entry) × (from : Side) × Copies self.now.checked.now.plan entry copied from × (result.now ≡ of_side self.now.first.now self.now.second.now from) }
     {
-        match self.checked.plan().entries.as_slice()[entry as usize].reason {
-            Reason::Second => self.second,
-            _ => self.first,
+        let source = self.checked.plan().entries.as_slice()[entry as usize]
+            .reason
+            .source();
+        match source {
+            Some(Side::First) => self.first,
+            Some(Side::Second) => self.second,
+            None => unreachable!(),
         }
     }
 }
