@@ -176,8 +176,8 @@ joined p xs ys front back up a b = record {
       ]
     ]
 
-pub none_below : (p : Path) → AreBelow p [] []
-none_below p = record { ascending = tt; rows_are = tt; parents = λ q name there. absurd (there refl) }
+pub none_below : (p : Path) (children : Children) → AreBelow p children []
+none_below p children = record { ascending = tt; rows_are = tt; parents = λ q name there. absurd (there refl) }
 
 -- ---- the rows of one name
 

@@ -99,7 +99,7 @@ file_fits tree (n ∷ p) body is = (is.0, is.1, go tree body.files is.1)
 -- ---- what is found
 
 pub found_none : (told : Told) (p : Path) → Found told p [] []
-found_none told p = record { below = none_below p; print = nothing told }
+found_none told p = record { below = none_below p []; print = nothing told }
   where
     nothing : (o : Told) → IfSome o (λ tree. AreThere (at tree) p [] → ArePrinted (at tree) p [] [])
     nothing None = tt

@@ -4,6 +4,7 @@
 pub mod fault;
 mod file;
 mod idle;
+mod opened;
 pub mod scanning;
 mod walk;
 

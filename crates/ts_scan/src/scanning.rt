@@ -13,8 +13,9 @@ use ts_name::Path;
 use ts_print::Print;
 use ts_table::Table;
 
-/// What is at each path of a folder, scanned by 1 to 64 workers. Each directory is listed once and each file opened once; a
-/// file is read through one buffer a worker. A thread that can't be started is done without.
+/// What is at each path of a folder, scanned by 1 to 64 workers. Each directory is listed once and each file opened once,
+/// unless what was listed is gone or of another kind when it is opened: then its directory is listed again, up to ten times.
+/// A file is read through one buffer a worker. A thread that can't be started is done without.
 ///
 /// Of faults the first in path order is told, want of memory aside.
 pub fn scan<R: Threads + Sync, F: Folder + Sync>(

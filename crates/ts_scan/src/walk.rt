@@ -10,8 +10,8 @@ ghost use Rattle.ts_scan.specs.Faults.{MayFail};
 ghost use Rattle.ts_scan.specs.Scans.{Adds, AreThere, Found, FoundIn};
 
 use crate::fault::{Refusal, ScanFault, refused, told};
-use crate::file::stamp_of_file;
 use crate::idle::Idle;
+use crate::opened::{Opened, Parent};
 use std::alloc::Global;
 use std::sync::atomic::AtomicBool;
 use std::thread::{Threads, join};
@@ -21,6 +21,9 @@ use ts_name::{Name, Path, PathFault};
 
 /// How many bytes of a file are read at once.
 const PIECE: usize = 65_536;
+
+/// How many times a directory is listed again for a child that isn't there when it is opened.
+const TRIES: u32 = 10;
 
 /// What a worker carries: the rows found so far, in path order, and the buffer through which it reads files.
 #[derive(Drop)]
@@ -53,7 +56,6 @@ impl Work {
 }
 
 /// Adds the rows of all that is below the directory at a path.
-#[cycle(walk)]
 pub(crate) fn scan_directory<R: Threads + Sync, F: Folder + Sync>(
     rt: &R,
     folder: &F,
@@ -182,18 +184,23 @@ where
     ensures fault { IfSome (F.tells folder.now) (λ tree. HasKind (at tree (parent.now ++ child.now.0 ∷ [])) child.now.1) → IfErr result (MayFail (F.lets folder.now) (F.tells folder.now)) }
 {
     let path = child_path(alloc, parent, &child.0)?;
-    match child.1 {
-        Kind::File => {
-            let stamp = stamp_of_file(folder, alloc, &path, work.buffer.as_mut_slice())?;
+    let directory = Parent {
+        folder,
+        alloc,
+        path: parent,
+    };
+    match directory.open(&child.0, &path, child.1, work.buffer.as_mut_slice(), TRIES)? {
+        Opened::Gone => Ok(work),
+        Opened::File(stamp) => {
             work.push(path, Content::File(stamp))?;
             Ok(work)
         }
-        Kind::Dir => {
+        Opened::Dir(children) => {
             let Ok(own) = path.copy(alloc) else {
                 return Err(ScanFault::OutOfMemory);
             };
             work.push(own, Content::Dir)?;
-            scan_directory(rt, folder, idle, alloc, &path, work)
+            scan_children(rt, folder, idle, alloc, &path, &children, work)
         }
     }
 }

@@ -1,14 +1,16 @@
-use Rattle.std.proofs.Common.{◌≡◌, ◌∷◌, ◌++◌, [], IfSome, refl, sym, ap, ◌∙◌, subst, append_assoc}
+use Rattle.std.proofs.Common.{◌≡◌, ◌∷◌, ◌++◌, [], refl, sym, ap, ◌∙◌, subst, append_assoc}
 use Rattle.std.proofs.lemmas.Result.{IfErr-at_err, IfOk-at_ok, IfOk-weaker}
 use Rattle.ts_name.specs.Paths.{IsPath}
-use Rattle.ts_folder.specs.Folders.{AreChildren, HasKind, InOrder}
+use Rattle.ts_folder.specs.Folders.{HasKind, InOrder}
 use Rattle.ts_model.specs.Texts.{IsTreeBody}
 use Rattle.ts_model.specs.Trees.{at}
 use Rattle.ts_scan.specs.Faults.{MayFail}
-use Rattle.ts_scan.specs.Scans.{Adds, AreThere, Found, FoundIn}
+use Rattle.ts_scan.specs.Openings.{IsListed, IsOpened}
+use Rattle.ts_scan.specs.Scans.{Adds, Found}
 use Rattle.ts_scan.proofs.Faults.{may_be_deep, no_tree}
+use Rattle.ts_scan.proofs.Openings.{adds_gone, adds_opened, listed_there}
 use Rattle.ts_scan.proofs.Parts.{order_left, order_right}
-use Rattle.ts_scan.proofs.Walks.{are_there, child_path, map_some, there_left, there_right, there_first, adds_none, adds_rest, adds_half, adds_file, adds_below, exit_tells}
+use Rattle.ts_scan.proofs.Walks.{child_path, there_left, there_right, there_first, adds_none, adds_rest, adds_half, adds_file, exit_tells}
 use Rattle.ts_scan.proofs.walk.+walk.Goals as goal
 
 -- ---- two halves
@@ -46,17 +48,35 @@ scan_child-returns-in_err-path-clause-fault g t c there =
     (λ deep. no_tree told IsTreeBody (λ tree. HasKind (at tree (c.args.parent.now ++ c.args.child.now.0 ∷ [])) c.args.child.now.1) (λ tree body is. deep (child_path tree c.args.parent.now c.args.child.now body is)) c.requires.lawful there)
     c.in_err-path.ensures.fault)
 
+pub scan_child-returns-in-Gone-clause-found : goal.scan_child-returns-in-Gone-clause-found
+scan_child-returns-in-Gone-clause-found g t c =
+    let told = g.F.Folder.tells c.args.folder.now in
+    adds_gone told c.args.parent.now c.in_ok-path.path c.args.child.now c.args.work.rows.items c.in_ok-path.ensures.path.0
+    (subst (IsOpened told c.in_ok-path.path c.args.child.now.1) c.in-Gone.is c.in_ok-open.ensures.opened)
+
 pub scan_child-returns-in_ok-push-in-File-clause-found : goal.scan_child-returns-in_ok-push-in-File-clause-found
 scan_child-returns-in_ok-push-in-File-clause-found g t c =
-    adds_file (g.F.Folder.tells c.args.folder.now) c.args.parent.now c.in_ok-path.path c.args.child.now c.in_ok-stamp-in-File.stamp c.args.work.rows.items c.push.new.self.rows.items
-    c.requires.lawful c.in_ok-path.ensures.path.0 c.in_ok-path.ensures.path.1 c.in_ok-stamp-in-File.ensures.stamp c.in_ok-push-in-File.ensures.rows
+    let told = g.F.Folder.tells c.args.folder.now in
+    adds_file told c.args.parent.now c.in_ok-path.path c.args.child.now c.in-File.stamp c.args.work.rows.items c.push.new.self.rows.items
+    c.requires.lawful c.in_ok-path.ensures.path.0 c.in_ok-path.ensures.path.1
+    (subst (IsOpened told c.in_ok-path.path c.args.child.now.1) c.in-File.is c.in_ok-open.ensures.opened) c.in_ok-push-in-File.ensures.rows
 
 pub scan_child-returns-in_ok-push-in-Dir-clause-found : goal.scan_child-returns-in_ok-push-in-Dir-clause-found
 scan_child-returns-in_ok-push-in-Dir-clause-found g t c =
     let told = g.F.Folder.tells c.args.folder.now in
-    IfOk-weaker c.scan_directory.result (λ done. Adds c.push-in-Dir.new.self.rows.items done.rows.items (FoundIn told c.in_ok-path.path)) (λ done. Adds c.args.work.rows.items done.rows.items (Found told c.args.parent.now (c.args.child.now ∷ [])))
-    (λ done h. adds_below told c.args.parent.now c.in_ok-path.path c.in-Ok.own c.args.child.now c.args.work.rows.items c.push-in-Dir.new.self.rows.items done.rows.items c.requires.lawful c.in_ok-path.ensures.path.0 c.in_ok-path.ensures.path.1 c.in-Ok.ensures.value c.in_ok-push-in-Dir.ensures.rows h)
-    c.scan_directory.ensures.found
+    let opened = subst (IsOpened told c.in_ok-path.path c.args.child.now.1) c.in-Dir.is c.in_ok-open.ensures.opened in
+    let listed = subst (IsListed told c.in_ok-path.path) (sym c.deref.ensures.value) opened in
+    IfOk-weaker c.scan_children.result (λ done. Adds c.push-in-Dir.new.self.rows.items done.rows.items (Found told c.in_ok-path.path c.deref.result.now))
+    (λ done. Adds c.args.work.rows.items done.rows.items (Found told c.args.parent.now (c.args.child.now ∷ [])))
+    (λ done h. adds_opened told c.args.parent.now c.in_ok-path.path c.in-Ok.own c.args.child.now c.deref.result.now c.args.work.rows.items c.push-in-Dir.new.self.rows.items done.rows.items
+    c.in_ok-path.ensures.path.0 c.in_ok-path.ensures.path.1 c.in-Ok.ensures.value listed c.in_ok-push-in-Dir.ensures.rows h)
+    c.scan_children.ensures.found
+
+pub scan_child-returns-in_ok-push-in-Dir-clause-fault : goal.scan_child-returns-in_ok-push-in-Dir-clause-fault
+scan_child-returns-in_ok-push-in-Dir-clause-fault g t c there =
+    let told = g.F.Folder.tells c.args.folder.now in
+    let opened = subst (IsOpened told c.in_ok-path.path c.args.child.now.1) c.in-Dir.is c.in_ok-open.ensures.opened in
+    c.scan_children.ensures.fault (listed_there told c.in_ok-path.path c.deref.result.now (subst (IsListed told c.in_ok-path.path) (sym c.deref.ensures.value) opened))
 
 -- ---- the children of a directory
 
@@ -100,19 +120,3 @@ scan_children-loop-child-preserved g t c =
       adds_rest told c.args.path.now inv.0 (child ∷ []) (inv.0 ++ child ∷ []) c.args.work.rows.items c.loop-child.work.rows.items c.in_ok-work.work.rows.items refl
           (order_left (inv.0 ++ child ∷ []) others (subst InOrder split c.requires.order)) inv.2 c.in_ok-work.ensures.found,
     )
-
--- ---- a directory
-
-pub scan_directory-returns-clause-found : goal.scan_directory-returns-clause-found
-scan_directory-returns-clause-found g t c =
-    let told = g.F.Folder.tells c.args.folder.now in
-    let all = subst (λ z. IfSome told (λ tree. AreChildren (at tree) c.args.path.now z)) (sym c.deref.ensures.value) c.in-Ok.ensures.told in
-    IfOk-weaker c.scan_children.result (λ done. Adds c.args.work.rows.items done.rows.items (Found told c.args.path.now c.deref.result.now)) (λ done. Adds c.args.work.rows.items done.rows.items (FoundIn told c.args.path.now))
-    (λ done h. (h.0, h.1, record { children = c.deref.result.now; lawful = c.list.ensures.lawful; all = all; found = h.2 }))
-    c.scan_children.ensures.found
-
-pub scan_directory-returns-clause-fault : goal.scan_directory-returns-clause-fault
-scan_directory-returns-clause-fault g t c dir =
-    let told = g.F.Folder.tells c.args.folder.now in
-    let all = subst (λ z. IfSome told (λ tree. AreChildren (at tree) c.args.path.now z)) (sym c.deref.ensures.value) c.in-Ok.ensures.told in
-    c.scan_children.ensures.fault (map_some (λ tree. AreChildren (at tree) c.args.path.now c.deref.result.now) (λ tree. AreThere (at tree) c.args.path.now c.deref.result.now) told (λ tree are. are_there (at tree) c.args.path.now c.deref.result.now are) all)

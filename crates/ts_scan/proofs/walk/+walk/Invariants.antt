@@ -1,6 +1,6 @@
 use Rattle.std.proofs.Common.{◌≡◌, ◌+◌, ◌*◌, ◌++◌, length}
 use Rattle.ts_scan.specs.Scans.{Children, Adds, Found}
-use Rattle.ts_scan.proofs.Levels.{level, most}
+use Rattle.ts_scan.proofs.Levels.{level}
 use Rattle.ts_scan.proofs.walk.+walk.Given as goal
 
 abbrev pub decreases-in_halves-ours : goal.decreases-in_halves-ours
@@ -17,9 +17,6 @@ decreases-scan_child g l = level l.parent.now 2
 
 abbrev pub decreases-scan_children : goal.decreases-scan_children
 decreases-scan_children g l = level l.path.now (4 * length l.children.now + 3)
-
-abbrev pub decreases-scan_directory : goal.decreases-scan_directory
-decreases-scan_directory g l = level l.path.now most
 
 -- the rows of the children so far were added
 abbrev pub invariant-scan_children-loop-child : goal.invariant-scan_children-loop-child
