@@ -6,9 +6,9 @@ use Rattle.clap.specs.declared.builder.command.Command.{Command}
 use Rattle.clap.specs.declared.builder.command.Command.TheViews.{out-Command}
 use Rattle.clap.specs.declared.builder.value_parser.ValueParser.TheVariants as parser
 
--- a file or a folder that has to be named
+-- a file or a folder that has to be named, by some word that isn't empty
 abbrev pub place_rule : Text → Rule
-place_rule id = record (new_rule id) { required = true }
+place_rule id = record (new_rule id) { required = true; parser = Some parser.NonEmptyString }
 
 abbrev pub workers_rule : Rule
 workers_rule = record (new_rule (codes "workers")) {
@@ -19,7 +19,7 @@ workers_rule = record (new_rule (codes "workers")) {
 }
 
 abbrev pub holds_rule : Rule
-holds_rule = record (new_rule (codes "holds")) { long = Some (codes "holds"); value_names = 1 }
+holds_rule = record (new_rule (codes "holds")) { long = Some (codes "holds"); value_names = 1; parser = Some parser.NonEmptyString }
 
 -- the command has no argument that its subcommands share
 abbrev pub IsLocal : Command → Type 0

@@ -3,6 +3,7 @@ ghost use Rattle.std.specs.Prelude.{◌≡◌, [], false, IfOk};
 ghost use Rattle.clap.specs.Words.{app_of, rule_of};
 ghost use Rattle.ts_command.specs.CommandLine.{IsLocal, command_line, holds_rule, pair_rules, place_rule, planned_pair_rules, taking, workers_rule};
 
+use clap::builder::ValueParser;
 use clap::{Arg, Command, value_parser};
 use std::alloc::{AllocError, Global};
 
@@ -11,7 +12,7 @@ const EXAMPLE: &str = "\
 FIRST and SECOND are folders, ARCHIVE is a file that tells what both had in common; it is made where
 it isn't there. Keep it outside of both folders: inside, it would be copied like any other file.
 Permissions, times and links are not synchronized; a link ends the command. What changed on both
-sides is left alone and told as a conflict.
+sides is left alone and reported as a conflict.
 
 Example:
   twosync sync ~/notes /mnt/stick/notes ~/.notes.archive
@@ -21,18 +22,21 @@ To see what would be done before it is done:
   twosync run ~/notes /mnt/stick/notes ~/.notes.archive plan
 
 Exit status: 0 all is done, 1 conflicts or held paths are left, 2 something failed, 3 refused.
-Faults are told by number: 1 no memory is left, 4 a path is too long, 5 a file can't be read or
+Faults are reported by number: 1 out of memory, 4 a path is too long, 5 a file can't be read or
 written, 6 a text isn't in its form, 7 an archive's last line is wrong, 8 a device failed or another
 run is at work, 9 nothing is there, 10 neither a file nor a folder or a name that isn't lawful, 11 a
 bad hold rule, 12 a plan is too large, 14 what was to be replaced has changed, 15 what was read isn't
 what was scanned, 16 words that are no command.";
 
-/// A file or a folder that a command needs.
+/// A file or a folder that a command needs. An empty word names none.
 fn place<'a>(alloc: Global, name: &'a str, help: &'a str) -> Arg<'a>
     ensures rule { rule_of result ≡ place_rule name.now }
     ensures local { result.global ≡ false }
 {
-    Arg::new(alloc, name).required(true).help(help)
+    Arg::new(alloc, name)
+        .required(true)
+        .value_parser(ValueParser::NonEmptyString)
+        .help(help)
 }
 
 /// `--workers`.
@@ -56,6 +60,7 @@ fn holds<'a>(alloc: Global) -> Arg<'a>
     Arg::new(alloc, "holds")
         .long("holds")
         .value_name("FILE")
+        .value_parser(ValueParser::NonEmptyString)
         .help("Rules, one a line: `path /a/b` or `name *.o`. What they name stays untouched")
 }
 

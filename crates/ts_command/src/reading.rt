@@ -24,7 +24,7 @@ const USUAL_WORKERS: u32 = 4;
 ///
 /// # Errors
 ///
-/// `Usage` where clap doesn't take the words. And want of memory.
+/// `Usage` where clap doesn't take the words, `OutOfMemory` where memory ran out.
 pub fn command<'a, S: AsStr>(alloc: Global, words: &'a [S]) -> Result<Command<'a>, CommandFault>
     ensures asked { IfOk result (IsAsked (map S.text words.entry.now)) }
     ensures usage { IfErr result (λ e. e ≢ OutOfMemory → IsNoCommand (map S.text words.entry.now)) }
@@ -57,7 +57,7 @@ fn without_value(alloc: Global) -> Result<CommandFault, CommandFault>
     Ok(CommandFault::Usage { message })
 }
 
-/// What is answered where clap gives no matches: help and version are told, all else is a mistake in the words.
+/// What is answered where clap gives no matches: help and version are printed, all else is a mistake in the words.
 fn tell<'a>(message: clap::Error) -> Result<Command<'a>, CommandFault>
     ensures asked { (words : List (List ℕ)) → (takes command_line words ≡ true → kind_of message ≡ ErrorKind.OutOfMemory) → IfOk result (λ command. AsksToTell words command.job) }
     ensures usage { (words : List (List ℕ)) → (takes command_line words ≡ true → kind_of message ≡ ErrorKind.OutOfMemory) → IfErr result (λ e. e ≢ OutOfMemory → takes command_line words ≢ true) }

@@ -8,12 +8,15 @@ ghost use Rattle.twosync.specs.declared.Fault.TheVariants.{Unreported};
 
 use std::alloc::AllocError;
 use std::env;
-use std::io::{self, BufWriter, Input, Write};
+use std::io::{self, BufWriter, ErrorKind, Input, Write};
 use std::process::ExitCode;
 use std::rt::Env;
 use ts_command::{Command, CommandFault, Job, command};
 use ts_perform::{FAILED, Machine, REFUSED, perform};
 use ts_text::{Counted, Sink, write_all};
+
+/// What is said of words that aren't UTF-8.
+const NOT_TEXT: &[u8] = b"error: a word of the command isn't UTF-8\n";
 
 /// Why the program ends without an answer.
 #[derive(Clone, Copy, Debug, PartialEq, Eq)]
@@ -61,7 +64,14 @@ impl From<AllocError> for Fault {
 
 /// Reads the words and does what they ask for. Answers the exit status.
 fn run<R: Env + Input + Print + Machine, E: Sink>(rt: &R, err: &mut E) -> Result<u8, Fault> {
-    let words = env::args(rt).map_err(|_| Fault::OutOfMemory)?;
+    let words = match env::args(rt) {
+        Ok(words) => words,
+        Err(e) if e.kind() == ErrorKind::InvalidData => {
+            let _ = write_all(err, NOT_TEXT);
+            return Err(Fault::Usage);
+        }
+        Err(_) => return Err(Fault::OutOfMemory),
+    };
     let words: Vec<String> = words.collect(rt.alloc())?;
     match command(rt.alloc(), words.as_slice()) {
         Ok(command) => answer(rt, &command, err),
