@@ -15,7 +15,7 @@ const TRIES: u32 = 10;
 #[derive(Drop)]
 pub struct Lock {
     // open for as long as the lock is held
-    _file: File,
+    file: File,
     place: String,
     own: String,
     took_part: bool,
@@ -26,6 +26,11 @@ impl Lock {
     /// was stopped before it came so far.
     pub fn took_part(&self) -> bool {
         self.took_part
+    }
+
+    /// Whether the lock's file still lies in its place: else the replica went away, as where its disk is no longer mounted.
+    pub fn is_in_place<R: Files<File = File>>(&self, files: &R) -> bool {
+        is_at(files, &self.file, self.place.as_str()).unwrap_or(false)
     }
 
     /// Notes that the replica takes part in this run.
@@ -74,7 +79,7 @@ pub fn take_lock<R: Files<File = File>>(
         }
         if let Some(file) = open_locked(files, place.as_str())? {
             return Ok(Some(Lock {
-                _file: file,
+                file,
                 place,
                 own,
                 took_part,

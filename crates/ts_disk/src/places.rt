@@ -6,6 +6,7 @@ ghost use Rattle.ts_name.specs.Paths.{place_text};
 ghost use Rattle.ts_swap.specs.Leavings.{Counts};
 
 use crate::fault::DiskFault;
+use crate::leftover::{Aside, remove_at};
 use crate::place::{Standing, are_one, kind_at, look_at, make_own, own_place};
 use crate::staging::{Bits, write_tree};
 use std::alloc::Global;
@@ -17,7 +18,7 @@ use ts_model::row::Row;
 use ts_name::Path;
 use ts_swap::{Failed, Places, Spot, recover};
 
-/// How many names are tried for what can be put back nowhere.
+/// How many names are tried for what is put out of the way.
 const NAMES_TRIED: u32 = 1_000_000;
 
 /// The spots of the swap of one entry in a replica on a disk: the entry's place below the root, and for entry `k` the places
@@ -34,6 +35,8 @@ pub struct DiskPlaces<R> {
     at_new: String,
     at_old: String,
     failures: u64,
+    // something couldn't be removed, and was put out of the way
+    has_trash: bool,
 }
 
 impl<R: Drop> DiskPlaces<R> {
@@ -63,6 +66,7 @@ impl<R: Drop> DiskPlaces<R> {
             at_new,
             at_old,
             failures: 0,
+            has_trash: false,
         })
     }
 
@@ -95,7 +99,7 @@ impl<R: Drop> DiskPlaces<R> {
     }
 }
 
-impl<R: Files + AllocGlobal + Drop> DiskPlaces<R> {
+impl<R: Files + AllocGlobal + Clone + Drop> DiskPlaces<R> {
     /// What stands at a spot.
     pub(crate) fn look(&self, spot: Spot) -> io::Result<Standing> {
         look_at(&self.files, self.place(spot), self.root)
@@ -133,40 +137,73 @@ impl<R: Files + AllocGlobal + Drop> DiskPlaces<R> {
     pub(crate) fn clear(&self, spot: Spot) -> io::Result<()> {
         match self.look(spot)? {
             Standing::Nothing | Standing::CutOff => Ok(()),
-            Standing::Dir => fs::remove_dir_all(&self.files, self.place(spot)),
-            Standing::File | Standing::Other => { fs::remove_file(&self.files, self.place(spot)) }
+            Standing::Dir | Standing::File | Standing::Other => {
+                remove_at(&self.files, self.place(spot))
+            }
         }
     }
 
+    /// Removes what stands at a spot, or renames it to a free `.twosync/trash-N` where it can't be removed.
+    fn clear_or_discard(&mut self, spot: Spot) -> io::Result<()>
+        ensures { self.new.failures ≡ self.old.failures }
+    {
+        if self.clear(spot).is_ok() {
+            return Ok(());
+        }
+        let _place = self.move_to_free(spot, "trash")?;
+        self.has_trash = true;
+        Ok(())
+    }
+
     /// Keeps what stands at a spot as `.twosync/left-N`, where `N` is the first number that is free: what can't go back to its
-    /// place, and may be the only copy of something.
-    pub(crate) fn keep(&self, spot: Spot) -> io::Result<()> {
+    /// place, and may be the only copy of something. Answers where that is.
+    pub(crate) fn keep(&self, spot: Spot) -> io::Result<String> {
+        self.move_to_free(spot, "left")
+    }
+
+    /// Moves what stands at a spot to the first name `STEM-N` in the program's own directory that is free.
+    fn move_to_free(&self, spot: Spot, stem: &str) -> io::Result<String> {
         let alloc = self.files.alloc();
         let standing = self.look(spot)?;
         for number in 0..NAMES_TRIED {
             let own = self.own.as_str();
-            let Ok(left) = format!(in alloc; "{own}/left-{number}") else {
-                return Err(io::Error::from(ErrorKind::OutOfMemory));
-            };
-            if kind_at(&self.files, left.as_str())? == Standing::Nothing {
-                match move_anew(&self.files, self.place(spot), standing, left.as_str()) {
+            let free = format!(in alloc; "{own}/{stem}-{number}")?;
+            if kind_at(&self.files, free.as_str())? == Standing::Nothing {
+                match move_anew(&self.files, self.place(spot), standing, free.as_str()) {
+                    Ok(()) => return Ok(free),
                     Err(e) if is_taken(&e) => {}
-                    done => return done,
+                    Err(e) => return Err(e),
                 }
             }
         }
         Err(io::Error::from(ErrorKind::AlreadyExists))
     }
 
-    /// Brings the swap to an end. Where others took the target while it was absent, the original is kept first.
-    pub(crate) fn end(&mut self) -> io::Result<()> {
-        if self.is_target_foreign()? {
-            self.keep(Spot::Old)?;
+    /// Brings the swap to an end. Where the original can't go back it is kept first: others took the target while it was
+    /// absent, or the directory in which it stood is gone.
+    pub(crate) fn end(&mut self) -> io::Result<Aside> {
+        let kept = if self.is_old_stranded()? {
+            Some(self.keep(Spot::Old)?)
+        } else {
+            None
+        };
+        if recover(self).is_err() {
+            return Err(io::Error::from(ErrorKind::Other));
         }
-        match recover(self) {
-            Ok(()) => Ok(()),
-            Err(_) => Err(io::Error::from(ErrorKind::Other)),
+        Ok(match kept {
+            Some(place) => Aside::Kept { place },
+            None if self.has_trash => Aside::Discarded,
+            None => Aside::Cleared,
+        })
+    }
+
+    /// Whether the original lies aside and can't go back to its place.
+    fn is_old_stranded(&self) -> io::Result<bool> {
+        match self.look(Spot::Old)? {
+            Standing::Nothing | Standing::CutOff => return Ok(false),
+            Standing::Dir | Standing::File | Standing::Other => {}
         }
+        Ok(self.look(Spot::Target)? == Standing::CutOff || self.is_target_foreign()?)
     }
 
     /// Whether the target was taken by others while it was absent, so that neither the new content nor the original is there.
@@ -214,7 +251,7 @@ pub(crate) fn is_taken(e: &io::Error) -> bool {
     }
 }
 
-impl<R: Files + AllocGlobal + Drop> Places for DiskPlaces<R> {
+impl<R: Files + AllocGlobal + Clone + Drop> Places for DiskPlaces<R> {
     ghost use Rattle.std.specs.Prelude.{None};
 
     ghost spots = { λ _. None };
@@ -242,7 +279,7 @@ impl<R: Files + AllocGlobal + Drop> Places for DiskPlaces<R> {
     }
 
     fn remove(&mut self, spot: Spot) -> Result<(), Failed> {
-        let done = self.clear(spot);
+        let done = self.clear_or_discard(spot);
         self.counted(&done)
     }
 }

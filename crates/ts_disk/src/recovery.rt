@@ -7,6 +7,7 @@ ghost use Rattle.ts_model.specs.declared.plan.Entry.{Entry};
 ghost use Rattle.ts_name.specs.Paths.{place_text};
 
 use crate::fault::DiskFault;
+use crate::leftover::{Aside, Leftover, remove_trash};
 use crate::place::{Standing, look_at, own_place};
 use crate::places::DiskPlaces;
 use crate::plan_file::{read_plan, remove_plan};
@@ -43,33 +44,36 @@ pub fn check_leftovers<R: Files + AllocGlobal + Clone + Drop>(
 }
 
 /// Recovers a replica from a run that was stopped: where `.twosync/plan` in its root is the text of a plan, the swap of each of
-/// its entries that are copied is brought to its end, and then the plan file is removed. Where it isn't, no swap had begun, and
-/// nothing is done.
+/// its entries that are copied is brought to its end, and then the plan file is removed. Where it isn't, no swap had begun.
+/// What earlier runs couldn't remove is tried again.
 ///
-/// `Failed` where the plan file can't be read or removed, `Device` where a swap can't be brought to its end; both may be
-/// called again.
+/// What is left of a swap is added to `left`. `Failed` where the plan file can't be read or removed, `Device` where a swap can't
+/// be brought to its end; both may be called again.
 pub fn recover_replica<R: Files + AllocGlobal + Clone + Drop>(
     files: &R,
     alloc: Global,
     root: &str,
+    left: &mut Vec<Leftover>,
 ) -> Result<(), DiskFault> {
+    let _ = remove_trash(files, alloc, root);
     let Some(plan) = read_plan(files, alloc, root)? else {
         return Ok(());
     };
-    end_swaps(files, alloc, root, &plan, None)?;
+    end_swaps(files, alloc, root, &plan, None, left)?;
     remove_plan(files, alloc, root)
 }
 
 /// Brings the swap of each entry of a plan that is copied into a replica to its end, so that nothing is left of it in
-/// `.twosync`. Where a swap can't be brought to its end, it goes on with the others. What belongs to no such entry is left as it
-/// is.
+/// `.twosync` that a later run would have to recover. Where a swap can't be brought to its end, it goes on with the others. What
+/// belongs to no such entry stays as it is. What is left of a swap is added to `left`.
 pub fn clear_leftovers<R: Files + AllocGlobal + Clone + Drop>(
     files: &R,
     alloc: Global,
     replica: &Replica<'_>,
     plan: &Plan,
+    left: &mut Vec<Leftover>,
 ) -> Result<(), DiskFault> {
-    end_swaps(files, alloc, replica.root, plan, Some(replica.side))
+    end_swaps(files, alloc, replica.root, plan, Some(replica.side), left)
 }
 
 /// The same for all entries that are copied, or for those that are copied into this replica of the pair.
@@ -79,13 +83,16 @@ fn end_swaps<R: Files + AllocGlobal + Clone + Drop>(
     root: &str,
     plan: &Plan,
     into: Option<Side>,
+    left: &mut Vec<Leftover>,
 ) -> Result<(), DiskFault> {
     let mut ended: Result<(), DiskFault> = Ok(());
     // Recovery does nothing where neither spot of a swap is taken, and both lie in the program's own directory: so those
     // entries are enough of which a listing of it tells a spot.
     for number in &taken_spots(files, alloc, root)? {
-        if let Err(fault) = end_swap(files, alloc, root, plan, *number, into) {
-            ended = Err(fault);
+        match end_swap(files, alloc, root, plan, *number, into) {
+            Ok(Some(leftover)) => left.push(leftover)?,
+            Ok(None) => {}
+            Err(fault) => ended = Err(fault),
         }
     }
     ended
@@ -142,7 +149,7 @@ fn spot_number(name: &str) -> Option<u32> {
     digits.parse().ok()
 }
 
-/// Brings the swap of the entry of this number to its end, if that entry is copied into the replica.
+/// Brings the swap of the entry of this number to its end, if that entry is copied into the replica. Answers what is left of it.
 fn end_swap<R: Files + AllocGlobal + Clone + Drop>(
     files: &R,
     alloc: Global,
@@ -150,11 +157,20 @@ fn end_swap<R: Files + AllocGlobal + Clone + Drop>(
     plan: &Plan,
     number: u32,
     into: Option<Side>,
-) -> Result<(), DiskFault> {
+) -> Result<Option<Leftover>, DiskFault> {
+    let Some(entry) = copied_entry(plan, number, into) else {
+        return Ok(None);
+    };
+    // first, so that nothing is moved of which then nothing can be said
+    let path = entry.path.copy(alloc).map_err(|_| DiskFault::OutOfMemory)?;
     let files = files.clone().map_err(|_| DiskFault::OutOfMemory)?;
-    match own_spots(files, alloc, root, plan, number, into)? {
-        Some(mut places) => places.end().map_err(|_| DiskFault::Device),
-        None => Ok(()),
+    let Some(mut places) = own_spots(files, alloc, root, plan, number, into)? else {
+        return Ok(None);
+    };
+    match places.end() {
+        Ok(Aside::Cleared) => Ok(None),
+        Ok(aside) => Ok(Some(Leftover { path, aside })),
+        Err(_) => Err(DiskFault::Device),
     }
 }
 

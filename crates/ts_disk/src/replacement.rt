@@ -229,11 +229,11 @@ impl<'a> Replacement<'a> {
             let _ = self.places.keep(Spot::Old);
         }
         if is_ours {
-            let _ = if self.is_as_staged(Spot::New) {
-                self.places.clear(Spot::New)
+            if self.is_as_staged(Spot::New) {
+                let _ = self.places.clear(Spot::New);
             } else {
-                self.places.keep(Spot::New)
-            };
+                let _ = self.places.keep(Spot::New);
+            }
         }
     }
 
