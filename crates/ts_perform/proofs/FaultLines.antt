@@ -14,3 +14,7 @@ at_path number (name ∷ path) some = refl
 pub with_path : (line front number path : List ℕ) → (((line ++ front) ++ number) ++ 32 ∷ []) ++ path ≡ line ++ (front ++ number ++ 32 ∷ path)
 with_path line front number path =
     append_assoc ((line ++ front) ++ number) (32 ∷ []) path ∙ ap (λ z. z ++ 32 ∷ path) (append_assoc line front number) ∙ append_assoc line (front ++ number) (32 ∷ path)
+
+pub with_place : (line front path middle place : List ℕ) → (((line ++ front) ++ path) ++ middle) ++ place ≡ line ++ (front ++ path ++ middle ++ place)
+with_place line front path middle place =
+    ap (λ z. z ++ place) (ap (λ z. z ++ middle) (append_assoc line front path) ∙ append_assoc line (front ++ path) middle) ∙ append_assoc line (front ++ path ++ middle) place

@@ -56,6 +56,10 @@ fault_line number None = codes "twosync: fault " ++ decimal number
 fault_line number (Some []) = codes "twosync: fault " ++ decimal number
 fault_line number (Some (name ∷ path)) = codes "twosync: fault " ++ decimal number ++ 32 ∷ path_text (name ∷ path)
 
+-- what was kept of an entry, and where
+abbrev pub kept_line : Path → List ℕ → List ℕ
+kept_line path place = codes "twosync: kept " ++ path_text path ++ codes " as " ++ place
+
 abbrev pub fault_of_text : TextFault → PerformFault
 fault_of_text text.OutOfMemory = fault.OutOfMemory
 fault_of_text text.Failed = fault.Failed

@@ -3,7 +3,7 @@ ghost use Rattle.std.specs.Prelude.{◌≡◌, ◌∷◌, ◌++◌, [], codes, d
 ghost use Rattle.std.specs.Option.{option_copied};
 ghost use Rattle.ts_model.specs.Texts.{text};
 ghost use Rattle.ts_name.specs.Paths.{path_text};
-ghost use Rattle.ts_perform.specs.Faults.{fault_line};
+ghost use Rattle.ts_perform.specs.Faults.{fault_line, kept_line};
 ghost use Rattle.ts_text.specs.Sources.{Writes};
 ghost use Rattle.ts_trial.specs.Answers.{refusal};
 
@@ -50,6 +50,32 @@ pub(crate) fn write_fault<W: Sink>(
     let mut line = Vec::new(alloc);
     push_fault(number, path, &mut line)?;
     write_line(err, &line)?;
+    Ok(())
+}
+
+/// Reports what was kept of an entry, and where.
+pub(crate) fn write_kept<W: Sink>(
+    alloc: Global,
+    path: &Path,
+    place: &str,
+    err: &mut W,
+) -> Result<(), PerformFault>
+    ensures { Writes (W.holds err.old) (W.holds err.new) (text (kept_line path.now place.now ∷ [])) result }
+{
+    let mut line = Vec::new(alloc);
+    push_kept(path, place, &mut line)?;
+    write_line(err, &line)?;
+    Ok(())
+}
+
+/// Appends the line that reports what was kept.
+fn push_kept(path: &Path, place: &str, line: &mut Vec<u8>) -> Result<(), AllocError>
+    ensures { OnOk result (line.new.items ≡ line.old.items ++ kept_line path.now place.now) }
+{
+    line.extend_from_slice(b"twosync: kept ")?;
+    path.write_text(line)?;
+    line.extend_from_slice(b" as ")?;
+    line.extend_from_slice(place.as_bytes())?;
     Ok(())
 }
 

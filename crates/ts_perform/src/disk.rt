@@ -49,6 +49,9 @@ pub trait Disk {
     /// Whether the replica took part in a run before it was locked.
     fn took_part(&self, lock: &Self::Lock) -> bool;
 
+    /// Whether a locked replica is still there. It isn't where its disk was unmounted since.
+    fn is_in_place(&self, lock: &Self::Lock) -> bool;
+
     /// Notes that a replica takes part in this run.
     fn take_part(&self, lock: &Self::Lock) -> Result<(), PerformFault>;
 
@@ -128,6 +131,10 @@ impl Disk for HostRuntime {
 
     fn took_part(&self, lock: &Lock) -> bool {
         lock.took_part()
+    }
+
+    fn is_in_place(&self, lock: &Lock) -> bool {
+        lock.is_in_place(self)
     }
 
     fn take_part(&self, lock: &Lock) -> Result<(), PerformFault> {

@@ -8,15 +8,15 @@ use crate::task::Task;
 use std::alloc::Global;
 use std::fs;
 use std::fs::Files;
-use std::io::{ErrorKind, Read};
+use std::io::ErrorKind;
 use ts_check::{Checked, check};
 use ts_command::Pair;
-use ts_hold::Holds;
+use ts_hold::{Holds, RuleReader};
 use ts_model::plan::Plan;
 use ts_print::Print;
 use ts_resume::resume;
 use ts_scan::scan;
-use ts_text::{Counted, Lines};
+use ts_text::{Counted, Lines, TextFault};
 
 /// Opens a file to be read. None where nothing is there. What is no file, as a directory, a device or a pipe, is never opened:
 /// it might be waited for.
@@ -48,20 +48,26 @@ pub(crate) fn read_archive<R: Files + AllocGlobal>(
     Ok(Some(ts_archive::decode(rt.alloc(), &mut lines)?))
 }
 
-/// The rules in a file, or none where no file is named.
+/// The rules in a file, or none where no file is named. They are read line by line: the first bad line ends it.
 fn read_holds<R: Files + AllocGlobal>(rt: &R, name: Option<&str>) -> Result<Holds, PerformFault> {
     let Some(name) = name else {
         return Ok(Holds::none(rt.alloc()));
     };
-    let Some(mut file) = open(rt, name)? else {
+    let Some(file) = open(rt, name)? else {
         return Err(PerformFault::NotThere);
     };
-    let mut text = Vec::new(rt.alloc());
-    match file.read_to_end(&mut text) {
-        Ok(_) => Ok(Holds::parse(rt.alloc(), &text)?),
-        Err(e) if e.kind() == ErrorKind::OutOfMemory => Err(PerformFault::OutOfMemory),
-        Err(_) => Err(PerformFault::Failed),
+    let mut lines = Lines::new(rt.alloc(), Counted::new(file))?;
+    let mut reader = RuleReader::new(rt.alloc());
+    // a file without an end has lines past the limit, and is left there
+    for line in 1..=u64::MAX {
+        match lines.next() {
+            Ok(Some(rule)) => reader.line(rule)?,
+            Ok(None) => break,
+            Err(TextFault::NotCanonical) => return Err(PerformFault::BadRule { line }),
+            Err(fault) => return Err(PerformFault::from(fault)),
+        }
     }
+    Ok(reader.finish())
 }
 
 /// The plan in a file.

@@ -1,15 +1,18 @@
 //! Plans carried out on two folders.
+ghost use Rattle.std.specs.Prelude.{◌≡◌, IfErr, IfOk};
 ghost use Rattle.ts_model.specs.Texts.{IsPlan};
-ghost use Rattle.ts_perform.specs.Runs.{Ran};
+ghost use Rattle.ts_perform.specs.Runs.{BeginsLeftovers, Ran, RanQuietly};
 
 use crate::acting::{act, keep_archive, replica};
 use crate::disk::{Disk, Machine};
 use crate::fault::PerformFault;
 use crate::inputs::Snapshot;
 use crate::task::Task;
-use crate::telling::{FAILED, tell};
+use crate::telling::{FAILED, tell_all, tell_leftovers};
 use std::alloc::Global;
-use ts_disk::{check_leftovers, clear_leftovers, recover_replica, remove_plan, save_plan};
+use ts_disk::{
+    Leftover, check_leftovers, clear_leftovers, recover_replica, remove_plan, save_plan,
+};
 use ts_model::plan::{Plan, Side};
 use ts_text::Sink;
 
@@ -32,9 +35,10 @@ impl<R: Machine> Task<'_, R> {
         ensures ran { Ran (O.holds out.old) (O.holds out.new) (E.holds err.old) (E.holds err.new) result }
     {
         let mut claims = self.claim()?;
-        let status = self.run_claimed(&mut claims, plan, out, err);
+        let mut left = Vec::new(self.rt.alloc());
+        let status = self.run_claimed(&mut claims, plan, &mut left, out, err);
         self.give_up(claims, status.is_err());
-        status
+        self.tell_refused(status, left.as_slice(), err)
     }
 
     /// Makes a plan, and carries it out, while both replicas and the archive are locked.
@@ -46,8 +50,26 @@ impl<R: Machine> Task<'_, R> {
         ensures ran { Ran (O.holds out.old) (O.holds out.new) (E.holds err.old) (E.holds err.new) result }
     {
         let mut claims = self.claim()?;
-        let status = self.sync_claimed(&mut claims, out, err);
+        let mut left = Vec::new(self.rt.alloc());
+        let status = self.sync_claimed(&mut claims, &mut left, out, err);
         self.give_up(claims, status.is_err());
+        self.tell_refused(status, left.as_slice(), err)
+    }
+
+    /// Reports what recovery left, where nothing else was reported since nothing was run.
+    fn tell_refused<E: Sink>(
+        &self,
+        status: Result<u8, PerformFault>,
+        left: &[Leftover],
+        err: &mut E,
+    ) -> Result<u8, PerformFault>
+        ensures same { result ≡ status }
+        ensures quiet { IfOk status (λ _. E.holds err.new ≡ E.holds err.old) }
+        ensures told { IfErr status (λ _. BeginsLeftovers (E.holds err.old) (E.holds err.new)) }
+    {
+        if status.is_err() {
+            let _ = tell_leftovers(self.rt.alloc(), left, err);
+        }
         status
     }
 
@@ -107,8 +129,20 @@ impl<R: Machine> Task<'_, R> {
         took_part(&claims.first) != took_part(&claims.second)
     }
 
-    /// Notes that both replicas take part in this run.
+    /// Whether a replica is still there, if it was locked.
+    fn is_in_place(&self, lock: &Option<R::Lock>) -> bool {
+        match lock {
+            Some(lock) => self.rt.is_in_place(lock),
+            None => true,
+        }
+    }
+
+    /// Notes that both replicas take part in this run. A replica that went away while it was scanned may look empty, and then
+    /// nothing is deleted for that.
     fn take_part(&self, claims: &Claims<R>) -> Result<(), PerformFault> {
+        if !self.is_in_place(&claims.first) || !self.is_in_place(&claims.second) {
+            return Err(PerformFault::NotThere);
+        }
         if let Some(lock) = &claims.first {
             self.rt.take_part(lock)?;
         }
@@ -118,14 +152,15 @@ impl<R: Machine> Task<'_, R> {
         Ok(())
     }
 
-    /// Brings to its end what a stopped run left, unless something lies in one of the replicas that no plan explains.
-    fn recover(&self) -> Result<(), PerformFault> {
+    /// Brings to its end what a stopped run left, unless something lies in one of the replicas that no plan explains. What is
+    /// left of swaps even then is added to `left`.
+    fn recover(&self, left: &mut Vec<Leftover>) -> Result<(), PerformFault> {
         let Task { rt, pair, .. } = self;
         let alloc = rt.alloc();
         check_leftovers(*rt, alloc, pair.first)?;
         check_leftovers(*rt, alloc, pair.second)?;
-        recover_replica(*rt, alloc, pair.first)?;
-        Ok(recover_replica(*rt, alloc, pair.second)?)
+        recover_replica(*rt, alloc, pair.first, left)?;
+        Ok(recover_replica(*rt, alloc, pair.second, left)?)
     }
 
     /// Checks a plan from a file, and carries it out.
@@ -133,31 +168,33 @@ impl<R: Machine> Task<'_, R> {
         &self,
         claims: &mut Claims<R>,
         plan: &str,
+        left: &mut Vec<Leftover>,
         out: &mut O,
         err: &mut E,
     ) -> Result<u8, PerformFault>
-        ensures ran { Ran (O.holds out.old) (O.holds out.new) (E.holds err.old) (E.holds err.new) result }
+        ensures ran { RanQuietly (O.holds out.old) (O.holds out.new) (E.holds err.old) (E.holds err.new) result }
     {
-        self.recover()?;
+        self.recover(left)?;
         let (snapshot, plan) = Snapshot::read_for(self, plan)?;
         self.take_part(&*claims)?;
-        self.carry_out(&mut claims.archive, &snapshot, &plan, out, err)
+        self.carry_out(&mut claims.archive, &snapshot, &plan, left, out, err)
     }
 
     /// Makes a plan, and carries it out.
     fn sync_claimed<O: Sink, E: Sink>(
         &self,
         claims: &mut Claims<R>,
+        left: &mut Vec<Leftover>,
         out: &mut O,
         err: &mut E,
     ) -> Result<u8, PerformFault>
-        ensures ran { Ran (O.holds out.old) (O.holds out.new) (E.holds err.old) (E.holds err.new) result }
+        ensures ran { RanQuietly (O.holds out.old) (O.holds out.new) (E.holds err.old) (E.holds err.new) result }
     {
-        self.recover()?;
+        self.recover(left)?;
         let snapshot = Snapshot::read_of_both(self, self.is_one_new(&*claims))?;
         let plan = snapshot.plan(self.rt.alloc())?;
         self.take_part(&*claims)?;
-        self.carry_out(&mut claims.archive, &snapshot, &plan, out, err)
+        self.carry_out(&mut claims.archive, &snapshot, &plan, left, out, err)
     }
 
     /// Checks a plan, runs it, and tells what came of it. The plan lies in both replicas while swaps may be half done, and until
@@ -167,21 +204,24 @@ impl<R: Machine> Task<'_, R> {
         archive: &mut R::Archive,
         snapshot: &Snapshot,
         plan: &Plan,
+        left: &mut Vec<Leftover>,
         out: &mut O,
         err: &mut E,
     ) -> Result<u8, PerformFault>
         requires plan { IsPlan plan.now }
-        ensures ran { Ran (O.holds out.old) (O.holds out.new) (E.holds err.old) (E.holds err.new) result }
+        ensures ran { RanQuietly (O.holds out.old) (O.holds out.new) (E.holds err.old) (E.holds err.new) result }
     {
         let alloc = self.rt.alloc();
         let checked = snapshot.check(alloc, plan)?;
         self.save(alloc, plan)?;
         match act(self, &checked) {
             Ok(outcome) => {
-                let cleared = self.clear(alloc, plan);
+                let cleared = self.clear(alloc, plan, left);
                 let kept = keep_archive(self, archive, &checked, &outcome);
                 self.remove(alloc, cleared);
-                Ok(tell(alloc, &checked, &outcome, kept, out, err).unwrap_or(FAILED))
+                let left = left.as_slice();
+                let told = tell_all(alloc, &checked, &outcome, kept, left, out, err);
+                Ok(told.unwrap_or(FAILED))
             }
             Err(fault) => {
                 self.remove(alloc, (true, true));
@@ -203,11 +243,12 @@ impl<R: Machine> Task<'_, R> {
         Ok(())
     }
 
-    /// Clears what swaps left in both replicas, and answers for each whether nothing is left.
-    fn clear(&self, alloc: Global, plan: &Plan) -> (bool, bool) {
+    /// Clears what swaps left in both replicas, and answers for each whether no swap is left to be recovered. What is left of
+    /// swaps even then is added to `left`.
+    fn clear(&self, alloc: Global, plan: &Plan, left: &mut Vec<Leftover>) -> (bool, bool) {
         let Task { rt, pair, .. } = self;
-        let first = clear_leftovers(*rt, alloc, &replica(*pair, Side::First), plan);
-        let second = clear_leftovers(*rt, alloc, &replica(*pair, Side::Second), plan);
+        let first = clear_leftovers(*rt, alloc, &replica(*pair, Side::First), plan, left);
+        let second = clear_leftovers(*rt, alloc, &replica(*pair, Side::Second), plan, left);
         (first.is_ok(), second.is_ok())
     }
 

@@ -3,14 +3,15 @@ ghost use Rattle.std.specs.Option.{option_copied};
 ghost use Rattle.std.specs.Prelude.{◌≡◌, ◌++◌, length, IfOk};
 ghost use Rattle.ts_model.specs.Texts.{text};
 ghost use Rattle.ts_perform.specs.Ends.{ending_at};
-ghost use Rattle.ts_perform.specs.Runs.{failure_line, failure_lines, lost_by, lost_lines, path_for, status_with};
+ghost use Rattle.ts_perform.specs.Runs.{aside_lines, failure_line, failure_lines, leftover_lines, lost_by, lost_lines, path_for, status_with};
 ghost use Rattle.ts_report.specs.Reports.{fates, report_text, status_of, totals_of};
 ghost use Rattle.ts_text.specs.Sources.{Writes};
 
-use crate::answers::write_fault;
+use crate::answers::{write_fault, write_kept};
 use crate::fault::PerformFault;
 use std::alloc::Global;
 use ts_check::Checked;
+use ts_disk::{Aside, Leftover};
 use ts_exec::{ActionResult, Outcome};
 use ts_model::plan::{Action, Kind, Plan};
 use ts_name::Path;
@@ -47,6 +48,56 @@ pub(crate) fn tell<S: Site, O: Sink, E: Sink>(
             write_fault(alloc, fault.number(), None, err)?;
             Ok(FAILED)
         }
+    }
+}
+
+/// The same, and then what is left of swaps.
+pub(crate) fn tell_all<S: Site, O: Sink, E: Sink>(
+    alloc: Global,
+    checked: &Checked<'_>,
+    outcome: &Outcome<S>,
+    kept: Result<(), PerformFault>,
+    left: &[Leftover],
+    out: &mut O,
+    err: &mut E,
+) -> Result<u8, PerformFault>
+    requires count { length outcome.now.results.items ≡ length checked.now.plan.actions }
+    ensures report { Writes (O.holds out.old) (O.holds out.new) (report_text (ending_at outcome.now.results.items) checked.now.plan) result }
+    ensures faults { Writes (E.holds err.old) (E.holds err.new) (text ((failure_lines checked.now.plan.entries checked.now.plan.actions outcome.now.results.items ++ lost_lines (lost_by kept)) ++ leftover_lines left.now)) result }
+    ensures status { IfOk result (λ status. status ≡ status_with (lost_by kept) (status_of (totals_of (fates (ending_at outcome.now.results.items) checked.now.plan)))) }
+{
+    let status = tell(alloc, checked, outcome, kept, out, err)?;
+    tell_leftovers(alloc, left, err)?;
+    Ok(status)
+}
+
+/// Reports what is left of swaps.
+pub(crate) fn tell_leftovers<E: Sink>(
+    alloc: Global,
+    left: &[Leftover],
+    err: &mut E,
+) -> Result<(), PerformFault>
+    ensures told { Writes (E.holds err.old) (E.holds err.new) (text (leftover_lines left.now)) result }
+{
+    for i in 0..left.len() {
+        tell_leftover(alloc, &left[i], err)?;
+    }
+    Ok(())
+}
+
+/// Reports what is left of a swap: a fault of the device where it can't be removed, and its place where it was kept.
+fn tell_leftover<E: Sink>(
+    alloc: Global,
+    leftover: &Leftover,
+    err: &mut E,
+) -> Result<(), PerformFault>
+    ensures told { Writes (E.holds err.old) (E.holds err.new) (text (aside_lines leftover.now.path leftover.now.aside)) result }
+{
+    let path = &leftover.path;
+    match &leftover.aside {
+        Aside::Cleared => Ok(()),
+        Aside::Discarded => write_fault(alloc, PerformFault::Device.number(), Some(path), err),
+        Aside::Kept { place } => write_kept(alloc, path, place.as_str(), err),
     }
 }
 

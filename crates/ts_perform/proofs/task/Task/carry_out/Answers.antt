@@ -4,11 +4,11 @@ use Rattle.ts_perform.proofs.task.Task.carry_out.Goals as goal
 
 pub returns-in-Ok : goal.returns-in-Ok
 returns-in-Ok g c =
-    let came : Came = record { plan = c.in_ok-checked.checked.plan; results = c.in-Ok.outcome.results.items; lost = lost_by c.keep_archive-kept.result } in
+    let came : Came = record { plan = c.in_ok-checked.checked.plan; results = c.in-Ok.outcome.results.items; lost = lost_by c.keep_archive-kept.result; left = c.as_slice-left.result.now } in
     record {
       ran = (
         came,
-        reported came (g.O.Sink.holds c.args.out.now) (g.O.Sink.holds c.tell.new.out) (g.E.Sink.holds c.args.err.now) (g.E.Sink.holds c.tell.new.err) c.tell.result c.unwrap_or.result
-            c.tell.ensures.report c.tell.ensures.faults c.tell.ensures.status c.unwrap_or.ensures,
+        reported came (g.O.Sink.holds c.args.out.now) (g.O.Sink.holds c.tell_all-told.new.out) (g.E.Sink.holds c.args.err.now) (g.E.Sink.holds c.tell_all-told.new.err) c.tell_all-told.result c.unwrap_or.result
+            c.tell_all-told.ensures.report c.tell_all-told.ensures.faults c.tell_all-told.ensures.status c.unwrap_or.ensures,
       );
     }
