@@ -1,18 +1,21 @@
 #!/usr/bin/env python3
-"""The further edits that the prover must refuse: tests/edits/CRATE/NAME.edit, in the form of crates/CRATE/must-fail.
+"""The edits that the prover must refuse: tests/edits/CRATE/NAME.edit.
 
-`rt ci` tries the edits of crates/CRATE/must-fail on each run. These here are too many for that: the gate looks whether
-each still applies. Refusals that were seen are kept in tests/edits.record. A line there has an edit and a digest of all that its check reads: the edit,
-the files of its crate and of every crate below it, their lines of crates.txt, and which kit it is. While the digest
-stays the same the answer does too, and the edit stands on its record. Only this program writes the record.
+Those that docs/WRONG_BODIES.md names are tried on each run. The others are tried where something that their check reads has
+changed. Refusals that were seen are kept in tests/edits.record. A line there has an edit and a digest of all that its check
+reads: the edit, the files of its crate, the statements of the crates below it, their lines of crates.txt, and which kit it
+is. While the digest stays the same the answer does too, and the edit stands on its record. Only this program writes the
+record.
 
-usage: tests/edits.py                  tries the edits that have no record, and ten of the others
-       tests/edits.py --look           the gate's step: says which edits these are, and tries none
+usage: tests/edits.py                  tries the named edits, those that have no record, and ten of the others
+       tests/edits.py --look           says which edits these are, and tries none
        tests/edits.py --try CRATE ..   tries all edits of these crates
        tests/edits.py --try-all        tries all edits, which takes hours
 
-Every edit has to apply, and every line of the record has to name an edit that is there. The ten are chosen by the
-commit. Libraries that aren't built, or that are older than their sources, are built first.
+Every edit has to apply, every name has to have an edit, and so has every line of the record. The ten are chosen by the
+commit. Libraries that aren't built, or that are older than their sources, are built first. The gate tries the named edits and
+the ten first, and begins no other once it has tried edits for 45 minutes: those that it doesn't come to it lists, and counts
+neither as passed nor as failed.
 """
 import copy
 import fcntl
@@ -26,15 +29,25 @@ import subprocess
 import sys
 import tempfile
 import threading
+import time
 from dataclasses import dataclass
 
 TOP = os.path.dirname(os.path.dirname(os.path.abspath(__file__)))
+sys.path.insert(0, f"{TOP}/tests")
+
+import one_function
+from statements import statements_of, unfolded_names
+
 # How many of the recorded edits the gate tries again.
 SAMPLE = 10
+# For how many seconds the gate begins edits that have no record. It has three hours on two processors for all that it does.
+MOST_SECONDS = 45 * 60
 # A crate's edits are tried in turn, since each uses the work of those before it; where there are more, in several lanes.
-MOST_IN_A_LANE = 16
+MOST_IN_A_LANE = 8
 NAME = re.compile(r"[A-Za-z0-9_-][A-Za-z0-9_.-]*\.edit")
 LINE = re.compile(r"(\w+/\S+\.edit) ([0-9a-f]{64})")
+# A wrong body that has to be refused on each run, as docs/WRONG_BODIES.md names its edit.
+NAMED = re.compile(r"`(\w+/\w+)`")
 # What rt says of a refusal that shows little of the contract.
 SAYS_LITTLE = "only because a proof file names"
 
@@ -79,26 +92,40 @@ def digest_of(parts):
 class Digests:
     """Digests of what the checks of edits read. The files of a crate are read once: to look again, make a new one."""
 
-    def __init__(self, rt):
-        self.files_of = rt.rtlib.files_of
+    def __init__(self, repository):
+        self.rt, self.crates = repository.rt, repository.crates
         # the name of the kit, and which commit and which archives it was made from
-        names = [it for it in sorted(os.listdir(rt.KIT)) if it == "KIT-ID" or it.startswith("WHAT")]
-        self.kit = digest_of(read_bytes(f"{rt.KIT}/{it}") for it in names).encode()
-        self.of_crates = {}
+        names = [it for it in sorted(os.listdir(self.rt.KIT)) if it == "KIT-ID" or it.startswith("WHAT")]
+        self.kit = digest_of(read_bytes(f"{self.rt.KIT}/{it}") for it in names).encode()
+        self.unfolded = None
+        self.known = {}
 
-    def of_crate(self, crate):
-        """Returns the digest of a crate's line of crates.txt and its files. Proofs count, since crates above cite them."""
-        if crate.name not in self.of_crates:
+    def of_files(self, crate):
+        """Returns the digest of a crate's line of crates.txt and its files."""
+        if (crate.name, "files") not in self.known:
             parts = [crate.name.encode(), repr(sorted(crate.said.items())).encode()]
-            for file in self.files_of(crate.folder):
+            for file in self.rt.rtlib.files_of(crate.folder):
                 parts += [os.path.relpath(file, crate.folder).encode(), read_bytes(file)]
-            self.of_crates[crate.name] = digest_of(parts)
-        return self.of_crates[crate.name]
+            self.known[crate.name, "files"] = digest_of(parts)
+        return self.known[crate.name, "files"]
+
+    def of_statements(self, crate):
+        """Returns the digest of a crate's line of crates.txt and of what crates above it read."""
+        if self.unfolded is None:
+            files = [it for crate in self.crates.values() for it in self.rt.rtlib.files_of(crate.folder)]
+            self.unfolded = unfolded_names(read_bytes(it).decode() for it in files if it.endswith(".antt"))
+        if (crate.name, "statements") not in self.known:
+            parts = [crate.name.encode(), repr(sorted(crate.said.items())).encode()]
+            files = list(self.rt.rtlib.files_of(crate.folder))
+            parts += statements_of(self.rt.rtlib.RATTLE, crate.folder, files, self.unfolded)
+            self.known[crate.name, "statements"] = digest_of(parts)
+        return self.known[crate.name, "statements"]
 
     def of_edit(self, edit, crate):
-        """Returns the digest of all that the check of the edited crate reads."""
-        crates = [self.of_crate(it).encode() for it in [*crate.below(), crate]]
-        return digest_of([self.kit, read_bytes(edit.file), *crates])
+        """Returns the digest of all that the check of the edited crate reads. A program links the code below it, too."""
+        below = self.of_files if crate.is_program else self.of_statements
+        crates = [below(it).encode() for it in crate.below()]
+        return digest_of([self.kit, read_bytes(edit.file), *crates, self.of_files(crate).encode()])
 
 
 class Record:
@@ -156,6 +183,13 @@ class Repository:
         self.record = Record(f"{root}/tests/edits.record")
         self.printing = threading.Lock()
         self.edits, self.faults = self.find_edits()
+        self.named = self.find_named()
+
+    def find_named(self):
+        """Returns the keys of the edits that docs/WRONG_BODIES.md names."""
+        page = f"{self.root}/docs/WRONG_BODIES.md"
+        text = read_bytes(page).decode() if os.path.isfile(page) else ""
+        return {f"{it}.edit" for it in NAMED.findall(text) if it.split("/")[0] in self.crates}
 
     def find_edits(self):
         """Returns the edits that apply, and by its key why another one doesn't."""
@@ -185,7 +219,7 @@ class Repository:
 
     def standing(self):
         """Returns the edits whose record fits what their checks would read now."""
-        digests, kept = Digests(self.rt), self.record.digests
+        digests, kept = Digests(self), self.record.digests
         return [it for it in self.edits if kept.get(it.key) == digests.of_edit(it, self.crates[it.crate])]
 
     def sample(self, edits):
@@ -281,10 +315,10 @@ class Libraries:
 class Trial:
     """Has the prover try some edits, and notes what it answers."""
 
-    def __init__(self, repository, edits):
+    def __init__(self, repository, edits, until=None):
         self.repository, self.rt = repository, repository.rt
-        self.edits = edits
-        self.refused, self.little, self.failed = set(), [], []
+        self.edits, self.until = edits, until
+        self.refused, self.little, self.failed, self.left = set(), [], [], []
 
     def run(self):
         """Tries the edits side by side, one crate's in a row, as many as processors and memory allow."""
@@ -324,10 +358,11 @@ class Trial:
         if lacking:
             self.note(edits, [(False, f"{it.key}: not tried, since {lacking[0]} isn't proved") for it in edits], {})
             return
-        before = Digests(self.rt)
+        before = Digests(self.repository)
         before = {it.key: before.of_edit(it, crate) for it in edits}
-        answers = self.rt.must_fail_all(crate, [it.file for it in edits], ["--jobs", "1"])
-        after, seen = Digests(self.rt), {}
+        answers = one_function.try_in_turn(self.rt, crate, [it.file for it in edits], ["--jobs", "1"], self.until)
+        self.left += [it.key for it in edits[len(answers) :]]
+        after, seen = Digests(self.repository), {}
         for at, (edit, (well, text)) in enumerate(zip(edits, answers)):
             if well and after.of_edit(edit, crate) != before[edit.key]:
                 answers[at] = (False, f"{edit.key}: a file that its check reads was changed meanwhile: try it again")
@@ -359,7 +394,7 @@ def chosen(repository, words):
         if unknown:
             raise SystemExit(f"tests/edits.py: crates.txt has no crate {unknown[0]}")
         return [it for it in repository.edits if it.crate in words[1:]], []
-    standing = repository.standing()
+    standing = [it for it in repository.standing() if it.key not in repository.named]
     keys = {it.key for it in standing}
     return [it for it in repository.edits if it.key not in keys], repository.sample(standing)
 
@@ -368,6 +403,8 @@ def faults_of(repository):
     """Prints what is wrong with the edits and the record before any is tried, and returns how many things that are."""
     found = [f"{key}: {why}" for key, why in sorted(repository.faults.items())] + repository.record.faults
     found += [f"{key}: the record names it, and there is no such edit" for key in repository.unknown()]
+    missing = sorted(repository.named - {it.key for it in repository.edits} - {*repository.faults})
+    found += [f"{key}: docs/WRONG_BODIES.md names it, and there is no such edit" for key in missing]
     for it in found:
         print(it)
     return len(found)
@@ -379,17 +416,33 @@ def step(repository, words):
     if is_by_hand:
         repository.clean_record()
     wrong = faults_of(repository)
+    until = None if is_by_hand else time.monotonic() + MOST_SECONDS
     new, again = chosen(repository, words)
-    trial = Trial(repository, new + again)
-    trial.run()
-    if trial.little:
-        print("says little: " + " ".join(sorted(trial.little)))
-    if trial.failed:
-        print("FAILED: " + " ".join(sorted(trial.failed)))
-    left = len(repository.edits) - len(trial.edits)
-    others = "others were left alone" if is_by_hand else "others stand on their record"
-    print(f"{len(trial.edits)} edits were tried, {len(again)} of them as a sample; {left} {others}")
-    return len(trial.refused) + (0 if is_by_hand else left), len(trial.failed) + wrong
+    first = [it for it in new if it.key in repository.named] + again
+    keys = {it.key for it in first}
+    trials = [Trial(repository, first), Trial(repository, [it for it in new if it.key not in keys], until)]
+    for it in trials:
+        it.run()
+    return tell(repository, trials, len(again), is_by_hand, wrong)
+
+
+def tell(repository, trials, sample, is_by_hand, wrong):
+    """Prints what came of some trials, and returns how many edits passed and how many things failed."""
+    named = {
+        "says little": [key for it in trials for key in it.little],
+        "FAILED": [key for it in trials for key in it.failed],
+        "not tried, for there was no time": [key for it in trials for key in it.left],
+    }
+    for what, keys in named.items():
+        if keys:
+            print(f"{what}: " + " ".join(sorted(keys)))
+    chosen_ones = sum(len(it.edits) for it in trials)
+    tried = chosen_ones - sum(len(it.left) for it in trials)
+    others = len(repository.edits) - chosen_ones
+    stand = "were left alone" if is_by_hand else "stand on their record"
+    print(f"{tried} edits were tried, {sample} of them as a sample; {others} others {stand}")
+    passed = sum(len(it.refused) for it in trials) + (0 if is_by_hand else others)
+    return passed, sum(len(it.failed) for it in trials) + wrong
 
 
 def look(repository):
@@ -397,7 +450,7 @@ def look(repository):
     wrong = faults_of(repository)
     new, again = chosen(repository, [])
     for edit in new:
-        print(f"no record: {edit.key}")
+        print(f"{'a named wrong body' if edit.key in repository.named else 'no record'}: {edit.key}")
     for edit in again:
         print(f"in the sample: {edit.key}")
     others = len(repository.edits) - len(new) - len(again)

@@ -1,24 +1,26 @@
 #!/usr/bin/env python3
-"""Tests tests/edits.py on small repositories, with the kit's own rt but a stand-in for the prover.
+"""Tests tests/edits.py, tests/statements.py and tests/one_function.py on small repositories, with the kit's own rt but a stand-in for the prover.
 
 What is shown: which edits are tried after which change, what is written to the record, and what fails the gate. The
 last line is `N passed, M failed`.
 """
 import contextlib
-import importlib.util
 import io
 import os
 import subprocess
 import sys
 import tempfile
+import time
 
 sys.dont_write_bytecode = True
-HERE = os.path.dirname(os.path.abspath(__file__))
-SPEC = importlib.util.spec_from_file_location("edits", f"{HERE}/edits.py")
-edits = importlib.util.module_from_spec(SPEC)
-sys.modules["edits"] = edits
-SPEC.loader.exec_module(edits)
+sys.path.insert(0, os.path.dirname(os.path.abspath(__file__)))
+
+import edits
+import one_function
+import statements
+
 RT = edits.load_rt()
+TRY_IN_TURN = one_function.try_in_turn
 # One lane, so that crates come one after the other.
 os.environ["RT_JOBS"] = "1"
 REFUSED = "refused, as it must be: src/lib.rt:1:1: error"
@@ -79,10 +81,12 @@ class World:
             with open(f"{crate.folder}/out/rlib/stamp", "w", encoding="utf-8") as it:
                 it.write(crate.stamp())
 
-    def prove(self, crate, files, flags):
-        """Takes the place of must_fail_all: an answer is a text, or a call that is made while the edit is tried."""
+    def prove(self, _rt, crate, files, flags, until=None):
+        """Takes the place of try_in_turn: an answer is a text, or a call that is made while the edit is tried."""
         found = []
         for file in files:
+            if until is not None and time.monotonic() > until:
+                break
             key = f"{crate.name}/{os.path.basename(file)}"
             self.asked.append(key)
             answer = self.answers.get(key, REFUSED)
@@ -90,11 +94,11 @@ class World:
             found.append((text.startswith("refused"), f"must-fail {key}: {text}"))
         return found
 
-    def run(self, *words, sample=0):
+    def run(self, *words, sample=0, seconds=3600):
         """Runs the step, and returns how many edits passed and failed. What was asked and said is kept."""
         self.build()
-        edits.SAMPLE, self.asked, said = sample, [], io.StringIO()
-        RT.must_fail_all = self.prove
+        edits.SAMPLE, edits.MOST_SECONDS, self.asked, said = sample, seconds, [], io.StringIO()
+        one_function.try_in_turn = self.prove
         with contextlib.redirect_stdout(said):
             counts = edits.step(edits.Repository(RT, self.root), list(words))
         self.said = said.getvalue()
@@ -113,28 +117,93 @@ def refusals_are_recorded_and_not_tried_again(world):
     same((world.run(), world.asked, world.record()), ((4, 0), [], first))
 
 
-def whatever_a_check_reads_has_its_edits_tried_again(world):
-    above = ALL[:3]
-    changes = [
-        ("crates/low/src/lib.rt", "fn low() { 1; }\n", above),
-        ("crates/low/specs/Low.antt", "low : 8\n", above),
-        ("crates/low/proofs/low/Answers.antt", "low = 8\n", above),
-        ("crates/low/proofs/More.antt", "", above),
-        ("crates/high/src/lib.rt", "fn high() { 2; }\n", ALL[:2]),
-        ("crates/high/specs/High.antt", "high : 8\n", ALL[:2]),
-        ("crates/high/proofs/high/Answers.antt", "high = 8\n", ALL[:2]),
-        ("crates/other/src/lib.rt", "fn other() { 3; }\n", ALL[3:]),
-        ("tests/edits/high/c.edit", "file: src/lib.rt\nold: fn high\nnew: fn lower\n", ["high/c.edit"]),
-        ("crates.txt", "low: hex\nhigh: low\nother:\n", above),
-        ("crates.txt", "low: hex\nhigh: low\nother: low\n", ["other/d.edit"]),
-        ("crates.txt", "low: hex\nhigh: low\nother tests_may=Threads: low\n", ["other/d.edit"]),
-    ]
-    world.run()
+def each_change_has_its_edits_tried_again(world, changes):
     for name, text, wanted in changes:
         world.put(name, text)
-        same((name, world.run(), sorted(world.asked)), (name, (4, 0), wanted))
+        same((name, text, world.run(), sorted(world.asked)), (name, text, (len(edits_of(world)), 0), wanted))
+
+
+def edits_of(world):
+    return edits.Repository(RT, world.root).edits
+
+
+def whatever_a_check_reads_has_its_edits_tried_again(world):
+    above = ALL[:3]
+    world.run()
+    each_change_has_its_edits_tried_again(
+        world,
+        [
+            ("crates/low/src/lib.rt", "pub fn low() { 1 }\n", above),
+            ("crates/low/specs/Low.antt", "low : 8\n", above),
+            ("crates/low/proofs/More.antt", "", above),
+            ("crates/low/proofs/More.antt", "more : 1\nmore = 1\n", above),
+            ("crates/low/proofs/More.antt", "more : 2\nmore = 1\n", above),
+            ("crates/high/src/lib.rt", "fn high() { 2; }\n", ALL[:2]),
+            ("crates/high/specs/High.antt", "high : 8\n", ALL[:2]),
+            ("crates/high/proofs/high/Answers.antt", "high = 8\n", ALL[:2]),
+            ("crates/other/src/lib.rt", "fn other() { 3; }\n", ALL[3:]),
+            ("tests/edits/high/c.edit", "file: src/lib.rt\nold: fn high\nnew: fn lower\n", ["high/c.edit"]),
+            ("crates.txt", "low: hex\nhigh: low\nother:\n", above),
+            ("crates.txt", "low: hex\nhigh: low\nother: low\n", ["other/d.edit"]),
+            ("crates.txt", "low: hex\nhigh: low\nother tests_may=Threads: low\n", ["other/d.edit"]),
+        ],
+    )
     os.rename(f"{world.root}/crates/low/proofs/More.antt", f"{world.root}/crates/low/proofs/Less.antt")
     same((world.run(), sorted(world.asked)), ((4, 0), ALL))
+
+
+def what_crates_above_do_not_read_has_their_edits_stand(world):
+    low = ["low/a.edit"]
+    world.put("crates/low/proofs/More.antt", "more : 1\nmore = 1\n")
+    world.run()
+    each_change_has_its_edits_tried_again(
+        world,
+        [
+            ("crates/low/src/lib.rt", "fn low() { if 1 { } else { 2 } }\n", low),
+            ("crates/low/src/lib.rt", "// why\nfn low() { 1 }\n", low),
+            ("crates/low/proofs/low/Answers.antt", "low = 8\n", low),
+            ("crates/low/proofs/More.antt", "more : 1\nmore = 2\n", low),
+            ("crates/low/proofs/More.antt", "-- why\nmore : 1\nunfolding low\nmore = [\n]\n  where\n", low),
+            ("crates/low/specs/Low.antt", "low : 1\n-- why\n", low),
+        ],
+    )
+
+
+def what_defines_an_unfolded_name_is_read_from_above(world):
+    world.put("crates/low/proofs/More.antt", "more : 1\nmore = 1\n")
+    world.put("crates/high/proofs/High.antt", "high : 1\nunfolding more\nhigh = 1\n")
+    world.run()
+    each_change_has_its_edits_tried_again(
+        world, [("crates/low/proofs/More.antt", "more : 1\nmore = 2\n", ALL[:3])]
+    )
+
+
+def a_program_links_the_code_below_it(world):
+    world.put("crates.txt", f"{FILES['crates.txt']}top: low\n")
+    world.put("crates/top/src/main.rt", "fn main() { 4 }\n")
+    world.put("tests/edits/top/e.edit", "file: src/main.rt\nold: 4\nnew: 7\n")
+    world.run()
+    each_change_has_its_edits_tried_again(
+        world, [("crates/low/src/lib.rt", "fn low() { 1; }\n", ["low/a.edit", "top/e.edit"])]
+    )
+
+
+def bodies_alone_are_left_out(world):
+    file = f"{world.root}/code.rt"
+    text = (
+        "trait T { fn t(&self) -> [u8; 2] ensures { a } ; }\n"
+        "fn f<A: Fn(u8)>(g: fn(u8) -> u8) requires x { b } ensures y { c } { let d = { e }; loop { f } }\n"
+        "const G: u8 = 1;\nimpl U { pub fn h() {} fn i() { j } }\nstruct K { l: fn(u8) }\n"
+    )
+    world.put("code.rt", text)
+    [tokens] = statements.tokens_of(RT.rtlib.RATTLE, [file])
+    kept = b"".join(it.strip(b'"') for _, it in statements.without_bodies(tokens)).decode()
+    wanted = (
+        "traitT{fnt(&self)->[u8;2]ensures{a};}"
+        "fnf<A:Fn(u8)>(g:fn(u8)->u8)requiresx{b}ensuresy{c}"
+        "constG:u8=1;implU{pubfnh()fni()}structK{l:fn(u8)}"
+    )
+    same(kept, wanted)
 
 
 def another_kit_has_every_edit_tried_again(world):
@@ -171,6 +240,26 @@ def what_is_not_refused_fails_and_loses_its_record(world):
         same((world.run(), world.asked), ((3, 1), ["high/b.edit"]))
         world.answers = {}
         same((world.run(), world.asked), ((4, 0), ["high/b.edit"]))
+
+
+def a_named_edit_is_tried_on_each_run(world):
+    world.put("docs/WRONG_BODIES.md", "| wrong | `low/a`, `high/c` | `low::f`; `result` |\n")
+    same((world.run(), sorted(world.asked)), ((4, 0), ALL))
+    same((world.run(), sorted(world.asked)), ((4, 0), ALL[1:3]))
+    same((world.run(sample=1), len(world.asked)), ((4, 0), 3))
+    world.put("docs/WRONG_BODIES.md", "| wrong | `low/a`, `high/gone` |\n")
+    same((world.run(), world.asked), ((4, 1), ALL[2:3]))
+    same("high/gone.edit: docs/WRONG_BODIES.md names it" in world.said, True)
+
+
+def what_there_is_no_time_for_is_listed_and_not_counted(world):
+    world.put("docs/WRONG_BODIES.md", "| wrong | `low/a` | `low::f` |\n")
+    same((world.run(seconds=-1), world.asked), ((1, 0), ["low/a.edit"]))
+    same("not tried, for there was no time: high/b.edit high/c.edit other/d.edit\n1 edits were tried" in world.said, True)
+    same([it.split(" ")[0] for it in world.record().splitlines()], ["low/a.edit"])
+    same((world.run(), sorted(world.asked)), ((4, 0), ALL))
+    # by hand there is time for all
+    same((world.run("--try", "low", "high", seconds=-1), sorted(world.asked)), ((3, 0), ALL[:3]))
 
 
 def a_record_of_no_edit_fails(world):
@@ -259,12 +348,69 @@ def libraries_without_a_stamp_have_to_be_newer_than_their_sources(world):
         RT.rtlib.Crate.build_rlib = build
 
 
+def the_changed_function_is_named(_world):
+    text = (
+        "const A: u8 = 1;\nfn one() {\n    a\n}\nimpl<T: B> C<T> {\n    pub fn two(&self) {\n        b\n    }\n}\n"
+        "impl D for C {\n    fn three() {\n        c\n    }\n}\npub(crate) fn four() {\n    let d = |x| {\n    };\n}\n"
+    )
+    named = one_function.changed_function
+    for old, wanted in [("A:", "m"), ("a\n", "m::one"), ("b\n", "C::two"), ("c\n", "m"), ("let d", "m::four")]:
+        same((old, named("src/m.rt", text, text.find(old))), (old, wanted))
+    same(named("src/m/n.rt", text, text.find("a\n")), "m::n::one")
+    same(named("src/m/mod.rt", text, text.find("a\n")), "m::one")
+    for path in ("src/lib.rt", "src/main.rt", "specs/M.antt", "proofs/m/Answers.antt"):
+        same(named(path, text, text.find("a\n")), None)
+
+
+class Prover:
+    """Stands for rt: it checks the texts that it is given, and notes the flags."""
+
+    def __init__(self, verdicts):
+        self.verdicts, self.flags = verdicts, []
+
+    def checked(self, _crate, texts, flags, kept):
+        self.flags.append((bool(texts), tuple(flags), bool(kept)))
+        status, last = self.verdicts.pop(0)
+        return subprocess.CompletedProcess([], status, stdout=f"{last}\n")
+
+    def must_fail(self, crate, _edit, flags, kept=None):
+        ran = self.checked(crate, {"src/m.rt": ""}, flags, kept)
+        return ran.returncode == 1 and ran.stdout.rstrip().split("\n")[-1].startswith("logic=not-proved"), ran.stdout
+
+
+def a_function_is_checked_before_its_crate(world):
+    world.put("crates/low/src/m.rt", "fn one() {\n    a\n}\n")
+    world.put("e.edit", "file: src/m.rt\nold: a\nnew: b\n")
+    crate = RT.rtlib.crates_below(world.root)[0]
+    part, whole = ("--only", "m::one"), ()
+    refused, accepted = (1, "only=1 proved=0"), (0, "only=1 proved=1")
+    cases = [
+        ([refused, accepted], True, [part, part]),
+        # the whole check decides where the function's doesn't refuse, can't be named, or isn't proved without the edit
+        ([accepted, accepted, (1, "logic=not-proved")], True, [part, part, whole]),
+        ([accepted, accepted, (0, "logic=proved")], False, [part, part, whole]),
+        ([(2, "error"), (2, "error"), (1, "logic=not-proved")], True, [part, part, whole]),
+        ([refused, refused, (0, "logic=proved")], False, [part, part, whole]),
+    ]
+    for verdicts, wanted, flags in cases:
+        prover = Prover(list(verdicts))
+        [(well, _text)] = TRY_IN_TURN(prover, crate, [f"{world.root}/e.edit"], [])
+        same((well, [it for _, it, _ in prover.flags]), (wanted, flags))
+        same(prover.flags[1][0], False)
+
+
 TESTS = [
     refusals_are_recorded_and_not_tried_again,
     whatever_a_check_reads_has_its_edits_tried_again,
+    what_crates_above_do_not_read_has_their_edits_stand,
+    what_defines_an_unfolded_name_is_read_from_above,
+    a_program_links_the_code_below_it,
+    bodies_alone_are_left_out,
     another_kit_has_every_edit_tried_again,
     the_sample_is_another_one_for_each_commit,
     what_is_not_refused_fails_and_loses_its_record,
+    a_named_edit_is_tried_on_each_run,
+    what_there_is_no_time_for_is_listed_and_not_counted,
     a_record_of_no_edit_fails,
     a_record_that_was_not_written_by_the_tool_fails,
     a_digest_that_was_made_up_does_not_count,
@@ -275,6 +421,8 @@ TESTS = [
     trying_by_hand_tries_what_it_is_asked_for,
     an_edit_above_what_is_not_proved_fails_untried,
     libraries_without_a_stamp_have_to_be_newer_than_their_sources,
+    the_changed_function_is_named,
+    a_function_is_checked_before_its_crate,
 ]
 
 
