@@ -8,11 +8,9 @@
 # usage: tests/benchmarks.sh [PROGRAM [PROGRAM_THAT_CARRIES_OUT]]
 set -u
 cd "$(dirname "$0")/.."
-program=${1:-crates/text_benchmark/out/text_benchmark}
-# After `rt ci` the program stands there; else it is built.
-[ -x "$program" ] || (cd crates/text_benchmark && rt run >/dev/null)
-runner=${2:-crates/run_benchmark/out/run_benchmark}
-[ -x "$runner" ] || (cd crates/run_benchmark && rt run >/dev/null)
+. tests/program.sh
+program=$(program_of text_benchmark "${1:-}") || exit 1
+runner=$(program_of run_benchmark "${2:-}") || exit 1
 
 # Runs the program five times at a size with so many lines for each path or action, and prints a row of numbers:
 # size, lines, bytes, least milliseconds of writing and of reading, KiB

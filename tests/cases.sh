@@ -1,15 +1,8 @@
 # What the scripts that run the program `twosync` share. It is sourced, from the repository's root, with the script's own
 # words: the first one names the program. After it the script is in an empty folder of its own, which goes when it ends.
 # shellcheck shell=bash
-program=$(realpath -m "${1:-crates/twosync/out/twosync}")
-# After `rt ci` the program stands there; else it is built, unless another one is named.
-if [ ! -x "$program" ] && [ "$#" = 0 ]; then
-  (cd crates/twosync && rt run -- trial <stdin >/dev/null)
-fi
-if [ ! -f "$program" ] || [ ! -x "$program" ]; then
-  echo "$(basename "$0"): there is no program $program" >&2
-  exit 1
-fi
+. tests/program.sh
+program=$(program_of twosync "${1:-}") || exit 1
 work=$(mktemp -d) || exit 1
 # What was started here and still runs is ended with the script, also where it is stopped.
 leave() {

@@ -4,14 +4,13 @@
 # after 1% of the files changed on each side; and the first two for 8 files of 128 MiB. rsync copies in one direction and
 # looks at sizes and times alone, so it shows what copying costs. Each number is the median of three runs, taken in turn;
 # beside it stands how often longer it is than twosync's; the last column is the most memory that one of its processes held.
-# A tool that isn't there is installed from Debian's packages where that may be done, and else left out with a line. After
-# each run both folders are compared; only where they differ that is said.
+# A tool that isn't installed is left out, with a line that says so. After each run both folders are compared; only where
+# they differ that is said.
 # usage: [RUNS=N] [SMALL=FILES] [LARGE=FILES] tests/compare.sh [PROGRAM]
 set -u
 cd "$(dirname "$0")/.."
-program=$(realpath "${1:-crates/twosync/out/twosync}")
-# After `rt ci` the program stands there; else it is built.
-[ -x "$program" ] || (cd crates/twosync && rt run -- trial <stdin >/dev/null)
+. tests/program.sh
+program=$(program_of twosync "${1:-}") || exit 1
 runs=${RUNS:-3}
 small=${SMALL:-20000}
 large=${LARGE:-8}
@@ -21,11 +20,10 @@ cd "$top" || exit 1
 
 tools=(twosync)
 for tool in unison rclone rsync; do
-  command -v "$tool" >/dev/null || apt-get install -y "$tool" >/dev/null 2>&1
   if command -v "$tool" >/dev/null; then
     tools+=("$tool")
   else
-    echo "skipped: $tool, which isn't installed and can't be had by apt-get"
+    echo "skipped: $tool, which isn't installed"
   fi
 done
 may_tell_memory=1

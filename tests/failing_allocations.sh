@@ -4,9 +4,9 @@
 # usage: tests/failing_allocations.sh [PROGRAM]
 set -u
 cd "$(dirname "$0")/.."
-program=${1:-crates/twosync/out/twosync}
+. tests/program.sh
+program=$(program_of twosync "${1:-}") || exit 1
 bundles=crates/worked_bundles/data
-[ -x "$program" ] || (cd crates/twosync && rt run -- trial <stdin >/dev/null)
 work=$(mktemp -d)
 trap 'rm -rf "$work"' EXIT
 ${CC:-cc} -O1 -shared -fPIC -o "$work/refuse.so" tests/failing_allocations.c -ldl || exit 1

@@ -5,9 +5,8 @@
 set -u
 umask 022
 cd "$(dirname "$0")/.."
-program=$(realpath "${1:-crates/folder_listing/out/folder_listing}")
-# After `rt ci` the program stands there; else it is built.
-[ -x "$program" ] || (cd crates/folder_listing && rt run -- scan data/tree 2 >/dev/null)
+. tests/program.sh
+program=$(program_of folder_listing "${1:-}") || exit 1
 work=$(mktemp -d)
 trap 'chmod -R u+rwx "$work"; rm -rf "$work"' EXIT
 chmod 755 "$work"

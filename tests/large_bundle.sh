@@ -5,8 +5,8 @@
 set -u
 cd "$(dirname "$0")/.."
 entries=${1:-20000}
-program=${2:-crates/twosync/out/twosync}
-[ -x "$program" ] || (cd crates/twosync && rt run -- trial <stdin >/dev/null)
+. tests/program.sh
+program=$(program_of twosync "${2:-}") || exit 1
 work=$(mktemp -d)
 trap 'rm -rf "$work"' EXIT
 

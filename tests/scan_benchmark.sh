@@ -6,9 +6,8 @@
 # usage: tests/scan_benchmark.sh [PROGRAM]
 set -u
 cd "$(dirname "$0")/.."
-program=$(realpath "${1:-crates/scan_benchmark/out/scan_benchmark}")
-# After `rt ci` the program stands there; else it is built.
-[ -x "$program" ] || (cd crates/scan_benchmark && rt run >/dev/null)
+. tests/program.sh
+program=$(program_of scan_benchmark "${1:-}") || exit 1
 top=$(mktemp -d)
 trap 'rm -rf "$top"' EXIT
 echo "processors: $(nproc), load before: $(cut -d' ' -f1 /proc/loadavg)"

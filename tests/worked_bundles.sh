@@ -3,14 +3,13 @@
 # usage: tests/worked_bundles.sh [PROGRAM]
 set -u
 cd "$(dirname "$0")/.."
-program=${1:-crates/twosync/out/twosync}
+. tests/program.sh
+program=$(program_of twosync "${1:-}") || exit 1
 bundles=crates/worked_bundles/data
 # The versions of texts that the program knows. Bundles of others are malformed to it.
 known=plan_1
 passed=0
 failed=0
-# After `rt ci` the program stands there; else it is built.
-[ -x "$program" ] || (cd crates/twosync && rt run -- trial <stdin >/dev/null)
 work=$(mktemp -d)
 trap 'rm -rf "$work"' EXIT
 

@@ -1,0 +1,164 @@
+#!/usr/bin/env bash
+# Recovery: what the next run makes of what a stopped run has left, and of what lies in .twosync and comes of no run.
+# usage: tests/recovery.sh [PROGRAM]
+set -u
+cd "$(dirname "$0")/.." || exit 1
+. tests/cases.sh
+
+# ---- recovery: a run was stopped between the two renames of a swap
+fresh
+printf a >second/a
+mkdir first/a
+printf b >first/a/b
+archive_of "f /a 1 $SA" >archive
+mkdir first/.twosync second/.twosync
+tee first/.twosync/plan >second/.twosync/plan <<'P'
+twosync-plan 1
+entry first /a
+piece 0 0 1 /a/b
+commit 0
+p 0
+mark 0
+p 1
+end 1 3
+P
+mv second/a second/.twosync/old-0
+mkdir second/.twosync/new-0
+expect 'recovery' 0 $'done first /a\ntotal 1 done 1 skipped 0 failed 0 blocked 0' '' "${sync[@]}"
+alike 'recovery'
+fresh
+printf a >first/a
+mkdir second/.twosync
+printf 'twosync-pl' >second/.twosync/plan
+expect 'a plan file that was cut' 0 $'done first /a\ntotal 1 done 1 skipped 0 failed 0 blocked 0' '' "${sync[@]}"
+alike 'a plan file that was cut'
+
+fresh
+printf a >first/a
+mkdir -p second/.twosync/new-0
+printf 'twosync-plan 1\nentry first /gone/a\nend 1 0\n' >second/.twosync/plan
+expect 'recovery where the folder above is gone' 0 $'done first /a\ntotal 1 done 1 skipped 0 failed 0 blocked 0' '' "${sync[@]}"
+alike 'recovery where the folder above is gone'
+
+stopped_at_gone() {
+  fresh
+  printf a >first/a
+  mkdir second/.twosync
+  printf n >second/.twosync/new-0
+  printf o >second/.twosync/old-0
+  printf 'twosync-plan 1\nentry first /gone/a\nend 1 0\n' >second/.twosync/plan
+}
+kept='twosync: kept /gone/a as second/.twosync/left-0'
+stopped_at_gone
+expect 'recovery where the original has no folder to go back to' 0 $'done first /a\ntotal 1 done 1 skipped 0 failed 0 blocked 0' "$kept" "${sync[@]}"
+holds_true 'the original is kept' test "$(cat second/.twosync/left-0)" = o
+expect 'the run after it' 0 'total 0 done 0 skipped 0 failed 0 blocked 0' '' "${sync[@]}"
+holds_true 'the original is still kept, and nothing else' test "$(ls second/.twosync)" = left-0
+stopped_at_gone
+"$program" "${sync[@]}" >out 2>/dev/full
+status=$?
+: >err
+answered 'no room to say what is kept' 2 $'done first /a\ntotal 1 done 1 skipped 0 failed 0 blocked 0' '' "$status"
+holds_true 'it is kept, and the run was made' test "$(cat second/.twosync/left-0)" = o -a -e second/a -a -e archive
+stopped_at_gone
+mkfifo first/p
+expect 'a refusal after recovery says what is kept' 3 '' "$kept"$'\ntwosync: fault 10' "${sync[@]}"
+holds_true 'and it is kept' test "$(cat second/.twosync/left-0)" = o
+stopped_at_gone
+mkdir second/gone
+expect 'recovery where the original has a folder to go back to' 0 $'done first /a\ndone second /gone\ntotal 2 done 2 skipped 0 failed 0 blocked 0' '' "${sync[@]}"
+alike 'recovery where the original has a folder to go back to'
+holds_true 'the original is back' test "$(cat first/gone/a)" = o
+
+# ---- what can't be removed doesn't keep later runs out
+nothing='total 0 done 0 skipped 0 failed 0 blocked 0'
+# with_module: both replicas have /mod with a file, and then the first has lost it
+with_module() {
+  fresh
+  mkdir -p second/mod/shut
+  printf a | tee second/mod/f >second/mod/shut/f
+  cp -r second/mod first
+  "$program" "${sync[@]}" >/dev/null 2>&1
+  rm -r first/mod
+}
+if may_be_refused; then
+  with_module
+  chmod 555 second/mod/shut
+  chmod -R a+rX . && chmod 777 . && chown -R 65534 first second archive
+  before=("${as[@]}")
+  expect 'a closed folder is opened to be removed' 0 $'done first /mod\ntotal 1 done 1 skipped 0 failed 0 blocked 0' '' "${sync[@]}"
+  before=()
+  alike 'a closed folder is opened to be removed'
+  chmod 755 .
+else
+  echo 'skipped: no other user to run as, so a closed folder is not tried'
+fi
+with_module
+if chattr +i second/mod/f 2>/dev/null; then
+  expect 'a file that can not be removed' 0 $'done first /mod\ntotal 1 done 1 skipped 0 failed 0 blocked 0' 'twosync: fault 8 /mod' "${sync[@]}"
+  holds_true 'it is out of the way' test ! -e second/mod -a "$(ls second/.twosync)" = trash-0
+  expect 'the run after it is not refused' 0 "$nothing" '' "${sync[@]}"
+  printf b >first/b
+  expect 'nor the one after that' 0 $'done first /b\ntotal 1 done 1 skipped 0 failed 0 blocked 0' '' "${sync[@]}"
+  mkdir third
+  expect 'nor one with another replica' 0 $'done second /b\ntotal 1 done 1 skipped 0 failed 0 blocked 0' '' sync third second other
+  rm -r third other
+  chattr -i second/.twosync/trash-0/f
+  expect 'a run that can remove it' 0 "$nothing" '' "${sync[@]}"
+  alike 'a run that can remove it'
+else
+  echo 'skipped: no file can be made immutable here, so one that can not be removed is not tried'
+fi
+
+# ---- what lies in .twosync and comes of no run
+fresh
+printf a >first/a
+mkdir -p second/.twosync/new-0
+expect 'a spot that no plan explains' 3 '' 'twosync: fault 8' "${sync[@]}"
+holds_true 'it is left alone' test -d second/.twosync/new-0 -a ! -e second/a -a ! -e archive
+rmdir second/.twosync/new-0
+expect 'a spot that was cleared by hand' 0 $'done first /a\ntotal 1 done 1 skipped 0 failed 0 blocked 0' '' "${sync[@]}"
+alike 'a spot that was cleared by hand'
+fresh
+printf a >first/a
+mkdir first/.twosync second/.twosync
+ln -s ../../theirs first/.twosync/plan
+ln -s ../../theirs second/.twosync/plan
+expect 'links in place of the plan file' 0 $'done first /a\ntotal 1 done 1 skipped 0 failed 0 blocked 0' '' "${sync[@]}"
+alike 'links in place of the plan file'
+holds_true 'the links are not followed' test ! -e theirs
+printf b >first/a
+: >"second/.twosync/$(printf 'new-\377')"
+mkdir second/.twosync/new-x
+expect 'what else is there' 0 $'done first /a\ntotal 1 done 1 skipped 0 failed 0 blocked 0' '' "${sync[@]}"
+holds_true 'what else is there stays' test "$(find second/.twosync -mindepth 1 | wc -l)" = 2
+fresh
+printf a >first/a
+mkdir elsewhere
+ln -s ../elsewhere second/.twosync
+expect 'a link in place of .twosync' 3 '' 'twosync: fault 5' "${sync[@]}"
+holds_true 'it is not followed' test -z "$(ls elsewhere)" -a ! -e second/a
+rmdir elsewhere
+
+# ---- a run that is ended by a signal while it writes, at several moments
+for delay in 0.02 0.05 0.1 0.2 0.4; do
+  fresh
+  mkdir first/d
+  for k in 1 2 3 4; do head -c 30000000 /dev/urandom >"first/d/f$k"; done
+  printf b >second/b
+  "$program" "${sync[@]}" >/dev/null 2>&1 &
+  child=$!
+  for _ in $(seq 10000); do
+    [ ! -e second/.twosync/plan ] || break
+    sleep 0.005
+  done
+  sleep "$delay"
+  kill -KILL $child
+  wait $child 2>/dev/null
+  "$program" "${sync[@]}" >out 2>err
+  got=$?
+  if [ "$got" = 0 ] && [ ! -s err ]; then ok; else bad "after a signal at $delay: status $got, $(cat err)"; fi
+  alike "after a signal at $delay"
+done
+
+ended recovery
