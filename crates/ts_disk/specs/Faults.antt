@@ -1,7 +1,7 @@
 -- The faults of replicas on a disk.
 use Rattle.std.specs.Prelude.{ℕ}
 use Rattle.ts_disk.specs.declared.fault.DiskFault.{DiskFault}
-use Rattle.ts_disk.specs.declared.fault.DiskFault.TheVariants.{OutOfMemory, Failed, Device, Locked}
+use Rattle.ts_disk.specs.declared.fault.DiskFault.TheVariants.{OutOfMemory, Failed, Device, Locked, Own}
 
 -- the number by which the program tells the fault
 abbrev pub fault_number : DiskFault → ℕ
@@ -9,3 +9,4 @@ fault_number OutOfMemory = 1
 fault_number Failed = 5
 fault_number Device = 8
 fault_number Locked = 8
+fault_number Own = 5

@@ -20,17 +20,20 @@ pub enum DiskFault {
     /// Another run works on this replica.
     #[error("another run works on this replica")]
     Locked,
+    /// The program's own directory in the replica, `.twosync`, can't be made or used, as where it belongs to another user.
+    #[error("the replica's .twosync can't be made or used")]
+    Own,
 }
 
 impl DiskFault {
-    /// The number that the fault is reported by: 1 for memory, 5 for a file, 8 for the device and for a replica that another
-    /// run works on.
+    /// The number that the fault is reported by: 1 for memory, 5 for a file and for `.twosync`, 8 for the device and for a
+    /// replica that another run works on.
     pub fn number(&self) -> u8
         ensures { result ≡ fault_number self.now }
     {
         match self {
             DiskFault::OutOfMemory => 1,
-            DiskFault::Failed => 5,
+            DiskFault::Failed | DiskFault::Own => 5,
             DiskFault::Device | DiskFault::Locked => 8,
         }
     }

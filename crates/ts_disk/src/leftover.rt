@@ -5,25 +5,16 @@ use std::alloc::Global;
 use std::fs::{Files, Permissions};
 use std::os::unix::fs::PermissionsExt;
 use std::{fs, io};
-use ts_name::Path;
 
 /// What became of what a swap left aside.
 #[derive(Debug, PartialEq, Eq, Drop)]
-pub enum Aside {
+pub(crate) enum Aside {
     /// Nothing is left of it.
     Cleared,
     /// It can't be removed, so it was renamed. It holds nothing that is needed, and later runs try again to remove it.
     Discarded,
     /// It can't go back to where it was, and may be the only copy of something. It stays at this place for good.
     Kept { place: String },
-}
-
-/// What is left of the swap of an entry.
-#[derive(Debug, Drop)]
-pub struct Leftover {
-    /// The entry's path.
-    pub path: Path,
-    pub aside: Aside,
 }
 
 /// Tries to remove what earlier runs couldn't remove: all that is called `trash-N` in the program's own directory of a

@@ -1,11 +1,11 @@
 //! One run at a time on a replica.
 use crate::fault::DiskFault;
 use crate::modes::PRIVATE_FILE;
-use crate::place::{Standing, look_at, make_own, mark_used, own_place};
+use crate::place::{Standing, is_same, look_at, make_own, mark_used, own_place};
 use std::alloc::Global;
 use std::fs::{File, Files, OpenOptions, TryLockError};
 use std::io::ErrorKind;
-use std::os::unix::fs::{MetadataExt, OpenOptionsExt};
+use std::os::unix::fs::OpenOptionsExt;
 use std::{fs, io};
 
 /// How often the lock is tried where another run takes the program's directory away in between.
@@ -58,8 +58,8 @@ impl Lock {
 
 /// Takes the lock of a replica, on the file `.twosync/lock` in its root, which is made where it isn't there.
 ///
-/// `Locked` at once where another run has it. There is no lock where the root is no directory. The lock is advisory: it
-/// stops those who take it, and nobody else.
+/// `Locked` at once where another run has it, `Own` where `.twosync` or the file can't be made, opened or locked. There is no
+/// lock where the root is no directory. The lock is advisory: it stops those who take it, and nobody else.
 pub fn take_lock<R: Files<File = File>>(
     files: &R,
     alloc: Global,
@@ -72,10 +72,10 @@ pub fn take_lock<R: Files<File = File>>(
     let own = own_place(alloc, root)?;
     let place = format!(in alloc; "{own}/lock")?;
     for _ in 0..TRIES {
-        let took_part = make_own(files, own.as_str()).map_err(|_| DiskFault::Failed)?;
-        match look_at(files, place.as_str(), root.len()).map_err(|_| DiskFault::Failed)? {
+        let took_part = make_own(files, own.as_str()).map_err(|_| DiskFault::Own)?;
+        match look_at(files, place.as_str(), root.len()).map_err(|_| DiskFault::Own)? {
             Standing::Nothing | Standing::File | Standing::CutOff => {}
-            Standing::Dir | Standing::Other => return Err(DiskFault::Failed),
+            Standing::Dir | Standing::Other => return Err(DiskFault::Own),
         }
         if let Some(file) = open_locked(files, place.as_str())? {
             return Ok(Some(Lock {
@@ -86,7 +86,7 @@ pub fn take_lock<R: Files<File = File>>(
             }));
         }
     }
-    Err(DiskFault::Failed)
+    Err(DiskFault::Own)
 }
 
 /// Opens the file at a place, which is made where it isn't there, and locks it. None where its directory isn't there.
@@ -96,14 +96,17 @@ fn open_locked<R: Files<File = File>>(files: &R, place: &str) -> Result<Option<F
     let file = match options.open(files, place) {
         Ok(file) => file,
         Err(e) if e.kind() == ErrorKind::NotFound => return Ok(None),
-        Err(_) => return Err(DiskFault::Failed),
+        Err(_) => return Err(DiskFault::Own),
     };
-    lock_file(&file)?;
+    match lock_file(&file) {
+        Err(DiskFault::Failed) => return Err(DiskFault::Own),
+        locked => locked?,
+    }
     // A run that ended since the file was opened has removed it, and another one may hold the lock of a new file there.
     match is_at(files, &file, place) {
         Ok(true) => Ok(Some(file)),
         Ok(false) => Err(DiskFault::Locked),
-        Err(_) => Err(DiskFault::Failed),
+        Err(_) => Err(DiskFault::Own),
     }
 }
 
@@ -124,7 +127,7 @@ pub(crate) fn is_at<R: Files<File = File>>(
 ) -> io::Result<bool> {
     let own = file.metadata()?;
     match fs::symlink_metadata(files, place) {
-        Ok(there) => Ok(there.dev() == own.dev() && there.ino() == own.ino()),
+        Ok(there) => Ok(is_same(&there, &own)),
         Err(e) if e.kind() == ErrorKind::NotFound => Ok(false),
         Err(e) => Err(e),
     }

@@ -93,9 +93,14 @@ pub(crate) fn are_one<R: Files>(files: &R, one: &str, other: &str) -> io::Result
     let one = metadata_at(files, one)?;
     let other = metadata_at(files, other)?;
     match (one, other) {
-        (Some(one), Some(other)) => Ok(one.dev() == other.dev() && one.ino() == other.ino()),
+        (Some(one), Some(other)) => Ok(is_same(&one, &other)),
         _ => Ok(false),
     }
+}
+
+/// Whether two answers of the system are of one and the same file or directory.
+pub(crate) fn is_same(one: &Metadata, other: &Metadata) -> bool {
+    one.dev() == other.dev() && one.ino() == other.ino()
 }
 
 /// Makes the program's own directory in a root, for its owner alone, where it isn't there. One that is there is closed to

@@ -7,10 +7,12 @@ ghost use Rattle.ts_swap.specs.Leavings.{Counts};
 
 use crate::fault::DiskFault;
 use crate::leftover::{Aside, remove_at};
-use crate::place::{Standing, are_one, kind_at, look_at, make_own, own_place};
+use crate::place::{
+    Standing, are_one, is_same, kind_at, look_at, make_own, metadata_at, own_place,
+};
 use crate::staging::{Bits, write_tree};
 use std::alloc::Global;
-use std::fs::Files;
+use std::fs::{Files, Metadata};
 use std::io::ErrorKind;
 use std::{fs, io};
 use ts_model::items::Items;
@@ -24,8 +26,8 @@ const NAMES_TRIED: u32 = 1_000_000;
 /// The spots of the swap of one entry in a replica on a disk: the entry's place below the root, and for entry `k` the places
 /// `.twosync/new-k` and `.twosync/old-k` in it. They tell nothing of what lies there.
 ///
-/// No link below the root is followed: before each call it is looked at what stands above its places. Whoever puts a link
-/// there between the look and the call is followed.
+/// No link below the root is followed: before each call it is looked at what stands above its places. Where somebody puts a
+/// link there between the look and a rename, a look after it notices that, and what was moved goes back.
 #[derive(Drop)]
 pub struct DiskPlaces<R> {
     pub(crate) files: R,
@@ -113,6 +115,9 @@ impl<R: Files + AllocGlobal + Clone + Drop> DiskPlaces<R> {
 
     /// Moves what stands at a spot to another, where nothing stands. Others may take the target at any moment, and are never
     /// replaced there.
+    ///
+    /// A link that others put above the target between the look and the call is followed by the system. A look after the
+    /// call notices that, and what was moved goes back.
     pub(crate) fn move_over(&self, from: Spot, to: Spot) -> io::Result<()> {
         let standing = self.look(from)?;
         match standing {
@@ -121,6 +126,35 @@ impl<R: Files + AllocGlobal + Clone + Drop> DiskPlaces<R> {
                 return Err(io::Error::from(ErrorKind::NotFound));
             }
         }
+        let moved = metadata_at(&self.files, self.place(from))?;
+        self.move_to_nothing(from, standing, to)?;
+        match self.look(Spot::Target) {
+            Ok(Standing::CutOff) if self.move_back(moved.as_ref(), from, standing, to).is_ok() => {
+                Err(io::Error::from(ErrorKind::NotFound))
+            }
+            _ => Ok(()),
+        }
+    }
+
+    /// Moves back what was moved from a spot to another, if it is still there.
+    fn move_back(
+        &self,
+        moved: Option<&Metadata>,
+        from: Spot,
+        standing: Standing,
+        to: Spot,
+    ) -> io::Result<()> {
+        let there = metadata_at(&self.files, self.place(to))?;
+        match (moved, there) {
+            (Some(moved), Some(there)) if is_same(moved, &there) => {
+                move_anew(&self.files, self.place(to), standing, self.place(from))
+            }
+            _ => Err(io::Error::from(ErrorKind::NotFound)),
+        }
+    }
+
+    /// Moves what stands at a spot to another, if nothing stands there.
+    fn move_to_nothing(&self, from: Spot, standing: Standing, to: Spot) -> io::Result<()> {
         match self.look(to)? {
             Standing::Nothing if to == Spot::Target => {
                 move_anew(&self.files, self.place(from), standing, self.place(to))

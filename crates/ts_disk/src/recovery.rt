@@ -7,7 +7,8 @@ ghost use Rattle.ts_model.specs.declared.plan.Entry.{Entry};
 ghost use Rattle.ts_name.specs.Paths.{place_text};
 
 use crate::fault::DiskFault;
-use crate::leftover::{Aside, Leftover, remove_trash};
+use crate::leftover::{Aside, remove_trash};
+use crate::notice::Notice;
 use crate::place::{Standing, look_at, own_place};
 use crate::places::DiskPlaces;
 use crate::plan_file::{read_plan, remove_plan};
@@ -47,33 +48,40 @@ pub fn check_leftovers<R: Files + AllocGlobal + Clone + Drop>(
 /// its entries that are copied is brought to its end, and then the plan file is removed. Where it isn't, no swap had begun.
 /// What earlier runs couldn't remove is tried again.
 ///
-/// What is left of a swap is added to `left`. `Failed` where the plan file can't be read or removed, `Device` where a swap can't
+/// What is left of a swap is added to `notices`. `Failed` where the plan file can't be read or removed, `Device` where a swap can't
 /// be brought to its end; both may be called again.
 pub fn recover_replica<R: Files + AllocGlobal + Clone + Drop>(
     files: &R,
     alloc: Global,
     root: &str,
-    left: &mut Vec<Leftover>,
+    notices: &mut Vec<Notice>,
 ) -> Result<(), DiskFault> {
     let _ = remove_trash(files, alloc, root);
     let Some(plan) = read_plan(files, alloc, root)? else {
         return Ok(());
     };
-    end_swaps(files, alloc, root, &plan, None, left)?;
+    end_swaps(files, alloc, root, &plan, None, notices)?;
     remove_plan(files, alloc, root)
 }
 
 /// Brings the swap of each entry of a plan that is copied into a replica to its end, so that nothing is left of it in
 /// `.twosync` that a later run would have to recover. Where a swap can't be brought to its end, it goes on with the others. What
-/// belongs to no such entry stays as it is. What is left of a swap is added to `left`.
+/// belongs to no such entry stays as it is. What is left of a swap is added to `notices`.
 pub fn clear_leftovers<R: Files + AllocGlobal + Clone + Drop>(
     files: &R,
     alloc: Global,
     replica: &Replica<'_>,
     plan: &Plan,
-    left: &mut Vec<Leftover>,
+    notices: &mut Vec<Notice>,
 ) -> Result<(), DiskFault> {
-    end_swaps(files, alloc, replica.root, plan, Some(replica.side), left)
+    end_swaps(
+        files,
+        alloc,
+        replica.root,
+        plan,
+        Some(replica.side),
+        notices,
+    )
 }
 
 /// The same for all entries that are copied, or for those that are copied into this replica of the pair.
@@ -83,14 +91,14 @@ fn end_swaps<R: Files + AllocGlobal + Clone + Drop>(
     root: &str,
     plan: &Plan,
     into: Option<Side>,
-    left: &mut Vec<Leftover>,
+    notices: &mut Vec<Notice>,
 ) -> Result<(), DiskFault> {
     let mut ended: Result<(), DiskFault> = Ok(());
     // Recovery does nothing where neither spot of a swap is taken, and both lie in the program's own directory: so those
     // entries are enough of which a listing of it tells a spot.
     for number in &taken_spots(files, alloc, root)? {
         match end_swap(files, alloc, root, plan, *number, into) {
-            Ok(Some(leftover)) => left.push(leftover)?,
+            Ok(Some(notice)) => notices.push(notice)?,
             Ok(None) => {}
             Err(fault) => ended = Err(fault),
         }
@@ -157,7 +165,7 @@ fn end_swap<R: Files + AllocGlobal + Clone + Drop>(
     plan: &Plan,
     number: u32,
     into: Option<Side>,
-) -> Result<Option<Leftover>, DiskFault> {
+) -> Result<Option<Notice>, DiskFault> {
     let Some(entry) = copied_entry(plan, number, into) else {
         return Ok(None);
     };
@@ -169,7 +177,8 @@ fn end_swap<R: Files + AllocGlobal + Clone + Drop>(
     };
     match places.end() {
         Ok(Aside::Cleared) => Ok(None),
-        Ok(aside) => Ok(Some(Leftover { path, aside })),
+        Ok(Aside::Discarded) => Ok(Some(Notice::Discarded { path })),
+        Ok(Aside::Kept { place }) => Ok(Some(Notice::Kept { path, place })),
         Err(_) => Err(DiskFault::Device),
     }
 }

@@ -1,0 +1,72 @@
+//! What a run has to say of paths in a replica, beside how its actions ended.
+use crate::fault::DiskFault;
+use crate::place::{metadata_at, own_place};
+use std::alloc::Global;
+use std::fs::Files;
+use std::os::unix::fs::MetadataExt;
+use ts_name::Path;
+
+/// How many directories stand above a path, at most.
+const MOST_ABOVE: u32 = 64;
+
+/// What a run has to say of a path in a replica, beside how its actions ended.
+#[derive(Debug, Drop)]
+pub enum Notice {
+    /// What the swap of this entry left can't be removed, so it was renamed. It holds nothing that is needed, and later runs
+    /// try again to remove it.
+    Discarded { path: Path },
+    /// What stood at this entry's path can't go back there, and may be the only copy of something. It stays at this place, by
+    /// a path of the system, for good.
+    Kept { path: Path, place: String },
+    /// Another file system is mounted at this path. Nothing can be put in place there, since a file can't be renamed from one
+    /// file system to another.
+    Mounted { path: Path },
+}
+
+/// The path at which another file system is mounted than that of `.twosync`, where a path of the replica lies in one: the
+/// highest such path. What can't be looked at counts as being of the same one.
+///
+/// Its only fault is `OutOfMemory`.
+pub fn mount_above<R: Files>(
+    files: &R,
+    alloc: Global,
+    root: &str,
+    path: &Path,
+) -> Result<Option<Path>, DiskFault> {
+    let own = own_place(alloc, root)?;
+    let Some(home) = device_at(files, own.as_str()) else {
+        return Ok(None);
+    };
+    let mut found = None;
+    let mut at = copied(alloc, path)?;
+    for _ in 0..MOST_ABOVE {
+        if at.is_root() {
+            break;
+        }
+        let place = at.place_below(alloc, root)?;
+        if device_at(files, place.as_str()).is_some_and(|device| device != home) {
+            found = Some(copied(alloc, &at)?);
+        }
+        at = match at.parent(alloc) {
+            Ok(Some(parent)) => parent,
+            Ok(None) => break,
+            Err(_) => return Err(DiskFault::OutOfMemory),
+        };
+    }
+    Ok(found)
+}
+
+/// The device of what stands at a place, if that can be looked at.
+fn device_at<R: Files>(files: &R, place: &str) -> Option<u64> {
+    match metadata_at(files, place) {
+        Ok(Some(metadata)) => Some(metadata.dev()),
+        Ok(None) | Err(_) => None,
+    }
+}
+
+fn copied(alloc: Global, path: &Path) -> Result<Path, DiskFault> {
+    match path.copy(alloc) {
+        Ok(path) => Ok(path),
+        Err(_) => Err(DiskFault::OutOfMemory),
+    }
+}
