@@ -7,8 +7,8 @@ use Rattle.ts_model.specs.Texts.{text}
 use Rattle.ts_model.specs.declared.plan.PlanRule.{PlanRule}
 use Rattle.ts_trial.specs.Answers.{refusal}
 use Rattle.ts_perform.specs.Faults.{fault_line}
-use Rattle.ts_perform.specs.Runs.{AnswersRun, BeginsLeftovers, Came, HasReported, IsRefusal, Ran, RanQuietly, faults_of, leftover_lines, report_of, status_after}
-use Rattle.ts_disk.specs.declared.leftover.Leftover.{Leftover}
+use Rattle.ts_perform.specs.Runs.{AnswersRun, BeginsNotices, Came, HasReported, IsRefusal, Ran, RanQuietly, faults_of, notice_lines, report_of, status_after}
+use Rattle.ts_disk.specs.declared.notice.Notice.{Notice}
 use Rattle.ts_tree.proofs.Writing.{nothing_sent}
 use Rattle.ts_perform.proofs.Failures.{whole_begun}
 use Rattle.ts_perform.specs.declared.fault.PerformFault.{PerformFault}
@@ -29,24 +29,24 @@ pub refused : (old new old_faults new_faults : Option (List ℕ)) (rule : PlanRu
 refused old new old_faults new_faults rule place number path told faults = (refl, (rule, place, told), (number, path, faults))
 
 -- nothing is left of swaps, or nothing was reported of it
-pub nothing_left : (old : Option (List ℕ)) → BeginsLeftovers old old
+pub nothing_left : (old : Option (List ℕ)) → BeginsNotices old old
 nothing_left old = ([], nothing_sent old (text []))
 
 -- what was reported, whole or not
-pub leftovers_begun : {A E : Type 0} (old new : Option (List ℕ)) (left : List Leftover) (answer : Result A E) → Writes old new (text (leftover_lines left)) answer → BeginsLeftovers old new
-leftovers_begun old new left answer written = (left, writes_begun old new (text (leftover_lines left)) answer written)
+pub notices_begun : {A E : Type 0} (old new : Option (List ℕ)) (left : List Notice) (answer : Result A E) → Writes old new (text (notice_lines left)) answer → BeginsNotices old new
+notices_begun old new left answer written = (left, writes_begun old new (text (notice_lines left)) answer written)
 
 -- what a run answers once what recovery left was reported
 pub ran_told : (old new old_faults mid_faults new_faults : Option (List ℕ)) (status told : Result ℕ PerformFault)
-    → RanQuietly old new old_faults mid_faults status → told ≡ status → IfOk status (λ _. new_faults ≡ mid_faults) → IfErr status (λ _. BeginsLeftovers mid_faults new_faults)
+    → RanQuietly old new old_faults mid_faults status → told ≡ status → IfOk status (λ _. new_faults ≡ mid_faults) → IfErr status (λ _. BeginsNotices mid_faults new_faults)
     → Ran old new old_faults new_faults told
 ran_told old new old_faults mid_faults new_faults (Ok status) told ran same quiet left =
     subst (Ran old new old_faults new_faults) (sym same) (subst (λ z. (came : Came) × HasReported came old new old_faults z status) (sym quiet) ran)
 ran_told old new old_faults mid_faults new_faults (Err fault) told ran same quiet left =
-    subst (Ran old new old_faults new_faults) (sym same) (ran.0, subst (λ z. BeginsLeftovers z new_faults) ran.1 left)
+    subst (Ran old new old_faults new_faults) (sym same) (ran.0, subst (λ z. BeginsNotices z new_faults) ran.1 left)
 
 -- a refusal before anything was run is what the command answers
-pub answers_refusal : (old mid new old_faults mid_faults new_faults : Option (List ℕ)) (status : ℕ) → (mid ≡ old) × BeginsLeftovers old_faults mid_faults → IsRefusal mid new mid_faults new_faults status
+pub answers_refusal : (old mid new old_faults mid_faults new_faults : Option (List ℕ)) (status : ℕ) → (mid ≡ old) × BeginsNotices old_faults mid_faults → IsRefusal mid new mid_faults new_faults status
     → AnswersRun old new old_faults new_faults status
 answers_refusal old mid new old_faults mid_faults new_faults status same refusal =
     inr (mid_faults, same.1, subst (λ z. IsRefusal z new mid_faults new_faults status) same.0 refusal)

@@ -28,6 +28,7 @@ use Rattle.ts_perform.specs.declared.fault.PerformFault.TheVariants as fault
 abbrev pub fault_number : PerformFault → ℕ
 fault_number fault.OutOfMemory = 1
 fault_number fault.Failed = 5
+fault_number (fault.Own path) = 5
 fault_number fault.NotCanonical = 6
 fault_number fault.WrongEnd = 7
 fault_number fault.Device = 8
@@ -37,10 +38,11 @@ fault_number fault.PastLimit = 12
 fault_number (fault.Broken rule place) = 13
 fault_number (fault.Scan scan) = scan_number scan
 
--- only what a scan met has a place
+-- what a scan met has a place, and the program's own directory in a replica
 abbrev pub place_of : PerformFault → Option Path
 place_of fault.OutOfMemory = None
 place_of fault.Failed = None
+place_of (fault.Own path) = Some path
 place_of fault.NotCanonical = None
 place_of fault.WrongEnd = None
 place_of fault.Device = None
@@ -59,6 +61,10 @@ fault_line number (Some (name ∷ path)) = codes "twosync: fault " ++ decimal nu
 -- what was kept of an entry, and where
 abbrev pub kept_line : Path → List ℕ → List ℕ
 kept_line path place = codes "twosync: kept " ++ path_text path ++ codes " as " ++ place
+
+-- another file system is mounted in a replica
+abbrev pub mount_line : Path → List ℕ
+mount_line path = codes "twosync: mount " ++ path_text path
 
 abbrev pub fault_of_text : TextFault → PerformFault
 fault_of_text text.OutOfMemory = fault.OutOfMemory
@@ -104,6 +110,7 @@ fault_of_disk disk.OutOfMemory = fault.OutOfMemory
 fault_of_disk disk.Failed = fault.Failed
 fault_of_disk disk.Device = fault.Device
 fault_of_disk disk.Locked = fault.Device
+fault_of_disk disk.Own = fault.Failed
 
 abbrev pub fault_of_report : ReportFault → PerformFault
 fault_of_report report.OutOfMemory = fault.OutOfMemory

@@ -3,7 +3,7 @@ ghost use Rattle.std.specs.Prelude.{◌≡◌, ◌∷◌, ◌++◌, [], codes, d
 ghost use Rattle.std.specs.Option.{option_copied};
 ghost use Rattle.ts_model.specs.Texts.{text};
 ghost use Rattle.ts_name.specs.Paths.{path_text};
-ghost use Rattle.ts_perform.specs.Faults.{fault_line, kept_line};
+ghost use Rattle.ts_perform.specs.Faults.{fault_line, kept_line, mount_line};
 ghost use Rattle.ts_text.specs.Sources.{Writes};
 ghost use Rattle.ts_trial.specs.Answers.{refusal};
 
@@ -66,6 +66,28 @@ pub(crate) fn write_kept<W: Sink>(
     push_kept(path, place, &mut line)?;
     write_line(err, &line)?;
     Ok(())
+}
+
+/// Reports that another file system is mounted at a path of a replica.
+pub(crate) fn write_mount<W: Sink>(
+    alloc: Global,
+    path: &Path,
+    err: &mut W,
+) -> Result<(), PerformFault>
+    ensures { Writes (W.holds err.old) (W.holds err.new) (text (mount_line path.now ∷ [])) result }
+{
+    let mut line = Vec::new(alloc);
+    push_mount(path, &mut line)?;
+    write_line(err, &line)?;
+    Ok(())
+}
+
+/// Appends the line that reports a mount.
+fn push_mount(path: &Path, line: &mut Vec<u8>) -> Result<(), AllocError>
+    ensures { OnOk result (line.new.items ≡ line.old.items ++ mount_line path.now) }
+{
+    line.extend_from_slice(b"twosync: mount ")?;
+    path.write_text(line)
 }
 
 /// Appends the line that reports what was kept.

@@ -3,11 +3,11 @@ ghost use Rattle.std.specs.Prelude.{◌≡◌, IfOk};
 ghost use Rattle.ts_perform.specs.Stands.{Stand};
 ghost use denote.Param.Send.{IsSync};
 
-use crate::fault::PerformFault;
+use crate::fault::{PerformFault, own_fault};
 use std::alloc::Global;
 use std::fs::{File, Files};
 use std::thread::Threads;
-use ts_disk::{ArchivePlace, DiskSite, Lock, claim_archive, flush_above, take_lock};
+use ts_disk::{ArchivePlace, DiskFault, DiskSite, Lock, claim_archive, flush_above, take_lock};
 use ts_folder::{DiskFolder, Folder};
 use ts_name::Path;
 use ts_print::Print;
@@ -126,7 +126,10 @@ impl Disk for HostRuntime {
     }
 
     fn lock(&self, alloc: Global, root: &str) -> Result<Option<Lock>, PerformFault> {
-        Ok(take_lock(self, alloc, root)?)
+        match take_lock(self, alloc, root) {
+            Err(DiskFault::Own) => Err(own_fault(alloc)),
+            taken => Ok(taken?),
+        }
     }
 
     fn took_part(&self, lock: &Lock) -> bool {

@@ -2,8 +2,10 @@
 ghost use Rattle.std.specs.Prelude.{◌≤◌, IfOk};
 ghost use Rattle.ts_model.specs.Texts.{IsPlan};
 
+use crate::acting::replica;
 use crate::disk::Machine;
 use crate::fault::PerformFault;
+use crate::lengths::{first_too_long, is_too_long};
 use crate::task::Task;
 use std::alloc::Global;
 use std::fs;
@@ -13,9 +15,10 @@ use ts_check::{Checked, check};
 use ts_command::Pair;
 use ts_hold::{Holds, RuleReader};
 use ts_model::plan::Plan;
+use ts_name::Path;
 use ts_print::Print;
 use ts_resume::resume;
-use ts_scan::scan;
+use ts_scan::{Refusal, ScanFault, scan};
 use ts_text::{Counted, Lines, TextFault};
 
 /// Opens a file to be read. None where nothing is there. What is no file, as a directory, a device or a pipe, is never opened:
@@ -91,7 +94,30 @@ pub(crate) fn scan_folder<R: Machine>(
     requires few { workers ≤ 64 }
 {
     let folder = rt.folder(rt.alloc(), root)?;
-    Ok(scan(rt, rt.alloc(), &folder, workers)?)
+    match scan(rt, rt.alloc(), &folder, workers) {
+        Ok(print) => Ok(print),
+        Err(fault) => Err(fault_below(root, fault)),
+    }
+}
+
+/// The fault of a scan. Where the system doesn't take a path at all, that is what it is.
+fn fault_below(root: &str, fault: ScanFault) -> PerformFault {
+    match fault {
+        ScanFault::At { path, fault } => {
+            if is_too_long(root, &path) {
+                too_long(path)
+            } else {
+                PerformFault::from(ScanFault::At { path, fault })
+            }
+        }
+        ScanFault::OutOfMemory => PerformFault::OutOfMemory,
+    }
+}
+
+/// That a path is too long for the system.
+fn too_long(path: Path) -> PerformFault {
+    let fault = Refusal::TooLong;
+    PerformFault::from(ScanFault::At { path, fault })
 }
 
 /// An archive and the hold rules.
@@ -177,6 +203,35 @@ impl Snapshot {
     {
         let Snapshot { known, now } = self;
         Ok(resume(alloc, &known.archive, &now.first, &now.second, &known.holds)?)
+    }
+
+    /// Refuses a plan by which something would be put in place, or moved aside, at a path that is too long for the system.
+    pub(crate) fn look_at_lengths(
+        &self,
+        alloc: Global,
+        pair: &Pair<'_>,
+        plan: &Plan,
+    ) -> Result<(), PerformFault> {
+        for (number, entry) in plan.entries.as_slice().iter().enumerate() {
+            let Some(from) = entry.reason.source() else {
+                continue;
+            };
+            let root = replica(pair, from.other()).root;
+            for print in [&self.now.first, &self.now.second] {
+                if let Some(path) = first_too_long(
+                    root,
+                    number,
+                    &entry.path,
+                    print.sub(&entry.path),
+                ) {
+                    return Err(match path.copy(alloc) {
+                        Ok(path) => too_long(path),
+                        Err(_) => PerformFault::OutOfMemory,
+                    });
+                }
+            }
+        }
+        Ok(())
     }
 
     /// The plan with the checker's yes.

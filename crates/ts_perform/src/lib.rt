@@ -6,6 +6,7 @@ mod answers;
 pub mod disk;
 pub mod fault;
 mod inputs;
+mod lengths;
 pub mod performing;
 mod room;
 mod running;

@@ -1,19 +1,21 @@
 //! Plans carried out on two folders.
 ghost use Rattle.std.specs.Prelude.{◌≡◌, IfErr, IfOk};
 ghost use Rattle.ts_model.specs.Texts.{IsPlan};
-ghost use Rattle.ts_perform.specs.Runs.{BeginsLeftovers, Ran, RanQuietly};
+ghost use Rattle.ts_perform.specs.Runs.{BeginsNotices, Ran, RanQuietly};
 
 use crate::acting::{act, keep_archive, replica};
 use crate::disk::{Disk, Machine};
 use crate::fault::PerformFault;
 use crate::inputs::Snapshot;
 use crate::task::Task;
-use crate::telling::{FAILED, tell_all, tell_leftovers};
+use crate::telling::{FAILED, tell_all, tell_notices};
 use std::alloc::Global;
 use ts_disk::{
-    Leftover, check_leftovers, clear_leftovers, recover_replica, remove_plan, save_plan,
+    Notice, check_leftovers, clear_leftovers, mount_above, recover_replica, remove_plan, save_plan,
 };
-use ts_model::plan::{Plan, Side};
+use ts_exec::ActionResult;
+use ts_model::plan::{Kind, Plan, Side};
+use ts_name::Path;
 use ts_text::Sink;
 
 /// What no other run may use while this one works: both replicas, as far as they are there, and the archive.
@@ -35,10 +37,10 @@ impl<R: Machine> Task<'_, R> {
         ensures ran { Ran (O.holds out.old) (O.holds out.new) (E.holds err.old) (E.holds err.new) result }
     {
         let mut claims = self.claim()?;
-        let mut left = Vec::new(self.rt.alloc());
-        let status = self.run_claimed(&mut claims, plan, &mut left, out, err);
+        let mut notices = Vec::new(self.rt.alloc());
+        let status = self.run_claimed(&mut claims, plan, &mut notices, out, err);
         self.give_up(claims, status.is_err());
-        self.tell_refused(status, left.as_slice(), err)
+        self.tell_refused(status, notices.as_slice(), err)
     }
 
     /// Makes a plan, and carries it out, while both replicas and the archive are locked.
@@ -50,25 +52,25 @@ impl<R: Machine> Task<'_, R> {
         ensures ran { Ran (O.holds out.old) (O.holds out.new) (E.holds err.old) (E.holds err.new) result }
     {
         let mut claims = self.claim()?;
-        let mut left = Vec::new(self.rt.alloc());
-        let status = self.sync_claimed(&mut claims, &mut left, out, err);
+        let mut notices = Vec::new(self.rt.alloc());
+        let status = self.sync_claimed(&mut claims, &mut notices, out, err);
         self.give_up(claims, status.is_err());
-        self.tell_refused(status, left.as_slice(), err)
+        self.tell_refused(status, notices.as_slice(), err)
     }
 
-    /// Reports what recovery left, where nothing else was reported since nothing was run.
+    /// Reports what recovery has to say, where nothing else was reported since nothing was run.
     fn tell_refused<E: Sink>(
         &self,
         status: Result<u8, PerformFault>,
-        left: &[Leftover],
+        notices: &[Notice],
         err: &mut E,
     ) -> Result<u8, PerformFault>
         ensures same { result ≡ status }
         ensures quiet { IfOk status (λ _. E.holds err.new ≡ E.holds err.old) }
-        ensures told { IfErr status (λ _. BeginsLeftovers (E.holds err.old) (E.holds err.new)) }
+        ensures told { IfErr status (λ _. BeginsNotices (E.holds err.old) (E.holds err.new)) }
     {
         if status.is_err() {
-            let _ = tell_leftovers(self.rt.alloc(), left, err);
+            let _ = tell_notices(self.rt.alloc(), notices, err);
         }
         status
     }
@@ -153,14 +155,14 @@ impl<R: Machine> Task<'_, R> {
     }
 
     /// Brings to its end what a stopped run left, unless something lies in one of the replicas that no plan explains. What is
-    /// left of swaps even then is added to `left`.
-    fn recover(&self, left: &mut Vec<Leftover>) -> Result<(), PerformFault> {
+    /// to be said of it is added to `notices`.
+    fn recover(&self, notices: &mut Vec<Notice>) -> Result<(), PerformFault> {
         let Task { rt, pair, .. } = self;
         let alloc = rt.alloc();
         check_leftovers(*rt, alloc, pair.first)?;
         check_leftovers(*rt, alloc, pair.second)?;
-        recover_replica(*rt, alloc, pair.first, left)?;
-        Ok(recover_replica(*rt, alloc, pair.second, left)?)
+        recover_replica(*rt, alloc, pair.first, notices)?;
+        Ok(recover_replica(*rt, alloc, pair.second, notices)?)
     }
 
     /// Checks a plan from a file, and carries it out.
@@ -168,33 +170,33 @@ impl<R: Machine> Task<'_, R> {
         &self,
         claims: &mut Claims<R>,
         plan: &str,
-        left: &mut Vec<Leftover>,
+        notices: &mut Vec<Notice>,
         out: &mut O,
         err: &mut E,
     ) -> Result<u8, PerformFault>
         ensures ran { RanQuietly (O.holds out.old) (O.holds out.new) (E.holds err.old) (E.holds err.new) result }
     {
-        self.recover(left)?;
+        self.recover(notices)?;
         let (snapshot, plan) = Snapshot::read_for(self, plan)?;
         self.take_part(&*claims)?;
-        self.carry_out(&mut claims.archive, &snapshot, &plan, left, out, err)
+        self.carry_out(&mut claims.archive, &snapshot, &plan, notices, out, err)
     }
 
     /// Makes a plan, and carries it out.
     fn sync_claimed<O: Sink, E: Sink>(
         &self,
         claims: &mut Claims<R>,
-        left: &mut Vec<Leftover>,
+        notices: &mut Vec<Notice>,
         out: &mut O,
         err: &mut E,
     ) -> Result<u8, PerformFault>
         ensures ran { RanQuietly (O.holds out.old) (O.holds out.new) (E.holds err.old) (E.holds err.new) result }
     {
-        self.recover(left)?;
+        self.recover(notices)?;
         let snapshot = Snapshot::read_of_both(self, self.is_one_new(&*claims))?;
         let plan = snapshot.plan(self.rt.alloc())?;
         self.take_part(&*claims)?;
-        self.carry_out(&mut claims.archive, &snapshot, &plan, left, out, err)
+        self.carry_out(&mut claims.archive, &snapshot, &plan, notices, out, err)
     }
 
     /// Checks a plan, runs it, and tells what came of it. The plan lies in both replicas while swaps may be half done, and until
@@ -204,7 +206,7 @@ impl<R: Machine> Task<'_, R> {
         archive: &mut R::Archive,
         snapshot: &Snapshot,
         plan: &Plan,
-        left: &mut Vec<Leftover>,
+        notices: &mut Vec<Notice>,
         out: &mut O,
         err: &mut E,
     ) -> Result<u8, PerformFault>
@@ -213,14 +215,17 @@ impl<R: Machine> Task<'_, R> {
     {
         let alloc = self.rt.alloc();
         let checked = snapshot.check(alloc, plan)?;
+        snapshot.look_at_lengths(alloc, self.pair, plan)?;
         self.save(alloc, plan)?;
         match act(self, &checked) {
             Ok(outcome) => {
-                let cleared = self.clear(alloc, plan, left);
+                let cleared = self.clear(alloc, plan, notices);
                 let kept = keep_archive(self, archive, &checked, &outcome);
                 self.remove(alloc, cleared);
-                let left = left.as_slice();
-                let told = tell_all(alloc, &checked, &outcome, kept, left, out, err);
+                // what can't be found out of mounts is no reason to end
+                let _ = self.add_mounts(alloc, plan, outcome.results(), notices);
+                let notices = notices.as_slice();
+                let told = tell_all(alloc, &checked, &outcome, kept, notices, out, err);
                 Ok(told.unwrap_or(FAILED))
             }
             Err(fault) => {
@@ -243,13 +248,39 @@ impl<R: Machine> Task<'_, R> {
         Ok(())
     }
 
-    /// Clears what swaps left in both replicas, and answers for each whether no swap is left to be recovered. What is left of
-    /// swaps even then is added to `left`.
-    fn clear(&self, alloc: Global, plan: &Plan, left: &mut Vec<Leftover>) -> (bool, bool) {
+    /// Clears what swaps left in both replicas, and answers for each whether no swap is left to be recovered. What is to be
+    /// said of it is added to `notices`.
+    fn clear(&self, alloc: Global, plan: &Plan, notices: &mut Vec<Notice>) -> (bool, bool) {
         let Task { rt, pair, .. } = self;
-        let first = clear_leftovers(*rt, alloc, &replica(*pair, Side::First), plan, left);
-        let second = clear_leftovers(*rt, alloc, &replica(*pair, Side::Second), plan, left);
+        let first = clear_leftovers(*rt, alloc, &replica(*pair, Side::First), plan, notices);
+        let second = clear_leftovers(*rt, alloc, &replica(*pair, Side::Second), plan, notices);
         (first.is_ok(), second.is_ok())
+    }
+
+    /// Adds a notice for each mount in which a commit failed. Nothing can be put in place there, whatever is tried.
+    fn add_mounts(
+        &self,
+        alloc: Global,
+        plan: &Plan,
+        results: &[ActionResult],
+        notices: &mut Vec<Notice>,
+    ) -> Result<(), PerformFault> {
+        let Task { rt, pair, .. } = self;
+        for (action, result) in plan.actions.as_slice().iter().zip(results) {
+            if let Kind::Commit { entry } = action.kind
+                && let ActionResult::Failed(_) = result
+                && let Some(entry) = plan.entries.as_slice().get(entry as usize)
+                && let Some(from) = entry.reason.source()
+            {
+                let root = replica(*pair, from.other()).root;
+                if let Some(path) = mount_above(*rt, alloc, root, &entry.path)?
+                    && !is_noticed(notices.as_slice(), &path)
+                {
+                    notices.push(Notice::Mounted { path })?;
+                }
+            }
+        }
+        Ok(())
     }
 
     /// Removes the plan from the replicas where nothing is left of it. Where something is, the next run begins with it.
@@ -262,4 +293,12 @@ impl<R: Machine> Task<'_, R> {
             let _ = remove_plan(*rt, alloc, pair.second);
         }
     }
+}
+
+/// Whether a mount at this path was noticed.
+fn is_noticed(notices: &[Notice], path: &Path) -> bool {
+    notices.iter().any(|notice| match notice {
+        Notice::Mounted { path: mounted } => mounted == path,
+        Notice::Discarded { .. } | Notice::Kept { .. } => false,
+    })
 }

@@ -1,17 +1,17 @@
 //! What is reported of a run.
 ghost use Rattle.std.specs.Option.{option_copied};
-ghost use Rattle.std.specs.Prelude.{◌≡◌, ◌++◌, length, IfOk};
+ghost use Rattle.std.specs.Prelude.{◌≡◌, ◌∷◌, ◌++◌, [], length, IfOk};
 ghost use Rattle.ts_model.specs.Texts.{text};
 ghost use Rattle.ts_perform.specs.Ends.{ending_at};
-ghost use Rattle.ts_perform.specs.Runs.{aside_lines, failure_line, failure_lines, leftover_lines, lost_by, lost_lines, path_for, status_with};
+ghost use Rattle.ts_perform.specs.Runs.{failure_line, failure_lines, notice_line, notice_lines, lost_by, lost_lines, path_for, status_with};
 ghost use Rattle.ts_report.specs.Reports.{fates, report_text, status_of, totals_of};
 ghost use Rattle.ts_text.specs.Sources.{Writes};
 
-use crate::answers::{write_fault, write_kept};
+use crate::answers::{write_fault, write_kept, write_mount};
 use crate::fault::PerformFault;
 use std::alloc::Global;
 use ts_check::Checked;
-use ts_disk::{Aside, Leftover};
+use ts_disk::Notice;
 use ts_exec::{ActionResult, Outcome};
 use ts_model::plan::{Action, Kind, Plan};
 use ts_name::Path;
@@ -51,53 +51,50 @@ pub(crate) fn tell<S: Site, O: Sink, E: Sink>(
     }
 }
 
-/// The same, and then what is left of swaps.
+/// The same, and then the notices.
 pub(crate) fn tell_all<S: Site, O: Sink, E: Sink>(
     alloc: Global,
     checked: &Checked<'_>,
     outcome: &Outcome<S>,
     kept: Result<(), PerformFault>,
-    left: &[Leftover],
+    notices: &[Notice],
     out: &mut O,
     err: &mut E,
 ) -> Result<u8, PerformFault>
     requires count { length outcome.now.results.items ≡ length checked.now.plan.actions }
     ensures report { Writes (O.holds out.old) (O.holds out.new) (report_text (ending_at outcome.now.results.items) checked.now.plan) result }
-    ensures faults { Writes (E.holds err.old) (E.holds err.new) (text ((failure_lines checked.now.plan.entries checked.now.plan.actions outcome.now.results.items ++ lost_lines (lost_by kept)) ++ leftover_lines left.now)) result }
+    ensures faults { Writes (E.holds err.old) (E.holds err.new) (text ((failure_lines checked.now.plan.entries checked.now.plan.actions outcome.now.results.items ++ lost_lines (lost_by kept)) ++ notice_lines notices.now)) result }
     ensures status { IfOk result (λ status. status ≡ status_with (lost_by kept) (status_of (totals_of (fates (ending_at outcome.now.results.items) checked.now.plan)))) }
 {
     let status = tell(alloc, checked, outcome, kept, out, err)?;
-    tell_leftovers(alloc, left, err)?;
+    tell_notices(alloc, notices, err)?;
     Ok(status)
 }
 
-/// Reports what is left of swaps.
-pub(crate) fn tell_leftovers<E: Sink>(
+/// Reports notices, a line each.
+pub(crate) fn tell_notices<E: Sink>(
     alloc: Global,
-    left: &[Leftover],
+    notices: &[Notice],
     err: &mut E,
 ) -> Result<(), PerformFault>
-    ensures told { Writes (E.holds err.old) (E.holds err.new) (text (leftover_lines left.now)) result }
+    ensures told { Writes (E.holds err.old) (E.holds err.new) (text (notice_lines notices.now)) result }
 {
-    for i in 0..left.len() {
-        tell_leftover(alloc, &left[i], err)?;
+    for i in 0..notices.len() {
+        tell_notice(alloc, &notices[i], err)?;
     }
     Ok(())
 }
 
-/// Reports what is left of a swap: a fault of the device where it can't be removed, and its place where it was kept.
-fn tell_leftover<E: Sink>(
-    alloc: Global,
-    leftover: &Leftover,
-    err: &mut E,
-) -> Result<(), PerformFault>
-    ensures told { Writes (E.holds err.old) (E.holds err.new) (text (aside_lines leftover.now.path leftover.now.aside)) result }
+/// Reports a notice: a fault of the device where what a swap left can't be removed, the place of what was kept, and a mount.
+fn tell_notice<E: Sink>(alloc: Global, notice: &Notice, err: &mut E) -> Result<(), PerformFault>
+    ensures told { Writes (E.holds err.old) (E.holds err.new) (text (notice_line notice.now ∷ [])) result }
 {
-    let path = &leftover.path;
-    match &leftover.aside {
-        Aside::Cleared => Ok(()),
-        Aside::Discarded => write_fault(alloc, PerformFault::Device.number(), Some(path), err),
-        Aside::Kept { place } => write_kept(alloc, path, place.as_str(), err),
+    match notice {
+        Notice::Discarded { path } => {
+            write_fault(alloc, PerformFault::Device.number(), Some(path), err)
+        }
+        Notice::Kept { path, place } => write_kept(alloc, path, place.as_str(), err),
+        Notice::Mounted { path } => write_mount(alloc, path, err),
     }
 }
 

@@ -2,7 +2,7 @@ use Rattle.std.proofs.Common.{◌++◌}
 use Rattle.std.proofs.lemmas.Result.{err_from_is_err_and}
 use Rattle.ts_tree.proofs.Writing.{begun_after, begun_first, sent_more}
 use Rattle.ts_perform.specs.Ends.{ending_at}
-use Rattle.ts_perform.specs.Runs.{failure_lines, leftover_lines, lost_by, lost_lines}
+use Rattle.ts_perform.specs.Runs.{failure_lines, notice_lines, lost_by, lost_lines}
 use Rattle.ts_perform.proofs.Failures.{whole_begun}
 use Rattle.ts_report.specs.Reports.{report_text}
 use Rattle.ts_perform.proofs.telling.tell_all.Goals as goal
@@ -12,26 +12,26 @@ returns-in_err-status-clause-faults g c =
     let p = err_from_is_err_and c.from_residual.result c.from_residual.ensures.1 in
     let plan = c.args.checked.now.plan in
     let lines = failure_lines plan.entries plan.actions c.args.outcome.now.results.items ++ lost_lines (lost_by c.args.kept) in
-    rw p.1 (begun_first (g.E.Sink.holds c.args.err.now) (g.E.Sink.holds c.tell.new.err) lines (leftover_lines c.args.left.now) c.in_err-status.ensures.faults)
+    rw p.1 (begun_first (g.E.Sink.holds c.args.err.now) (g.E.Sink.holds c.tell.new.err) lines (notice_lines c.args.notices.now) c.in_err-status.ensures.faults)
 
-pub returns-in_err-tell_leftovers-clause-report : goal.returns-in_err-tell_leftovers-clause-report
-returns-in_err-tell_leftovers-clause-report g c =
-    let p = err_from_is_err_and c.from_residual-in_err-tell_leftovers.result c.from_residual-in_err-tell_leftovers.ensures.1 in
+pub returns-in_err-tell_notices-clause-report : goal.returns-in_err-tell_notices-clause-report
+returns-in_err-tell_notices-clause-report g c =
+    let p = err_from_is_err_and c.from_residual-in_err-tell_notices.result c.from_residual-in_err-tell_notices.ensures.1 in
     let report = report_text (ending_at c.args.outcome.now.results.items) c.args.checked.now.plan in
     rw p.1 (whole_begun (g.O.Sink.holds c.args.out.now) (g.O.Sink.holds c.tell.new.out) report c.in_ok-status.ensures.report)
 
-pub returns-in_err-tell_leftovers-clause-faults : goal.returns-in_err-tell_leftovers-clause-faults
-returns-in_err-tell_leftovers-clause-faults g c =
-    let p = err_from_is_err_and c.from_residual-in_err-tell_leftovers.result c.from_residual-in_err-tell_leftovers.ensures.1 in
+pub returns-in_err-tell_notices-clause-faults : goal.returns-in_err-tell_notices-clause-faults
+returns-in_err-tell_notices-clause-faults g c =
+    let p = err_from_is_err_and c.from_residual-in_err-tell_notices.result c.from_residual-in_err-tell_notices.ensures.1 in
     let plan = c.args.checked.now.plan in
     let lines = failure_lines plan.entries plan.actions c.args.outcome.now.results.items ++ lost_lines (lost_by c.args.kept) in
     rw p.1
-    (begun_after (g.E.Sink.holds c.args.err.now) (g.E.Sink.holds c.tell.new.err) (g.E.Sink.holds c.tell_leftovers.new.err) lines (leftover_lines c.args.left.now)
-    c.in_ok-status.ensures.faults c.in_err-tell_leftovers.ensures.told)
+    (begun_after (g.E.Sink.holds c.args.err.now) (g.E.Sink.holds c.tell.new.err) (g.E.Sink.holds c.tell_notices.new.err) lines (notice_lines c.args.notices.now)
+    c.in_ok-status.ensures.faults c.in_err-tell_notices.ensures.told)
 
 pub returns-clause-faults : goal.returns-clause-faults
 returns-clause-faults g c =
     let plan = c.args.checked.now.plan in
     let lines = failure_lines plan.entries plan.actions c.args.outcome.now.results.items ++ lost_lines (lost_by c.args.kept) in
-    sent_more (g.E.Sink.holds c.args.err.now) (g.E.Sink.holds c.tell.new.err) (g.E.Sink.holds c.tell_leftovers.new.err) lines (leftover_lines c.args.left.now)
-    c.in_ok-status.ensures.faults c.in_ok-tell_leftovers.ensures.told
+    sent_more (g.E.Sink.holds c.args.err.now) (g.E.Sink.holds c.tell.new.err) (g.E.Sink.holds c.tell_notices.new.err) lines (notice_lines c.args.notices.now)
+    c.in_ok-status.ensures.faults c.in_ok-tell_notices.ensures.told

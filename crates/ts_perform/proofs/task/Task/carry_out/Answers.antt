@@ -4,7 +4,7 @@ use Rattle.ts_perform.proofs.task.Task.carry_out.Goals as goal
 
 pub returns-in-Ok : goal.returns-in-Ok
 returns-in-Ok g c =
-    let came : Came = record { plan = c.in_ok-checked.checked.plan; results = c.in-Ok.outcome.results.items; lost = lost_by c.keep_archive-kept.result; left = c.as_slice-left.result.now } in
+    let came : Came = record { plan = c.in_ok-checked.checked.plan; results = c.in-Ok.outcome.results.items; lost = lost_by c.keep_archive-kept.result; notices = c.as_slice-notices.result.now } in
     record {
       ran = (
         came,
