@@ -2,7 +2,7 @@
 use std::fs::{File, Files};
 use std::rt::Env;
 use std::{env, fs, process};
-use ts_disk::{DiskFault, recover_replica, take_lock};
+use ts_disk::{DiskFault, Notice, recover_replica, take_lock};
 
 /// The place of a folder for the process of this number.
 fn ground<R: Env + AllocGlobal>(rt: &R, number: u32, name: &str) -> Option<String> {
@@ -13,22 +13,31 @@ fn ground<R: Env + AllocGlobal>(rt: &R, number: u32, name: &str) -> Option<Strin
 /// A plan whose entry 1 is at `/d/a`.
 const PLAN: &str = "twosync-plan 1\nentry conflict /c\nentry first /d/a\nend 2 0\n";
 
-/// Which of the target, the new and the old spot are taken, and what is then at the target.
-const RECOVERIES: [([bool; 3], Option<&str>); 8] = [
-    ([true, false, false], Some("t")),
-    ([true, true, false], Some("t")),
-    ([true, false, true], Some("t")),
-    ([false, false, false], None),
-    ([false, true, false], None),
-    ([false, false, true], None),
-    ([false, true, true], Some("o")),
-    ([true, true, true], Some("t")),
+/// Which of the target, the new and the old spot are taken, what is then at the target, and what is kept beside it.
+const RECOVERIES: [([bool; 3], Option<&str>, Option<&str>); 8] = [
+    ([true, false, false], Some("t"), None),
+    ([true, true, false], Some("t"), None),
+    ([true, false, true], Some("t"), None),
+    ([false, false, false], None, None),
+    ([false, true, false], None, None),
+    ([false, false, true], None, None),
+    ([false, true, true], Some("o"), None),
+    // others took the target while it was absent, so the original can't go back
+    ([true, true, true], Some("t"), Some("o")),
 ];
 
 /// Makes a folder below the root.
 fn makes<R: Files + AllocGlobal>(rt: &R, root: &str, place: &str) -> bool {
     match format!(in rt.alloc(); "{root}/{place}") {
         Ok(at) => fs::create_dir(rt, at.as_str()).is_ok(),
+        Err(_) => false,
+    }
+}
+
+/// Removes an empty folder below the root.
+fn removes<R: Files + AllocGlobal>(rt: &R, root: &str, place: &str) -> bool {
+    match format!(in rt.alloc(); "{root}/{place}") {
+        Ok(at) => fs::remove_dir(rt, at.as_str()).is_ok(),
         Err(_) => false,
     }
 }
@@ -75,15 +84,19 @@ fn is_settled<R: Files + AllocGlobal>(rt: &R, root: &str, want: Option<&str>) ->
         && has(rt, root, ".twosync/old-1", None)
 }
 
-/// Whether a replica that was stopped is settled by its recovery.
+/// Whether a replica that was stopped is settled by its recovery, and just this is kept and reported.
 fn recovers<R: Files + AllocGlobal + Clone + Drop>(
     rt: &R,
     root: &str,
     taken: [bool; 3],
     want: Option<&str>,
+    kept: Option<&str>,
 ) -> bool {
+    let mut notices = Vec::new(rt.alloc());
     stops(rt, root, taken)
-        && recover_replica(rt, rt.alloc(), root).is_ok()
+        && recover_replica(rt, rt.alloc(), root, &mut notices).is_ok()
+        && notices.is_empty() == kept.is_none()
+        && has(rt, root, ".twosync/left-0", kept)
         && is_settled(rt, root, want)
         && fs::remove_dir_all(rt, root).is_ok()
 }
@@ -93,9 +106,43 @@ fn recovery_goes_by_what_is_there(rt: HostRuntime) {
     let Some(root) = ground(&rt, process::id(rt.process()), "recovery") else {
         panic!(rt; "no place");
     };
-    for (taken, want) in RECOVERIES {
-        assert!(rt; recovers(&rt, root.as_str(), taken, want), "from {taken:?}");
+    for (taken, want, kept) in RECOVERIES {
+        assert!(rt;
+            recovers(&rt, root.as_str(), taken, want, kept),
+            "from {taken:?}"
+        );
     }
+}
+
+/// Whether this is the one notice: what was at `/d/a` is kept at this place.
+fn is_kept_at(notices: &[Notice], place: &str) -> bool {
+    match notices {
+        [Notice::Kept { path, place: at }] => path.last() == Some(b"a") && at.as_str() == place,
+        _ => false,
+    }
+}
+
+/// Whether the old content of a replica that was stopped is kept where its directory went away meanwhile.
+fn keeps<R: Files + AllocGlobal + Clone + Drop>(rt: &R, root: &str, place: &str) -> bool {
+    let mut notices = Vec::new(rt.alloc());
+    stops(rt, root, [false, true, true])
+        && removes(rt, root, "d")
+        && recover_replica(rt, rt.alloc(), root, &mut notices).is_ok()
+        && is_kept_at(&notices, place)
+        && is_settled(rt, root, None)
+        && has(rt, root, ".twosync/left-0", Some("o"))
+        && fs::remove_dir_all(rt, root).is_ok()
+}
+
+#[test]
+fn recovery_keeps_what_has_no_place_to_go_back_to(rt: HostRuntime) {
+    let Some(root) = ground(&rt, process::id(rt.process()), "kept") else {
+        panic!(rt; "no place");
+    };
+    let Ok(place) = format!(in rt.alloc(); "{root}/.twosync/left-0") else {
+        panic!(rt; "no memory");
+    };
+    assert!(rt; keeps(&rt, root.as_str(), place.as_str()));
 }
 
 /// What comes of taking the lock, which is let go at once: whether there is a replica, or the fault.
@@ -130,6 +177,7 @@ fn numbers_faults(rt: HostRuntime) {
         (DiskFault::Failed, 5),
         (DiskFault::Device, 8),
         (DiskFault::Locked, 8),
+        (DiskFault::Own, 5),
     ] {
         assert!(rt; fault.number() == number, "{number}");
     }

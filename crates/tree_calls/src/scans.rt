@@ -271,6 +271,131 @@ fn lists_two_directories_at_once(rt: HostRuntime) {
     assert!(rt; gate.late.load(Ordering::SeqCst) == 0);
 }
 
+/// A folder that changes while it is scanned: the first listings of its root are those of one tree, and all else is as in
+/// another.
+#[derive(Drop)]
+struct Changing {
+    before: MemFolder,
+    after: MemFolder,
+    /// How many listings of the root are still to be the first tree's.
+    stale: AtomicU64,
+    /// How many listings of the root there were.
+    listed: AtomicU64,
+}
+
+impl Changing {
+    /// A folder whose root is listed so often as in the first tree, which has one child.
+    fn new(alloc: Global, before: &[u8], after: &[u8], stale: u64) -> Option<Changing> {
+        Some(Changing {
+            before: folder_of(alloc, before)?,
+            after: folder_of(alloc, after)?,
+            stale: AtomicU64::new(stale),
+            listed: AtomicU64::new(0),
+        })
+    }
+
+    /// What the root is listed from now.
+    fn root(&self) -> &MemFolder {
+        self.listed.fetch_add(1, Ordering::SeqCst);
+        match self.stale.load(Ordering::SeqCst) {
+            0 => &self.after,
+            left => {
+                self.stale.store(left - 1, Ordering::SeqCst);
+                &self.before
+            }
+        }
+    }
+}
+
+impl Folder for Changing {
+    ghost use Rattle.std.specs.Prelude.{None};
+
+    type File = Path;
+
+    ghost tells = { λ _. None };
+
+    ghost lets = { λ _ _ _ _. Unit {0} };
+
+    ghost is_open = { λ _ _ _. Unit {0} };
+
+    fn list(&self, alloc: Global, path: &Path) -> Result<Vec<(Name, Kind)>, FolderFault> {
+        if path.is_root() {
+            self.root().list(alloc, path)
+        } else {
+            self.after.list(alloc, path)
+        }
+    }
+
+    fn open_file(&self, alloc: Global, path: &Path) -> Result<Path, FolderFault> {
+        self.after.open_file(alloc, path)
+    }
+
+    fn fill(&self, file: &mut Path, offset: u64, buffer: &mut [u8]) -> Result<usize, FolderFault> {
+        match self.after.fill(file, offset, buffer) {
+            Ok(count) => Ok(count),
+            Err(_) => Err(FolderFault::OutOfMemory),
+        }
+    }
+}
+
+/// What a child was when its directory was listed, and what it is when it is opened.
+const CHANGES: [(&[u8], &[u8]); 4] = [
+    // it went away
+    (b"f /a 1\nx 61\n", b""),
+    (b"d /a\n", b""),
+    // a directory took a file's place
+    (b"f /a 1\nx 61\n", b"d /a\nf /a/b 1\nx 62\n"),
+    // a file took a directory's place
+    (b"d /a\n", b"f /a 1\nx 61\n"),
+];
+
+/// Whether a scan by this many workers of a folder whose root is listed so often as before a change answers what is there
+/// after it, and lists the root once more for each listing that misled it.
+fn follows<R: Threads + Sync>(
+    rt: &R,
+    alloc: Global,
+    change: (&[u8], &[u8]),
+    stale: u64,
+    workers: u32,
+) -> bool
+    requires some { 1 ≤ workers }
+    requires few { workers ≤ 64 }
+{
+    let (Some(folder), Some(after)) = (
+        Changing::new(alloc, change.0, change.1, stale),
+        tree_of(alloc, change.1),
+    ) else {
+        return false;
+    };
+    let (Ok(print), Ok(wanted)) = (
+        scan(rt, alloc, &folder, workers),
+        Print::of_tree(alloc, &after),
+    ) else {
+        return false;
+    };
+    print.sub_eq(&wanted, &Path::root(alloc))
+        && folder.listed.load(Ordering::SeqCst) == stale.saturating_add(1)
+}
+
+#[test]
+fn looks_a_child_up_again(rt: HostRuntime) {
+    let alloc = rt.alloc();
+    for change in CHANGES {
+        for workers in [1, 2, 64] {
+            assert!(rt; follows(&rt, alloc, change, 1, workers), "{workers}");
+        }
+        // ten new listings, and no more
+        assert!(rt; follows(&rt, alloc, change, 10, 1));
+        let (Some(folder), Some(place)) = (
+            Changing::new(alloc, change.0, change.1, 11),
+            path(alloc, "/a"),
+        ) else {
+            panic!(rt; "no folder");
+        };
+        assert!(rt; refuses(&rt, alloc, &folder, 1, 9, &place));
+    }
+}
+
 #[test]
 fn numbers_faults(rt: HostRuntime) {
     assert!(rt; ScanFault::OutOfMemory.number() == 1);
