@@ -40,6 +40,13 @@ f /f/x 4 $S_OLD
 f /f/y 4 $S_OLD
 f /f/z 4 $S_OLD" >archive
     ;;
+  below)
+    mkdir first/d second/d
+    printf old. | tee first/d/f >second/d/f
+    touch -d '2001-02-03 04:05:06' first/d/f second/d/f
+    archive_of "d /d
+f /d/f 4 $S_OLD" >archive
+    ;;
   nothing) archive_of '' >archive ;;
   esac
   cp archive archive.before
@@ -138,7 +145,7 @@ call_of() {
 }
 # What is looked for: the target is put aside; the new tree is put in its place.
 aside() { echo "\"[^\"]*$to/[.]twosync/old-0\"[^\"]*\$"; }
-place() { echo "new-0\".*\"[^\"]*$to/f\"[^\"]*\$"; }
+place() { echo "new-0\".*\"[^\"]*$to/${1:-f}\"[^\"]*\$"; }
 
 # is_held: that call is the run's last one, and has no result yet where the run is held up before it
 is_held() {
@@ -198,6 +205,22 @@ changes() {
   nothing) : ;;
   esac
 }
+
+# changes_below KIND: what /d/f in the source became: another file, nothing
+changes_below() {
+  rm "$from/d/f"
+  [ "$1" = nothing ] || printf 'theirs, new' >"$from/d/f"
+}
+# outside_has NAME..: a folder outside of both replicas has files of these names, and no others
+outside_has() {
+  local name
+  rm -rf outside outside.before
+  mkdir outside
+  for name in "$@"; do printf outside >"outside/$name"; done
+  cp -a outside outside.before
+}
+# outside_stays NAME: that folder is as it was
+outside_stays() { holds_true "$1: what is outside" diff -r outside outside.before; }
 
 if ! command -v strace >/dev/null; then
   echo 'skipped: strace is missing, so edits between the steps of a commit are not tried'
@@ -278,6 +301,29 @@ for role in "${roles[@]}"; do
     held_at "a deletion, while nothing is there ($edit)" "$(aside)" exit "[ ! -e $to/f ]" "edit_$edit"
     holds_true "a deletion, while nothing is there ($edit), from $from: it stays" diff -r -x .twosync "$to" wanted
   done
+  # a link to a folder outside takes the place of the target's folder between the look and the call, which follows it: a look
+  # after the call notices that, and nothing outside has changed at the end
+  edit_link() { mv "$to/d" "$to/was" && ln -s ../outside "$to/d"; }
+  for new in file nothing; do
+    had below
+    changes_below $new
+    outside_has f
+    held_at "a link above, new $new, before it is set aside" "$(aside)" enter true edit_link
+    answered "a link above, new $new, before it is set aside, from $from" 2 "failed $from /d/f"$'\n'"$lost" \
+      'twosync: fault 8 /d/f' "$held_status"
+    outside_stays "a link above, new $new, before it is set aside, from $from"
+    holds_true "a link above, new $new, before it is set aside, from $from: the old file" test "$(cat "$to/was/f")" = old.
+    holds_true "a link above, new $new, before it is set aside, from $from: .twosync" test -z "$(ls -A "$to/.twosync")"
+  done
+  had below
+  changes_below file
+  outside_has
+  held_at 'a link above, before the new file is put there' "$(place d/f)" enter "[ ! -e $to/d/f ]" edit_link
+  answered "a link above, before the new file is put there, from $from" 2 "failed $from /d/f"$'\n'"$lost" \
+    "twosync: fault 8 /d/f
+twosync: kept /d/f as $to/.twosync/left-0" "$held_status"
+  outside_stays "a link above, before the new file is put there, from $from"
+  left 'a link above, before the new file is put there'
 done
 
 # ---- modes

@@ -136,7 +136,7 @@ fresh
 printf a >first/a
 mkdir elsewhere
 ln -s ../elsewhere second/.twosync
-expect 'a link in place of .twosync' 3 '' 'twosync: fault 5' "${sync[@]}"
+expect 'a link in place of .twosync' 3 '' 'twosync: fault 5 /.twosync' "${sync[@]}"
 holds_true 'it is not followed' test -z "$(ls elsewhere)" -a ! -e second/a
 rmdir elsewhere
 

@@ -89,6 +89,19 @@ total 3 done 2 skipped 0 failed 1 blocked 0" ] && [ "$(cat second/ok)" = a ]; th
   else
     bad "an archive that can't be written: status $got, $(cat ../err)"
   fi
+  # a .twosync that another user made keeps this one out, and so does a folder in which none can be made: the path says why
+  own 'mkdir closed && chmod 555 closed'
+  others=(closed)
+  [ "$(id -u)" != 0 ] || { mkdir -m 700 second/.twosync && others+=(second); }
+  for other in "${others[@]}"; do
+    "${as[@]}" "$program" sync first $other archive >../out 2>../err
+    got=$?
+    if [ "$got" = 3 ] && [ "$(cat ../err)" = 'twosync: fault 5 /.twosync' ] && [ ! -s ../out ] && [ ! -e first/.twosync ] && [ ! -e archive ]; then
+      ok
+    else
+      bad ".twosync can't be used in $other: status $got, $(cat ../err)"
+    fi
+  done
   cd ..
 else
   echo 'skipped: no other user to run as, so what must not be read or written is not tried'
