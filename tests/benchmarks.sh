@@ -5,17 +5,16 @@
 # Then measures how long 1, 2 and 4 workers take to copy 262,144 new files in memory, with the speed-up over 1 worker, and
 # how much of it came after the last actions had begun: the end of the workers, the sweep and the outcome. Each is the
 # least of five runs, taken in turn.
-# usage: tests/benchmarks.sh [PROGRAM [PROGRAM_THAT_CARRIES_OUT]]
+# usage: tests/benchmarks.sh [PROGRAM]
 set -u
 cd "$(dirname "$0")/.."
 . tests/program.sh
-program=$(program_of text_benchmark "${1:-}") || exit 1
-runner=$(program_of run_benchmark "${2:-}") || exit 1
+program=$(program_of benchmarks "${1:-}") || exit 1
 
 # Runs the program five times at a size with so many lines for each path or action, and prints a row of numbers:
 # size, lines, bytes, least milliseconds of writing and of reading, KiB
 measure() {
-  for _ in 1 2 3 4 5; do "$program" "$1" "$2"; done | awk -v size="$2" -v quarters="$3" '
+  for _ in 1 2 3 4 5; do "$program" text "$1" "$2"; done | awk -v size="$2" -v quarters="$3" '
     /alike$/ { bytes = $2 }
     /^written/ { if (!runs++ || $3 < written) written = $3; if (runs == 1 || $7 < read) read = $7 }
     /^held/ { held = $2 }
@@ -47,7 +46,7 @@ both archive 50000 200000 4
 both plan 262144 1048576 21
 
 for _ in 1 2 3 4 5; do
-  for workers in 1 2 4; do "$runner" 262144 "$workers"; done
+  for workers in 1 2 4; do "$program" run 262144 "$workers"; done
 done | awk '
   /actions, done$/ { actions = $1 }
   /^by/ { if (!($2 in least) || $5 < least[$2]) { least[$2] = $5; after[$2] = $7 } }

@@ -7,7 +7,7 @@
 set -u
 cd "$(dirname "$0")/.."
 . tests/program.sh
-program=$(program_of scan_benchmark "${1:-}") || exit 1
+program=$(program_of benchmarks "${1:-}") || exit 1
 top=$(mktemp -d)
 trap 'rm -rf "$top"' EXIT
 echo "processors: $(nproc), load before: $(cut -d' ' -f1 /proc/loadavg)"
@@ -49,7 +49,7 @@ measure() {
   for _ in 1 2 3 4 5; do
     clock sums sums "$folder" "$at_once"
     for workers in 1 2 4; do
-      clock "$workers" "$program" "$folder" "$workers"
+      clock "$workers" "$program" scan "$folder" "$workers"
       sed "s/^/said $workers /" "$top/said"
     done
   done | awk -v name="$(basename "$folder")" '

@@ -1,16 +1,13 @@
 //! Checks two large plans. The first copies many new files of two pieces each, side by side. The second copies many new
-//! files of one piece out of a directory that stands deep below new ones. Without an argument it checks small plans of both
-//! kinds; after the word `wide` or `deep` comes a number of files, and then it also says how long that took and how much
-//! memory.
-#![tactic(auto)]
+//! files of one piece out of a directory that stands deep below new ones. Without words it checks small plans of both kinds;
+//! after the word `wide` or `deep` comes a number of files, and then it also says how long that took and how much memory.
 
-ghost use Rattle.std.specs.Prelude.{◌≡◌, ◌-◌, None, Some, IfNone, IfSome};
-
+use crate::memory::{held, more};
+use crate::words::number;
 use anyhow::{Context, Result, bail};
 use std::alloc::Global;
-use std::rt::{Clock, Env, Files};
+use std::rt::{Clock, Files};
 use std::time::{Duration, Instant};
-use std::{env, fs};
 use ts_check::{CheckFault, Checked, check};
 use ts_hold::Holds;
 use ts_model::items::Items;
@@ -160,25 +157,6 @@ struct Measured {
     held: Option<u64>,
 }
 
-/// How many KiB the process holds, where the system tells it.
-fn held<R: Files + AllocGlobal>(rt: &R) -> Option<u64> {
-    let status = fs::read_to_string(rt, "/proc/self/status").ok()?;
-    let line = status
-        .as_str()
-        .lines()
-        .find(|line| line.starts_with("VmRSS:"))?;
-    line.split_whitespace().nth(1)?.parse::<u64>().ok()
-}
-
-/// How many KiB more there are now, where both are told; 0 where there are fewer.
-fn more(before: Option<u64>, after: Option<u64>) -> Option<u64>
-    ensures both { IfSome before (λ b. IfSome after (λ a. result ≡ Some (a - b))) }
-    ensures no_before { IfNone before (result ≡ None) }
-    ensures no_after { IfNone after (result ≡ None) }
-{
-    Some(after?.saturating_sub(before?))
-}
-
 /// How many actions a plan has, which has to be valid.
 fn actions_of(answer: Result<Checked<'_>, CheckFault>) -> Result<u32> {
     match answer {
@@ -211,32 +189,6 @@ fn judge<R: Clock + Files + AllocGlobal>(rt: &R, work: &Work) -> Result<Measured
         took: took?,
         held: more(before, after),
     })
-}
-
-/// What is asked for.
-#[derive(Drop)]
-enum Asked {
-    /// A few of both kinds.
-    Nothing,
-    Wide(u32),
-    Deep(u32),
-}
-
-/// What the words ask for.
-fn wanted<R: Env + AllocGlobal>(rt: &R) -> Result<Asked> {
-    let mut words = env::args(rt)?.skip(1);
-    let Some(kind) = words.next() else {
-        return Ok(Asked::Nothing);
-    };
-    let Some(number) = words.next() else {
-        bail!("a number is missing");
-    };
-    let number = number.as_str().parse::<u32>().context("reading a number")?;
-    match kind.as_str() {
-        "wide" => Ok(Asked::Wide(number)),
-        "deep" => Ok(Asked::Deep(number)),
-        _ => bail!("neither wide nor deep"),
-    }
 }
 
 /// Says what was checked, and in one more line, where it is asked for, what it took.
@@ -273,13 +225,19 @@ where
     tell(rt, "in a chain", &measured, is_asked)
 }
 
-fn main(rt: HostRuntime) -> Result<()> {
-    match wanted(&rt)? {
-        Asked::Nothing => {
-            judge_wide(&rt, FEW, false)?;
-            judge_deep(&rt, FEW, false)
-        }
-        Asked::Wide(count) => judge_wide(&rt, count, true),
-        Asked::Deep(count) => judge_deep(&rt, count, true),
+/// Checks the plan that the words name, or small ones of both kinds.
+pub fn measure<R>(rt: &R, words: &[String]) -> Result<()>
+where
+    R: Clock + Files + Print + AllocGlobal,
+{
+    let Some(kind) = words.first() else {
+        judge_wide(rt, FEW, false)?;
+        return judge_deep(rt, FEW, false);
+    };
+    let count = number(words, 1)?;
+    match kind.as_str() {
+        "wide" => judge_wide(rt, count, true),
+        "deep" => judge_deep(rt, count, true),
+        _ => bail!("neither wide nor deep"),
     }
 }

@@ -1,22 +1,20 @@
-//! Writes and reads large texts: the archive of many paths, and plans with four predecessors for each action. Without
-//! an argument it does a few of each and says what it found; after the word `archive` or `plan` comes a number of
-//! paths or of actions, and then it also says how long that took and how much memory.
-#![tactic(auto)]
+//! Writes and reads large texts: the archive of many paths, and plans with four predecessors for each action. Without words
+//! it does a few of each and says what it found; after the word `archive` or `plan` comes a number of paths or of actions,
+//! and then it also says how long that took and how much memory.
 
-use anyhow::{Context, Result, bail};
+use crate::memory::{held, more};
+use crate::paths::line_at;
+use crate::words::number;
+use anyhow::{Result, bail};
 use std::alloc::Global;
-use std::rt::{Clock, Env, Files};
+use std::rt::{Clock, Files};
 use std::time::{Duration, Instant};
-use std::{env, fs};
 use ts_name::Path;
 use ts_print::PrintReader;
 use ts_text::{Counted, Lines};
 
 /// How many paths and actions there are where no number is given.
 const FEW: u32 = 2_000;
-
-/// How many paths a directory takes up, its own among them.
-const IN_ONE: u32 = 50;
 
 /// How many actions there are for one entry.
 const FOR_ONE_ENTRY: u32 = 4;
@@ -32,16 +30,11 @@ struct Measured {
     held: Option<u64>,
 }
 
-/// A print of so many paths: directories of 49 files each.
+/// A print of so many paths.
 fn print_of(alloc: Global, paths: u32) -> Result<ts_print::Print> {
     let mut reader = PrintReader::new(alloc);
     for number in 0..paths {
-        let (dir, file) = (number / IN_ONE, number % IN_ONE);
-        let line = if file == 0 {
-            format!(in alloc; "d /directory{dir:08}")?
-        } else {
-            format!(in alloc; "f /directory{dir:08}/file{file:02} 1000 {number:064}")?
-        };
+        let line = line_at(alloc, number, number)?;
         reader.line(alloc, line.as_bytes())?;
     }
     Ok(reader.finish()?)
@@ -64,21 +57,6 @@ fn plan_text(alloc: Global, actions: u32) -> Result<Vec<u8>> {
     let end = format!(in alloc; "end {entries} {actions}\n")?;
     text.extend_from_slice(end.as_bytes())?;
     Ok(text)
-}
-
-/// How many KiB the process holds, where the system tells it.
-fn held<R: Files + AllocGlobal>(rt: &R) -> Option<u64> {
-    let status = fs::read_to_string(rt, "/proc/self/status").ok()?;
-    let line = status
-        .as_str()
-        .lines()
-        .find(|line| line.starts_with("VmRSS:"))?;
-    line.split_whitespace().nth(1)?.parse::<u64>().ok()
-}
-
-/// How many KiB more there are now.
-fn more(before: Option<u64>, after: Option<u64>) -> Option<u64> {
-    Some(after?.saturating_sub(before?))
 }
 
 /// The text of an archive, and how long writing it took.
@@ -167,32 +145,6 @@ fn plan<R: Clock + Files + AllocGlobal>(rt: &R, actions: u32) -> Result<Measured
     })
 }
 
-/// What is asked for.
-#[derive(Drop)]
-enum Asked {
-    /// A few of each.
-    Nothing,
-    Archive(u32),
-    Plan(u32),
-}
-
-/// What the words ask for.
-fn wanted<R: Env + AllocGlobal>(rt: &R) -> Result<Asked> {
-    let mut words = env::args(rt)?.skip(1);
-    let Some(kind) = words.next() else {
-        return Ok(Asked::Nothing);
-    };
-    let Some(number) = words.next() else {
-        bail!("a number is missing");
-    };
-    let number = number.as_str().parse::<u32>().context("reading a number")?;
-    match kind.as_str() {
-        "archive" => Ok(Asked::Archive(number)),
-        "plan" => Ok(Asked::Plan(number)),
-        _ => bail!("neither archive nor plan"),
-    }
-}
-
 /// Says what was found, and in one more line, where it is asked for, what it took.
 fn tell(rt: &impl Print, title: &str, measured: &Measured, is_asked: bool) -> Result<()> {
     let verdict = if measured.is_same {
@@ -212,13 +164,19 @@ fn tell(rt: &impl Print, title: &str, measured: &Measured, is_asked: bool) -> Re
     Ok(())
 }
 
-fn main(rt: HostRuntime) -> Result<()> {
-    match wanted(&rt)? {
-        Asked::Nothing => {
-            tell(&rt, "archive", &archive(&rt, FEW)?, false)?;
-            tell(&rt, "plan", &plan(&rt, FEW)?, false)
-        }
-        Asked::Archive(paths) => tell(&rt, "archive", &archive(&rt, paths)?, true),
-        Asked::Plan(actions) => tell(&rt, "plan", &plan(&rt, actions)?, true),
+/// Writes and reads the text that the words name, or a few of each.
+pub fn measure<R>(rt: &R, words: &[String]) -> Result<()>
+where
+    R: Clock + Files + Print + AllocGlobal,
+{
+    let Some(kind) = words.first() else {
+        tell(rt, "archive", &archive(rt, FEW)?, false)?;
+        return tell(rt, "plan", &plan(rt, FEW)?, false);
+    };
+    let number = number(words, 1)?;
+    match kind.as_str() {
+        "archive" => tell(rt, "archive", &archive(rt, number)?, true),
+        "plan" => tell(rt, "plan", &plan(rt, number)?, true),
+        _ => bail!("neither archive nor plan"),
     }
 }

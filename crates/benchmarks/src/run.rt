@@ -2,16 +2,14 @@
 //! one, by 2 workers. After the number of files comes the number of workers, from 1 to 64, and then it also says how long
 //! that took, and how long it went on after one of the last actions had begun: workers end, the sweep looks at each action,
 //! and the outcome is made.
-#![tactic(auto)]
 
 ghost use Rattle.std.specs.Prelude.{◌≤◌};
 
-mod watch;
-
-use anyhow::{Context, Result, bail, ensure};
+use crate::watch::Watch;
+use crate::words::{Workers, number, worker_count};
+use anyhow::{Result, bail, ensure};
 use std::alloc::Global;
-use std::env;
-use std::rt::{Clock, Env};
+use std::rt::Clock;
 use std::thread::Threads;
 use std::time::Instant;
 use ts_check::{Checked, check};
@@ -22,7 +20,6 @@ use ts_model::plan::{Kind, Plan};
 use ts_resume::resume;
 use ts_site::MemSite;
 use ts_tree::{SubTree, Tree, TreeReader};
-use watch::Watch;
 
 /// How many files there are where no number is given.
 const FEW: u32 = 500;
@@ -34,9 +31,7 @@ const NOTED: u32 = 100;
 #[derive(Clone, Copy)]
 struct Asked {
     files: u32,
-    workers: u32,
-    ghost some: { 1 ≤ workers },
-    ghost few: { workers ≤ 64 },
+    workers: Workers,
 }
 
 /// What a run took, in microseconds.
@@ -48,20 +43,12 @@ struct Took {
 }
 
 /// What the words ask for, if there are any.
-fn wanted<R: Env + AllocGlobal>(rt: &R) -> Result<Option<Asked>> {
-    let mut words = env::args(rt)?.skip(1);
-    let Some(files) = words.next() else {
+fn wanted(words: &[String]) -> Result<Option<Asked>> {
+    if words.is_empty() {
         return Ok(None);
-    };
-    let files = files.as_str().parse::<u32>().context("reading a number")?;
-    let workers = words.next().context("the number of workers is missing")?;
-    let workers = workers
-        .as_str()
-        .parse::<u32>()
-        .context("reading the number of workers")?;
-    if workers < 1 || workers > 64 {
-        bail!("from 1 to 64 workers");
     }
+    let files = number(words, 0)?;
+    let workers = worker_count(words, 1)?;
     Ok(Some(Asked { files, workers }))
 }
 
@@ -121,7 +108,7 @@ where
 }
 
 /// Plans, checks and carries out. Answers how many actions there are, and what carrying them out took.
-fn measure<R>(rt: &R, asked: Asked) -> Result<(u32, Took)>
+fn plan_and_carry_out<R>(rt: &R, asked: Asked) -> Result<(u32, Took)>
 where
     R: Clock + Threads + AllocGlobal + Sync,
 {
@@ -132,21 +119,25 @@ where
     let holds = Holds::none(alloc);
     let plan = resume(alloc, &none, &print, &none, &holds)?;
     let checked = check(alloc, &plan, &none, &print, &none, &holds)?;
-    let took = carry_out(rt, &checked, first, asked.workers)?;
+    let took = carry_out(rt, &checked, first, asked.workers.count)?;
     Ok((checked.action_count(), took))
 }
 
-fn main(rt: HostRuntime) -> Result<()> {
+/// Carries out what the words ask for, or a small plan.
+pub fn measure<R>(rt: &R, words: &[String]) -> Result<()>
+where
+    R: Clock + Threads + Print + AllocGlobal + Sync,
+{
     let few = Asked {
         files: FEW,
-        workers: 2,
+        workers: Workers { count: 2 },
     };
-    let asked = wanted(&rt)?;
-    let (actions, took) = measure(&rt, asked.unwrap_or(few))?;
+    let asked = wanted(words)?;
+    let (actions, took) = plan_and_carry_out(rt, asked.unwrap_or(few))?;
     println!(rt; "{actions} actions, done")?;
     if let Some(asked) = asked {
         let Took { all, after } = took;
-        let workers = asked.workers;
+        let workers = asked.workers.count;
         println!(rt; "by {workers} workers in {all} us, {after} us of them after the last began")?;
     }
     Ok(())
