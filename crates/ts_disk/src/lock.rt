@@ -2,6 +2,7 @@
 use crate::fault::DiskFault;
 use crate::modes::PRIVATE_FILE;
 use crate::place::{Standing, is_same, look_at, make_own, mark_used, own_place};
+use crate::plan_file::holds_plan;
 use std::alloc::Global;
 use std::fs::{File, Files, OpenOptions, TryLockError};
 use std::io::ErrorKind;
@@ -19,6 +20,7 @@ pub struct Lock {
     place: String,
     own: String,
     took_part: bool,
+    was_stopped: bool,
 }
 
 impl Lock {
@@ -26,6 +28,11 @@ impl Lock {
     /// was stopped before it came so far.
     pub fn took_part(&self) -> bool {
         self.took_part
+    }
+
+    /// Whether a run into the replica was stopped: it had a plan when it was locked.
+    pub fn was_stopped(&self) -> bool {
+        self.was_stopped
     }
 
     /// Whether the lock's file still lies in its place: else the replica went away, as where its disk is no longer mounted.
@@ -65,9 +72,8 @@ pub fn take_lock<R: Files<File = File>>(
     alloc: Global,
     root: &str,
 ) -> Result<Option<Lock>, DiskFault> {
-    match fs::metadata(files, root) {
-        Ok(metadata) if metadata.is_dir() => {}
-        _ => return Ok(None),
+    if !is_directory(files, root)? {
+        return Ok(None);
     }
     let own = own_place(alloc, root)?;
     let place = format!(in alloc; "{own}/lock")?;
@@ -77,16 +83,30 @@ pub fn take_lock<R: Files<File = File>>(
             Standing::Nothing | Standing::File | Standing::CutOff => {}
             Standing::Dir | Standing::Other => return Err(DiskFault::Own),
         }
+        let was_stopped = holds_plan(files, alloc, root)?;
         if let Some(file) = open_locked(files, place.as_str())? {
             return Ok(Some(Lock {
                 file,
                 place,
                 own,
                 took_part,
+                was_stopped,
             }));
         }
     }
     Err(DiskFault::Own)
+}
+
+/// Whether a root is a directory, or a link to one. What can't be looked at may be one.
+fn is_directory<R: Files>(files: &R, root: &str) -> Result<bool, DiskFault> {
+    match fs::metadata(files, root) {
+        Ok(metadata) => Ok(metadata.is_dir()),
+        Err(e) => match e.kind() {
+            ErrorKind::NotFound | ErrorKind::NotADirectory => Ok(false),
+            ErrorKind::OutOfMemory => Err(DiskFault::OutOfMemory),
+            _ => Err(DiskFault::Failed),
+        },
+    }
 }
 
 /// Opens the file at a place, which is made where it isn't there, and locks it. None where its directory isn't there.

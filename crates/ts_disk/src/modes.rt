@@ -1,6 +1,7 @@
 //! Permissions of what is put in place.
 use crate::place::{Standing, kind_of, metadata_at};
 use std::fs::{Files, Metadata};
+use std::io;
 use std::os::unix::fs::MetadataExt;
 
 /// The bits of a mode that say who may read, write and run. Those that change who a program runs as are never copied.
@@ -18,9 +19,13 @@ pub(crate) fn permissions(metadata: &Metadata) -> u32 {
 }
 
 /// The permission bits of what stands at a place, if it is of this kind.
-pub(crate) fn permissions_at<R: Files>(files: &R, place: &str, kind: Standing) -> Option<u32> {
-    match metadata_at(files, place) {
-        Ok(Some(metadata)) if kind_of(metadata.file_type()) == kind => Some(permissions(&metadata)),
+pub(crate) fn permissions_at<R: Files>(
+    files: &R,
+    place: &str,
+    kind: Standing,
+) -> io::Result<Option<u32>> {
+    Ok(match metadata_at(files, place)? {
+        Some(metadata) if kind_of(metadata.file_type()) == kind => Some(permissions(&metadata)),
         _ => None,
-    }
+    })
 }

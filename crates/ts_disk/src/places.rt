@@ -20,6 +20,11 @@ use ts_model::row::Row;
 use ts_name::Path;
 use ts_swap::{Failed, Places, Spot, recover};
 
+/// How the names begin of what is kept until the run ends, of what lay aside and of what others made of a new tree.
+pub(crate) const KEPT: &str = "kept-";
+
+pub(crate) const MADE: &str = "made-";
+
 /// How many names are tried for what is put out of the way.
 const NAMES_TRIED: u32 = 1_000_000;
 
@@ -36,6 +41,7 @@ pub struct DiskPlaces<R> {
     at_target: String,
     at_new: String,
     at_old: String,
+    entry: u32,
     failures: u64,
     // something couldn't be removed, and was put out of the way
     has_trash: bool,
@@ -67,6 +73,7 @@ impl<R: Drop> DiskPlaces<R> {
             at_target,
             at_new,
             at_old,
+            entry,
             failures: 0,
             has_trash: false,
         })
@@ -195,19 +202,51 @@ impl<R: Files + AllocGlobal + Clone + Drop> DiskPlaces<R> {
         self.move_to_free(spot, "left")
     }
 
+    /// Keeps what stands at the old or the new spot for now, as `.twosync/kept-K` or `.twosync/made-K` for entry `K`. When the
+    /// run ends, or by recovery, it becomes a `left-N`, and that is reported with the entry's path.
+    pub(crate) fn keep_for_notice(&self, spot: Spot) -> io::Result<()> {
+        let alloc = self.files.alloc();
+        let (own, entry) = (self.own.as_str(), self.entry);
+        let stem = if spot == Spot::New { MADE } else { KEPT };
+        let place = format!(in alloc; "{own}/{stem}{entry}")?;
+        match kind_at(&self.files, place.as_str())? {
+            Standing::Nothing => fs::rename(&self.files, self.place(spot), place.as_str()),
+            _ => {
+                let _place = self.keep(spot)?;
+                Ok(())
+            }
+        }
+    }
+
+    /// Keeps what was kept for now under this name, and answers where that is.
+    pub(crate) fn keep_named(&self, name: &str) -> io::Result<String> {
+        let own = self.own.as_str();
+        let place = format!(in self.files.alloc(); "{own}/{name}")?;
+        self.move_from(place.as_str(), "left")
+    }
+
+    /// Removes the name that the target still has at a spot, where both are one file. Answers whether it did.
+    pub(crate) fn drop_name(&self, spot: Spot) -> bool {
+        let (target, other) = (self.place(Spot::Target), self.place(spot));
+        are_one(&self.files, target, other).unwrap_or(false)
+            && fs::remove_file(&self.files, other).is_ok()
+    }
+
     /// Moves what stands at a spot to the first name `STEM-N` in the program's own directory that is free.
     fn move_to_free(&self, spot: Spot, stem: &str) -> io::Result<String> {
+        self.move_from(self.place(spot), stem)
+    }
+
+    /// Moves what stands at a place in the program's own directory to the first name `STEM-N` there that is free. Nobody else
+    /// works there, so what is free stays free.
+    fn move_from(&self, place: &str, stem: &str) -> io::Result<String> {
         let alloc = self.files.alloc();
-        let standing = self.look(spot)?;
         for number in 0..NAMES_TRIED {
             let own = self.own.as_str();
             let free = format!(in alloc; "{own}/{stem}-{number}")?;
             if kind_at(&self.files, free.as_str())? == Standing::Nothing {
-                match move_anew(&self.files, self.place(spot), standing, free.as_str()) {
-                    Ok(()) => return Ok(free),
-                    Err(e) if is_taken(&e) => {}
-                    Err(e) => return Err(e),
-                }
+                fs::rename(&self.files, place, free.as_str())?;
+                return Ok(free);
             }
         }
         Err(io::Error::from(ErrorKind::AlreadyExists))
@@ -229,6 +268,13 @@ impl<R: Files + AllocGlobal + Clone + Drop> DiskPlaces<R> {
             None if self.has_trash => Aside::Discarded,
             None => Aside::Cleared,
         })
+    }
+
+    /// Brings the swap to an end, but for an original that can't go back: it stays aside until the run ends, and is reported.
+    pub(crate) fn end_unless_stranded(&mut self) {
+        if let Ok(false) = self.is_old_stranded() {
+            let _ = recover(self);
+        }
     }
 
     /// Whether the original lies aside and can't go back to its place.

@@ -20,8 +20,8 @@ fn plan_place(alloc: Global, root: &str) -> Result<String, DiskFault> {
 }
 
 /// Writes the plan to `.twosync/plan` in a replica's root, in place of the file that is there: first whole under another name,
-/// `.twosync/plan.new`. It has reached the device when the call ends. After a fault there may be a beginning of it under that
-/// other name.
+/// `.twosync/plan.new`. It has reached the device when the call ends. After a fault nothing is left under that other name, where it
+/// can be removed.
 pub fn save_plan<R: Files>(
     files: &R,
     alloc: Global,
@@ -35,9 +35,25 @@ pub fn save_plan<R: Files>(
     let place = plan_place(alloc, root)?;
     let new = format!(in alloc; "{place}.new")?;
     remove_at(files, new.as_str()).map_err(|_| DiskFault::Failed)?;
-    write_plan(files, alloc, new.as_str(), plan)?;
-    fs::rename(files, new.as_str(), place.as_str()).map_err(|_| DiskFault::Failed)?;
+    let saved = match write_plan(files, alloc, new.as_str(), plan) {
+        Ok(()) => { fs::rename(files, new.as_str(), place.as_str()).map_err(|_| DiskFault::Failed) }
+        Err(fault) => Err(fault),
+    };
+    if saved.is_err() {
+        let _ = remove_at(files, new.as_str());
+    }
+    saved?;
     flush_dir(files, own.as_str()).map_err(|_| DiskFault::Failed)
+}
+
+/// Whether a plan file lies in a replica.
+pub(crate) fn holds_plan<R: Files>(
+    files: &R,
+    alloc: Global,
+    root: &str,
+) -> Result<bool, DiskFault> {
+    let place = plan_place(alloc, root)?;
+    Ok(kind_at(files, place.as_str()).map_err(|_| DiskFault::Own)? == Standing::File)
 }
 
 /// Writes a plan where nothing is, and waits until it has reached the device.

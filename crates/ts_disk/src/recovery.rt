@@ -10,7 +10,7 @@ use crate::fault::DiskFault;
 use crate::leftover::{Aside, remove_trash};
 use crate::notice::Notice;
 use crate::place::{Standing, look_at, own_place};
-use crate::places::DiskPlaces;
+use crate::places::{DiskPlaces, KEPT, MADE};
 use crate::plan_file::{read_plan, remove_plan};
 use crate::replica::Replica;
 use std::alloc::Global;
@@ -18,6 +18,7 @@ use std::fs;
 use std::fs::Files;
 use std::io::ErrorKind;
 use ts_model::plan::{Entry, Plan, Side};
+use ts_name::Path;
 
 /// Looks whether the plan in a replica explains what a stopped run left there: each spot that is taken belongs to an entry of
 /// it that is copied. Nothing is changed.
@@ -29,7 +30,7 @@ pub fn check_leftovers<R: Files + AllocGlobal + Clone + Drop>(
     alloc: Global,
     root: &str,
 ) -> Result<(), DiskFault> {
-    let taken = taken_spots(files, alloc, root)?;
+    let taken = taken_spots(alloc, &own_names(files, alloc, root)?)?;
     if taken.is_empty() {
         return Ok(());
     }
@@ -94,10 +95,18 @@ fn end_swaps<R: Files + AllocGlobal + Clone + Drop>(
     notices: &mut Vec<Notice>,
 ) -> Result<(), DiskFault> {
     let mut ended: Result<(), DiskFault> = Ok(());
+    let names = own_names(files, alloc, root)?;
     // Recovery does nothing where neither spot of a swap is taken, and both lie in the program's own directory: so those
     // entries are enough of which a listing of it tells a spot.
-    for number in &taken_spots(files, alloc, root)? {
+    for number in &taken_spots(alloc, &names)? {
         match end_swap(files, alloc, root, plan, *number, into) {
+            Ok(Some(notice)) => notices.push(notice)?,
+            Ok(None) => {}
+            Err(fault) => ended = Err(fault),
+        }
+    }
+    for name in &names {
+        match end_keeping(files, alloc, root, plan, name.as_str(), into) {
             Ok(Some(notice)) => notices.push(notice)?,
             Ok(None) => {}
             Err(fault) => ended = Err(fault),
@@ -119,33 +128,49 @@ fn copied_entry(plan: &Plan, number: u32, into: Option<Side>) -> Option<&Entry>
     }
 }
 
-/// The numbers of the new and old spots that lie in the program's own directory of a replica, one for each spot.
-fn taken_spots<R: Files + AllocGlobal + Clone + Drop>(
+/// The names in the program's own directory of a replica.
+fn own_names<R: Files + AllocGlobal + Clone + Drop>(
     files: &R,
     alloc: Global,
     root: &str,
-) -> Result<Vec<u32>, DiskFault> {
-    let mut numbers = Vec::new(alloc);
+) -> Result<Vec<String>, DiskFault> {
+    let mut names = Vec::new(alloc);
     let own = own_place(alloc, root)?;
     match look_at(files, own.as_str(), root.len()).map_err(|_| DiskFault::Device)? {
         Standing::Dir => {}
         Standing::Nothing | Standing::CutOff | Standing::File | Standing::Other => {
-            return Ok(numbers);
+            return Ok(names);
         }
     }
     for found in fs::read_dir(files, own.as_str()).map_err(|_| DiskFault::Device)? {
         match found {
-            Ok(found) => {
-                if let Some(number) = spot_number(found.file_name()) {
-                    numbers.push(number)?;
-                }
-            }
-            // no spot has a name that isn't text
+            Ok(found) => names.push(String::from_str(alloc, found.file_name())?)?,
+            // none of the program's own has a name that isn't text
             Err(e) if e.kind() == ErrorKind::InvalidFilename => {}
             Err(_) => return Err(DiskFault::Device),
         }
     }
-    Ok(numbers)
+    Ok(names)
+}
+
+/// The numbers of the entries whose new or old spots are among some names, each once, in order.
+fn taken_spots(alloc: Global, names: &[String]) -> Result<Vec<u32>, DiskFault> {
+    let mut numbers = Vec::new(alloc);
+    for name in names {
+        if let Some(number) = spot_number(name.as_str()) {
+            numbers.push(number)?;
+        }
+    }
+    numbers.sort_unstable_by(|one: &u32, other: &u32| one.cmp(other));
+    let mut spots = Vec::new(alloc);
+    let mut last = None;
+    for number in &numbers {
+        if last != Some(*number) {
+            spots.push(*number)?;
+            last = Some(*number);
+        }
+    }
+    Ok(spots)
 }
 
 /// The number of the entry whose new or old spot has this name.
@@ -153,6 +178,15 @@ fn spot_number(name: &str) -> Option<u32> {
     let digits = match name.strip_prefix("new-") {
         Some(digits) => digits,
         None => name.strip_prefix("old-")?,
+    };
+    digits.parse().ok()
+}
+
+/// The number of the entry of which something is kept under this name until the run ends.
+fn kept_number(name: &str) -> Option<u32> {
+    let digits = match name.strip_prefix(KEPT) {
+        Some(digits) => digits,
+        None => name.strip_prefix(MADE)?,
     };
     digits.parse().ok()
 }
@@ -166,13 +200,7 @@ fn end_swap<R: Files + AllocGlobal + Clone + Drop>(
     number: u32,
     into: Option<Side>,
 ) -> Result<Option<Notice>, DiskFault> {
-    let Some(entry) = copied_entry(plan, number, into) else {
-        return Ok(None);
-    };
-    // first, so that nothing is moved of which then nothing can be said
-    let path = entry.path.copy(alloc).map_err(|_| DiskFault::OutOfMemory)?;
-    let files = files.clone().map_err(|_| DiskFault::OutOfMemory)?;
-    let Some(mut places) = own_spots(files, alloc, root, plan, number, into)? else {
+    let Some((path, mut places)) = entry_spots(files, alloc, root, plan, number, into)? else {
         return Ok(None);
     };
     match places.end() {
@@ -180,6 +208,48 @@ fn end_swap<R: Files + AllocGlobal + Clone + Drop>(
         Ok(Aside::Discarded) => Ok(Some(Notice::Discarded { path })),
         Ok(Aside::Kept { place }) => Ok(Some(Notice::Kept { path, place })),
         Err(_) => Err(DiskFault::Device),
+    }
+}
+
+/// Keeps for good what a commit kept under this name, if it is of an entry that is copied into the replica.
+fn end_keeping<R: Files + AllocGlobal + Clone + Drop>(
+    files: &R,
+    alloc: Global,
+    root: &str,
+    plan: &Plan,
+    name: &str,
+    into: Option<Side>,
+) -> Result<Option<Notice>, DiskFault> {
+    let Some(number) = kept_number(name) else {
+        return Ok(None);
+    };
+    let Some((path, places)) = entry_spots(files, alloc, root, plan, number, into)? else {
+        return Ok(None);
+    };
+    match places.keep_named(name) {
+        Ok(place) => Ok(Some(Notice::Kept { path, place })),
+        Err(_) => Err(DiskFault::Device),
+    }
+}
+
+/// The path of the entry of this number and the spots of its swap, if that entry is copied into the replica.
+fn entry_spots<R: Files + AllocGlobal + Clone + Drop>(
+    files: &R,
+    alloc: Global,
+    root: &str,
+    plan: &Plan,
+    number: u32,
+    into: Option<Side>,
+) -> Result<Option<(Path, DiskPlaces<R>)>, DiskFault> {
+    let Some(entry) = copied_entry(plan, number, into) else {
+        return Ok(None);
+    };
+    // first, so that nothing is moved of which then nothing can be said
+    let path = entry.path.copy(alloc).map_err(|_| DiskFault::OutOfMemory)?;
+    let files = files.clone().map_err(|_| DiskFault::OutOfMemory)?;
+    match own_spots(files, alloc, root, plan, number, into)? {
+        Some(places) => Ok(Some((path, places))),
+        None => Ok(None),
     }
 }
 

@@ -79,18 +79,18 @@ impl<'a> Replacement<'a> {
     }
 
     /// Where the permission bits of the new tree come from.
-    fn bits(&self) -> Bits<'a> {
+    fn bits(&self) -> io::Result<Bits<'a>> {
         let target = self.places.place(Spot::Target);
-        Bits {
-            kept: permissions_at(&self.places.files, target, Standing::File),
+        Ok(Bits {
+            kept: permissions_at(&self.places.files, target, Standing::File)?,
             source: Some(self.source),
-        }
+        })
     }
 
     /// Writes the new tree.
     fn write_new(&self, tree: &[Row<Items<u8>>]) -> io::Result<()> {
         self.places.make_own()?;
-        let bits = self.bits();
+        let bits = self.bits()?;
         write_tree(
             &self.places.files,
             tree,
@@ -120,9 +120,7 @@ impl<'a> Replacement<'a> {
             Ok(false) => Refusal::Changed,
             Err(_) => Refusal::Device,
         };
-        if self.places.move_over(Spot::Old, Spot::Target).is_err() {
-            let _ = self.places.keep(Spot::Old);
-        }
+        let _is_settled = self.go_back();
         Err(self.refuse(refusal))
     }
 
@@ -174,11 +172,23 @@ impl<'a> Replacement<'a> {
     fn remove_aside(&mut self) -> io::Result<()>
         ensures { self.new.places.failures ≡ self.old.places.failures }
     {
-        if self.is_untouched().unwrap_or(false) {
-            self.places.clear(Spot::Old)
-        } else {
-            self.is_late = true;
-            Err(self.refuse(Refusal::Changed))
+        let refusal = match self.is_untouched() {
+            Ok(true) => return self.places.clear(Spot::Old),
+            Ok(false) => Refusal::Changed,
+            Err(_) => Refusal::Device,
+        };
+        self.is_late = true;
+        Err(self.refuse(refusal))
+    }
+
+    /// Removes the new tree, unless the original still lies aside: as long as the new tree is there, recovery knows that the
+    /// original has to go back.
+    fn remove_new(&self) -> io::Result<()> {
+        match self.places.look(Spot::Old)? {
+            Standing::Nothing | Standing::CutOff => self.places.clear(Spot::New),
+            Standing::Dir | Standing::File | Standing::Other => {
+                Err(io::Error::from(ErrorKind::AlreadyExists))
+            }
         }
     }
 
@@ -189,7 +199,7 @@ impl<'a> Replacement<'a> {
         if replaced.is_ok() {
             if self.is_late {
                 self.put_back();
-                return Err(SiteFault::Changed);
+                return Err(fault_of(self.refusal.unwrap_or(Refusal::Changed)));
             }
             // what was to be removed was gone before
             if self.is_aside == self.before.rows().is_empty() {
@@ -204,7 +214,7 @@ impl<'a> Replacement<'a> {
                 Err(fault_of(refusal))
             }
             None => {
-                let _ = self.places.end();
+                self.places.end_unless_stranded();
                 Err(SiteFault::Device)
             }
         }
@@ -212,9 +222,10 @@ impl<'a> Replacement<'a> {
 
     /// Gives a directory that was put in place the permission bits that it couldn't be moved with.
     fn close_top(&self) {
-        let bits = self.bits();
-        let target = self.places.place(Spot::Target);
-        let _ = close_top(&self.places.files, self.staged.rows(), target, &bits);
+        if let Ok(bits) = self.bits() {
+            let target = self.places.place(Spot::Target);
+            let _ = close_top(&self.places.files, self.staged.rows(), target, &bits);
+        }
     }
 
     /// Puts back what was changed aside after the new tree was put in place, unless others have taken the target by then. What
@@ -226,27 +237,42 @@ impl<'a> Replacement<'a> {
             && self.places.move_over(Spot::Target, Spot::New).is_ok();
         let is_free = is_gone || is_ours;
         if !is_free || self.places.move_over(Spot::Old, Spot::Target).is_err() {
-            let _ = self.places.keep(Spot::Old);
+            let _ = self.places.keep_for_notice(Spot::Old);
         }
         if is_ours {
             if self.is_as_staged(Spot::New) {
                 let _ = self.places.clear(Spot::New);
             } else {
-                let _ = self.places.keep(Spot::New);
+                let _ = self.places.keep_for_notice(Spot::New);
             }
         }
     }
 
-    /// Keeps an original that can't go back, since others have taken the target. Only then the new tree is removed: as long as
-    /// it is there, recovery knows that the target isn't it.
+    /// Settles an original that lies aside, and only then removes the new tree: as long as that is there, recovery knows that
+    /// the target isn't it.
     fn clean_up(&mut self) {
-        let is_clear = match self.places.look(Spot::Old) {
+        let is_settled = match self.places.look(Spot::Old) {
             Ok(Standing::Nothing | Standing::CutOff) => true,
-            Ok(_) => self.places.keep(Spot::Old).is_ok(),
+            Ok(_) => self.go_back(),
             Err(_) => false,
         };
-        if is_clear {
+        if is_settled {
             let _ = self.places.clear(Spot::New);
+        }
+    }
+
+    /// Moves the original back to the target, or keeps it where it can't go back, since others have taken the target or its
+    /// directory is gone. Where that fails the original stays aside and the new tree in its place, for recovery; where there
+    /// is no new tree, recovery would take what lies aside for something to be removed, so it is kept.
+    fn go_back(&self) -> bool {
+        match self.places.move_over(Spot::Old, Spot::Target) {
+            Ok(()) => true,
+            Err(e) if is_taken(&e) || e.kind() == ErrorKind::NotFound => {
+                self.places.drop_name(Spot::Old) || self.places.keep_for_notice(Spot::Old).is_ok()
+            }
+            Err(_) => {
+                self.staged.rows().is_empty() && self.places.keep_for_notice(Spot::Old).is_ok()
+            }
         }
     }
 
@@ -302,7 +328,8 @@ impl Places for Replacement<'_> {
     fn remove(&mut self, spot: Spot) -> Result<(), Failed> {
         let done = match spot {
             Spot::Old => self.remove_aside(),
-            Spot::Target | Spot::New => self.places.clear(spot),
+            Spot::New => self.remove_new(),
+            Spot::Target => self.places.clear(spot),
         };
         self.places.counted(&done)
     }

@@ -52,7 +52,7 @@ impl Bits<'_> {
             return Ok(private);
         };
         let place = below(files, row, source)?;
-        Ok(permissions_at(files, place.as_str(), kind).unwrap_or(private))
+        Ok(permissions_at(files, place.as_str(), kind)?.unwrap_or(private))
     }
 }
 
