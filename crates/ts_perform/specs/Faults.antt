@@ -28,7 +28,7 @@ use Rattle.ts_perform.specs.declared.fault.PerformFault.TheVariants as fault
 abbrev pub fault_number : PerformFault → ℕ
 fault_number fault.OutOfMemory = 1
 fault_number fault.Failed = 5
-fault_number (fault.Own path) = 5
+fault_number fault.Own = 5
 fault_number fault.NotCanonical = 6
 fault_number fault.WrongEnd = 7
 fault_number fault.Device = 8
@@ -38,11 +38,11 @@ fault_number fault.PastLimit = 12
 fault_number (fault.Broken rule place) = 13
 fault_number (fault.Scan scan) = scan_number scan
 
--- what a scan met has a place, and the program's own directory in a replica
+-- only what a scan met has a place
 abbrev pub place_of : PerformFault → Option Path
 place_of fault.OutOfMemory = None
 place_of fault.Failed = None
-place_of (fault.Own path) = Some path
+place_of fault.Own = None
 place_of fault.NotCanonical = None
 place_of fault.WrongEnd = None
 place_of fault.Device = None
@@ -52,11 +52,18 @@ place_of fault.PastLimit = None
 place_of (fault.Broken rule place) = None
 place_of (fault.Scan scan) = scan_place scan
 
+-- the program's own directory in a replica, which is no path of it
+abbrev pub own_path : Path
+own_path = codes ".twosync" ∷ []
+
 -- the number, and the path where there is one other than the root
 abbrev pub fault_line : ℕ → Option Path → List ℕ
 fault_line number None = codes "twosync: fault " ++ decimal number
 fault_line number (Some []) = codes "twosync: fault " ++ decimal number
 fault_line number (Some (name ∷ path)) = codes "twosync: fault " ++ decimal number ++ 32 ∷ path_text (name ∷ path)
+
+abbrev pub fault_line_at : ℕ → List ℕ → List ℕ
+fault_line_at number place = codes "twosync: fault " ++ decimal number ++ 32 ∷ place
 
 -- what was kept of an entry, and where
 abbrev pub kept_line : Path → List ℕ → List ℕ
@@ -110,7 +117,7 @@ fault_of_disk disk.OutOfMemory = fault.OutOfMemory
 fault_of_disk disk.Failed = fault.Failed
 fault_of_disk disk.Device = fault.Device
 fault_of_disk disk.Locked = fault.Device
-fault_of_disk disk.Own = fault.Failed
+fault_of_disk disk.Own = fault.Own
 
 abbrev pub fault_of_report : ReportFault → PerformFault
 fault_of_report report.OutOfMemory = fault.OutOfMemory

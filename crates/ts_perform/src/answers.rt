@@ -3,7 +3,7 @@ ghost use Rattle.std.specs.Prelude.{◌≡◌, ◌∷◌, ◌++◌, [], codes, d
 ghost use Rattle.std.specs.Option.{option_copied};
 ghost use Rattle.ts_model.specs.Texts.{text};
 ghost use Rattle.ts_name.specs.Paths.{path_text};
-ghost use Rattle.ts_perform.specs.Faults.{fault_line, kept_line, mount_line};
+ghost use Rattle.ts_perform.specs.Faults.{fault_line, fault_line_at, kept_line, mount_line};
 ghost use Rattle.ts_text.specs.Sources.{Writes};
 ghost use Rattle.ts_trial.specs.Answers.{refusal};
 
@@ -50,6 +50,32 @@ pub(crate) fn write_fault<W: Sink>(
     let mut line = Vec::new(alloc);
     push_fault(number, path, &mut line)?;
     write_line(err, &line)?;
+    Ok(())
+}
+
+/// Tells a fault by its number and a place that is no path of an entry.
+pub(crate) fn write_fault_at<W: Sink>(
+    alloc: Global,
+    number: u8,
+    place: &str,
+    err: &mut W,
+) -> Result<(), PerformFault>
+    ensures { Writes (W.holds err.old) (W.holds err.new) (text (fault_line_at number place.now ∷ [])) result }
+{
+    let mut line = Vec::new(alloc);
+    push_fault_at(number, place, &mut line)?;
+    write_line(err, &line)?;
+    Ok(())
+}
+
+/// Appends that line.
+fn push_fault_at(number: u8, place: &str, line: &mut Vec<u8>) -> Result<(), AllocError>
+    ensures { OnOk result (line.new.items ≡ line.old.items ++ fault_line_at number place.now) }
+{
+    line.extend_from_slice(b"twosync: fault ")?;
+    push_decimal(line, u64::from(number))?;
+    line.push(b' ')?;
+    line.extend_from_slice(place.as_bytes())?;
     Ok(())
 }
 

@@ -3,11 +3,11 @@ ghost use Rattle.std.specs.Prelude.{◌≡◌, IfOk};
 ghost use Rattle.ts_perform.specs.Stands.{Stand};
 ghost use denote.Param.Send.{IsSync};
 
-use crate::fault::{PerformFault, own_fault};
+use crate::fault::PerformFault;
 use std::alloc::Global;
 use std::fs::{File, Files};
 use std::thread::Threads;
-use ts_disk::{ArchivePlace, DiskFault, DiskSite, Lock, claim_archive, flush_above, take_lock};
+use ts_disk::{ArchivePlace, DiskSite, Lock, claim_archive, flush_above, take_lock};
 use ts_folder::{DiskFolder, Folder};
 use ts_name::Path;
 use ts_print::Print;
@@ -48,6 +48,9 @@ pub trait Disk {
 
     /// Whether the replica took part in a run before it was locked.
     fn took_part(&self, lock: &Self::Lock) -> bool;
+
+    /// Whether a run into the replica was stopped before it was locked.
+    fn was_stopped(&self, lock: &Self::Lock) -> bool;
 
     /// Whether a locked replica is still there. It isn't where its disk was unmounted since.
     fn is_in_place(&self, lock: &Self::Lock) -> bool;
@@ -126,14 +129,15 @@ impl Disk for HostRuntime {
     }
 
     fn lock(&self, alloc: Global, root: &str) -> Result<Option<Lock>, PerformFault> {
-        match take_lock(self, alloc, root) {
-            Err(DiskFault::Own) => Err(own_fault(alloc)),
-            taken => Ok(taken?),
-        }
+        Ok(take_lock(self, alloc, root)?)
     }
 
     fn took_part(&self, lock: &Lock) -> bool {
         lock.took_part()
+    }
+
+    fn was_stopped(&self, lock: &Lock) -> bool {
+        lock.was_stopped()
     }
 
     fn is_in_place(&self, lock: &Lock) -> bool {

@@ -1,11 +1,10 @@
 //! Why a command ends without its answer.
 ghost use Rattle.std.specs.Option.{option_copied};
-ghost use Rattle.std.specs.Prelude.{◌≡◌, ◌⊎◌, codes};
-ghost use Rattle.ts_name.specs.Paths.{IsPathText, Path};
+ghost use Rattle.std.specs.Prelude.{◌≡◌};
 ghost use Rattle.ts_perform.specs.Faults.{fault_number, fault_of_archive, fault_of_check, fault_of_disk, fault_of_hold, fault_of_plan, fault_of_print, fault_of_report, fault_of_resume, fault_of_text, fault_of_trial, place_of};
 ghost use Rattle.ts_perform.specs.declared.fault.PerformFault.TheVariants as fault;
 
-use std::alloc::{AllocError, AllocFailed, Global};
+use std::alloc::{AllocError, AllocFailed};
 use thiserror::Error;
 use ts_archive::ArchiveFault;
 use ts_check::CheckFault;
@@ -33,7 +32,7 @@ pub enum PerformFault {
     Failed,
     /// The program's own directory in a replica can't be made or used, as where it belongs to another user.
     #[error("the replica's .twosync can't be made or used")]
-    Own { path: Path },
+    Own,
     /// A plan or an archive isn't spelled as it has to be.
     #[error("not canonical")]
     NotCanonical,
@@ -67,7 +66,7 @@ impl PerformFault {
     {
         match self {
             PerformFault::OutOfMemory => 1,
-            PerformFault::Failed | PerformFault::Own { .. } => 5,
+            PerformFault::Failed | PerformFault::Own => 5,
             PerformFault::NotCanonical => 6,
             PerformFault::WrongEnd => 7,
             PerformFault::Device => 8,
@@ -84,20 +83,9 @@ impl PerformFault {
         ensures { option_copied result ≡ place_of self.now }
     {
         match self {
-            PerformFault::Own { path } => Some(path),
             PerformFault::Scan { fault } => fault.path(),
             _ => None,
         }
-    }
-}
-
-/// That the program's own directory in a replica can't be used, with its path.
-pub(crate) fn own_fault(alloc: Global) -> PerformFault
-    ensures { ((path : Path) × IsPathText (codes "/.twosync") path × (result ≡ fault.Own path)) ⊎ (result ≡ fault.OutOfMemory) }
-{
-    match Path::parse_text(alloc, b"/.twosync") {
-        Ok(path) => PerformFault::Own { path },
-        Err(_) => PerformFault::OutOfMemory,
     }
 }
 
@@ -227,7 +215,8 @@ impl From<DiskFault> for PerformFault {
     fn from(fault: DiskFault) -> PerformFault {
         match fault {
             DiskFault::OutOfMemory => PerformFault::OutOfMemory,
-            DiskFault::Failed | DiskFault::Own => PerformFault::Failed,
+            DiskFault::Failed => PerformFault::Failed,
+            DiskFault::Own => PerformFault::Own,
             DiskFault::Device | DiskFault::Locked => PerformFault::Device,
         }
     }

@@ -1,11 +1,14 @@
 //! Commands, one by one.
-ghost use Rattle.std.specs.Prelude.{◌≡◌, ◌≤◌, IfErr, IfSome};
+ghost use Rattle.std.specs.Prelude.{◌≡◌, ◌∷◌, ◌≤◌, [], IfErr, IfSome, Some};
+ghost use Rattle.ts_model.specs.Texts.{text};
 ghost use Rattle.ts_model.specs.Trial.{HasContentsApart, Trial};
+ghost use Rattle.ts_perform.specs.Faults.{fault_line, fault_number, own_path};
 ghost use Rattle.ts_perform.specs.Runs.{AnswersRun, IsRefusal, IsRunOrSync, Ran};
 ghost use Rattle.ts_perform.specs.Trials.{Answers, IsQuiet};
+ghost use Rattle.ts_text.specs.Sources.{AppendsFront};
 ghost use Rattle.ts_trial.specs.Answers.{WritesOne};
 
-use crate::answers::{write_fault, write_refusal};
+use crate::answers::{write_fault, write_fault_at, write_refusal};
 use crate::disk::Machine;
 use crate::fault::PerformFault;
 use crate::inputs::{Snapshot, read_archive, scan_folder};
@@ -16,6 +19,9 @@ use std::thread::Threads;
 use ts_command::{Command, Job};
 use ts_text::{Lines, Sink, Source, write_all, write_line};
 use ts_trial::trial;
+
+/// The program's own directory in a replica. It is no path of an entry.
+const OWN_PATH: &str = "/.twosync";
 
 /// The exit status of a refusal.
 pub const REFUSED: u8 = 3;
@@ -44,12 +50,14 @@ fn refuse<O: Sink, E: Sink>(alloc: Global, fault: &PerformFault, out: &mut O, er
     ensures status { result ≡ 3 }
     ensures quiet { IsQuiet fault.now → O.holds out.new ≡ O.holds out.old }
     ensures refusal { IsRefusal (O.holds out.old) (O.holds out.new) (E.holds err.old) (E.holds err.new) result }
+    ensures own { fault.now ≡ PerformFault.Own → AppendsFront (E.holds err.old) (E.holds err.new) (text (fault_line (fault_number fault.now) (Some own_path) ∷ [])) }
 {
     let _ = match fault {
         PerformFault::Broken { rule, place } => match write_refusal(alloc, *rule, *place, out) {
             Ok(()) => Ok(()),
             Err(fault) => write_fault(alloc, fault.number(), None, err),
         },
+        PerformFault::Own => write_fault_at(alloc, fault.number(), OWN_PATH, err),
         _ => write_fault(alloc, fault.number(), fault.path(), err),
     };
     REFUSED

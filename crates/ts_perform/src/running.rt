@@ -122,13 +122,19 @@ impl<R: Machine> Task<'_, R> {
         }
     }
 
-    /// Whether just one of the replicas took part in a run before.
+    /// Whether just one of the replicas took part in a run before. Where a run into both was stopped, it may have noted that
+    /// at one of them alone.
     fn is_one_new(&self, claims: &Claims<R>) -> bool {
         let took_part = |lock: &Option<R::Lock>| match lock {
             Some(lock) => self.rt.took_part(lock),
             None => false,
         };
+        let was_stopped = |lock: &Option<R::Lock>| match lock {
+            Some(lock) => self.rt.was_stopped(lock),
+            None => false,
+        };
         took_part(&claims.first) != took_part(&claims.second)
+            && !(was_stopped(&claims.first) && was_stopped(&claims.second))
     }
 
     /// Whether a replica is still there, if it was locked.
@@ -139,12 +145,18 @@ impl<R: Machine> Task<'_, R> {
         }
     }
 
-    /// Notes that both replicas take part in this run. A replica that went away while it was scanned may look empty, and then
-    /// nothing is deleted for that.
-    fn take_part(&self, claims: &Claims<R>) -> Result<(), PerformFault> {
-        if !self.is_in_place(&claims.first) || !self.is_in_place(&claims.second) {
-            return Err(PerformFault::NotThere);
+    /// That both replicas are still there. One that went away while it was scanned may look empty, and nothing is deleted for
+    /// that.
+    fn look_at_claims(&self, claims: &Claims<R>) -> Result<(), PerformFault> {
+        if self.is_in_place(&claims.first) && self.is_in_place(&claims.second) {
+            Ok(())
+        } else {
+            Err(PerformFault::NotThere)
         }
+    }
+
+    /// Notes that both replicas take part in this run.
+    fn take_part(&self, claims: &Claims<R>) -> Result<(), PerformFault> {
         if let Some(lock) = &claims.first {
             self.rt.take_part(lock)?;
         }
@@ -178,8 +190,8 @@ impl<R: Machine> Task<'_, R> {
     {
         self.recover(notices)?;
         let (snapshot, plan) = Snapshot::read_for(self, plan)?;
-        self.take_part(&*claims)?;
-        self.carry_out(&mut claims.archive, &snapshot, &plan, notices, out, err)
+        self.look_at_claims(&*claims)?;
+        self.carry_out(claims, &snapshot, &plan, notices, out, err)
     }
 
     /// Makes a plan, and carries it out.
@@ -195,15 +207,15 @@ impl<R: Machine> Task<'_, R> {
         self.recover(notices)?;
         let snapshot = Snapshot::read_of_both(self, self.is_one_new(&*claims))?;
         let plan = snapshot.plan(self.rt.alloc())?;
-        self.take_part(&*claims)?;
-        self.carry_out(&mut claims.archive, &snapshot, &plan, notices, out, err)
+        self.look_at_claims(&*claims)?;
+        self.carry_out(claims, &snapshot, &plan, notices, out, err)
     }
 
     /// Checks a plan, runs it, and tells what came of it. The plan lies in both replicas while swaps may be half done, and until
     /// the archive is written. What can't be told of a run doesn't make it a refusal.
     fn carry_out<O: Sink, E: Sink>(
         &self,
-        archive: &mut R::Archive,
+        claims: &mut Claims<R>,
         snapshot: &Snapshot,
         plan: &Plan,
         notices: &mut Vec<Notice>,
@@ -216,11 +228,11 @@ impl<R: Machine> Task<'_, R> {
         let alloc = self.rt.alloc();
         let checked = snapshot.check(alloc, plan)?;
         snapshot.look_at_lengths(alloc, self.pair, plan)?;
-        self.save(alloc, plan)?;
+        self.save(alloc, plan, &*claims)?;
         match act(self, &checked) {
             Ok(outcome) => {
                 let cleared = self.clear(alloc, plan, notices);
-                let kept = keep_archive(self, archive, &checked, &outcome);
+                let kept = keep_archive(self, &mut claims.archive, &checked, &outcome);
                 self.remove(alloc, cleared);
                 // what can't be found out of mounts is no reason to end
                 let _ = self.add_mounts(alloc, plan, outcome.results(), notices);
@@ -235,17 +247,28 @@ impl<R: Machine> Task<'_, R> {
         }
     }
 
-    /// Writes the plan to both replicas, or to none.
-    fn save(&self, alloc: Global, plan: &Plan) -> Result<(), PerformFault>
+    /// Writes the plan to both replicas, or to none, and then notes that they take part in this run: a run that is stopped in
+    /// between is known by its plans.
+    fn save(&self, alloc: Global, plan: &Plan, claims: &Claims<R>) -> Result<(), PerformFault>
+        requires { IsPlan plan.now }
+    {
+        let saved = match self.save_both(alloc, plan) {
+            Ok(()) => self.take_part(claims),
+            Err(fault) => Err(fault),
+        };
+        if saved.is_err() {
+            self.remove(alloc, (true, true));
+        }
+        saved
+    }
+
+    /// Writes the plan to both replicas.
+    fn save_both(&self, alloc: Global, plan: &Plan) -> Result<(), PerformFault>
         requires { IsPlan plan.now }
     {
         let Task { rt, pair, .. } = self;
         save_plan(*rt, alloc, pair.first, plan)?;
-        if let Err(fault) = save_plan(*rt, alloc, pair.second, plan) {
-            self.remove(alloc, (true, true));
-            return Err(PerformFault::from(fault));
-        }
-        Ok(())
+        Ok(save_plan(*rt, alloc, pair.second, plan)?)
     }
 
     /// Clears what swaps left in both replicas, and answers for each whether no swap is left to be recovered. What is to be

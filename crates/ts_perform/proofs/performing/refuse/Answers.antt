@@ -1,13 +1,13 @@
-use Rattle.std.proofs.Common.{[], ◌∷◌, None}
+use Rattle.std.proofs.Common.{[], ◌∷◌, None, Some}
 use Rattle.std.specs.Option.{option_copied}
 use Rattle.ts_model.specs.Texts.{text}
 use Rattle.ts_model.specs.declared.plan.PlanRule.TheVariants.{Limits}
 use Rattle.ts_tree.proofs.Writing.{nothing_sent}
 use Rattle.ts_trial.specs.Answers.{refusal}
-use Rattle.ts_perform.specs.Faults.{fault_line}
+use Rattle.ts_perform.specs.Faults.{fault_line, own_path}
 use Rattle.ts_perform.proofs.Reported.{refused, writes_begun}
 use Rattle.ts_perform.proofs.performing.refuse.Goals as goal
-use Rattle.ts_perform.proofs.performing.refuse.Goals.{in-Broken+in-Ok, in-Broken+in-Err, in_default}
+use Rattle.ts_perform.proofs.performing.refuse.Goals.{in-Broken+in-Ok, in-Broken+in-Err, in-Own, in_default}
 
 pub returns-clause-refusal : goal.returns-clause-refusal
 returns-clause-refusal g c =
@@ -23,6 +23,11 @@ returns-clause-refusal g c =
           rw (w.out-is, w.err-is) (refused old new faults new_faults w.in-Broken.rule w.in-Broken.place w.number.result None
           (writes_begun old new (text (refusal w.in-Broken.rule w.in-Broken.place ∷ [])) w.write_refusal.result w.write_refusal.ensures)
           (writes_begun faults new_faults (text (fault_line w.number.result None ∷ [])) w.write_fault.result w.write_fault.ensures))
+      | in-Own w ↦
+          let new_faults = g.E.Sink.holds w.write_fault_at.new.err in
+          rw (w.out-is, w.err-is) (refused old old faults new_faults Limits 0 w.number-in-Own.result (Some own_path)
+          (nothing_sent old (text (refusal Limits 0 ∷ [])))
+          (writes_begun faults new_faults (text (fault_line w.number-in-Own.result (Some own_path) ∷ [])) w.write_fault_at.result w.write_fault_at.ensures))
       | in_default w ↦
           let new_faults = g.E.Sink.holds w.write_fault-in_default.new.err in
           rw (w.out-is, w.err-is) (refused old old faults new_faults Limits 0 w.number-in_default.result (option_copied w.path.result)
