@@ -177,9 +177,10 @@ held_at() {
   wait "$child"
   held_status=$?
 }
-# failed_with_14 NAME: the entry has failed
+# failed_with_14 NAME [KEPT]: the entry has failed, and where something is kept its place is told
 failed_with_14() {
-  answered "$1, from $from" 2 "failed $from /f"$'\n'"$lost" 'twosync: fault 14 /f' "$held_status"
+  answered "$1, from $from" 2 "failed $from /f"$'\n'"$lost" \
+    "twosync: fault 14 /f${2:+$'\n'twosync: kept /f as $to/.twosync/$2}" "$held_status"
 }
 # found NAME TEXT: a file of the replica has this text and nothing else
 found() {
@@ -263,7 +264,7 @@ for role in "${roles[@]}"; do
       had file
       changes $new
       held_at "a file, new $new, while nothing is there ($edit)" "$(aside)" exit "[ ! -e $to/f ]" "edit_$edit"
-      failed_with_14 "a file, new $new, while nothing is there ($edit)"
+      failed_with_14 "a file, new $new, while nothing is there ($edit)" left-0
       found "a file, new $new, while nothing is there ($edit)" mine
       holds_true "a file, new $new, while nothing is there ($edit), from $from: it stays in its place" \
         diff -r -x .twosync "$to" wanted
@@ -290,7 +291,7 @@ for role in "${roles[@]}"; do
     printf 'kept 0' >"$to/.twosync/left-0"
     printf 'kept 1' >"$to/.twosync/left-1"
     held_at "a file, new $new, beside others that are kept" "$(aside)" exit "[ ! -e $to/f ]" edit_new_file
-    failed_with_14 "a file, new $new, beside others that are kept"
+    failed_with_14 "a file, new $new, beside others that are kept" left-2
     found "a file, new $new, beside others that are kept" mine
     for text in 'kept 0' 'kept 1' old.; do found "a file, new $new, beside others that are kept: $text" "$text"; done
   done

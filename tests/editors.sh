@@ -108,7 +108,9 @@ for run in $(seq "$runs"); do
   holds_true "run $run: the editor was at work ($saves saves)" test "$saves" -ge 30
   all_saves=$((all_saves + saves))
   met=$((met + $(grep -c '^twosync: fault 14 ' err)))
-  holds_true "run $run: all that failed is told as changed" test -z "$(grep -v '^twosync: fault 14 /f[0-9][0-9]$' err)"
+  # what failed was changed, and what couldn't go back is kept
+  holds_true "run $run: what is said of it" \
+    test -z "$(grep -vE '^twosync: (fault 14 /f[0-9]{2}|kept /f[0-9]{2} as second/[.]twosync/left-[0-9]+)$' err)"
   # and once more without the editor, until nothing fails
   for _ in 1 2 3 4 5; do
     "$program" "${words[@]}" >out 2>err

@@ -28,7 +28,8 @@ LEAST = 6  # how many ways at least are tried of the calls of one name in a case
 PARTS = 12  # at how many calls of a case all begin to fail
 LINE = re.compile(r"(done|failed|blocked|skip) (\w+) (/\S+)$")
 FAULT = re.compile(r"twosync: fault (\d+)(?: (/\S+))?$")
-OWN = re.compile(r"(lock|plan|plan\.new|(new|old|trash|left)-\d+)$")
+KEPT = re.compile(r"twosync: kept (/\S+) as (\S+)$")
+OWN = re.compile(r"(lock|plan|plan\.new|(new|old|kept|made|trash|left)-\d+)$")
 
 
 def modes_at(place):
@@ -182,7 +183,11 @@ class Failing(Case):
         if status not in (0, 1, 2, 3):
             return "status %s, %s" % (status, said[1].replace("\n", " "))
         out, err = said
-        faults = [FAULT.match(line) for line in err.split("\n")[:-1]]
+        told = err.split("\n")[:-1]
+        problem = self.problem_of_kept([line for line in told if KEPT.match(line)], is_mute)
+        if problem:
+            return problem
+        faults = [FAULT.match(line) for line in told if not KEPT.match(line)]
         if not all(faults) or (err and not err.endswith("\n")):
             return "it says %s" % repr(err)
         if status == 3:
@@ -213,6 +218,15 @@ class Failing(Case):
         if is_mute or not is_done or is_archive_lost:
             return None
         return "status 2, though all is done: %s" % repr(err)
+
+    def problem_of_kept(self, lines, is_mute):
+        """What is kept for good is reported, and what is reported as kept is there."""
+        places = {KEPT.match(line).group(2) for line in lines}
+        there = {"%s/.twosync/%s" % (replica, name) for replica in ("first", "second") for name in own_names(replica)
+                 if name.startswith("left-")}
+        if places - there or (there - places and not is_mute):
+            return "%s is kept, and %s is reported as kept" % (sorted(there), sorted(places))
+        return None
 
     def problem_of_trash(self, faults):
         """What is wrong with the faults of a run that has done all: they are of what it couldn't remove."""
@@ -264,7 +278,8 @@ class Failing(Case):
     # ---- the runs after it
 
     def problem_at_end(self, status, said):
-        if status != self.status or said[1]:
+        told = [line for line in said[1].split("\n")[:-1] if self.is_strict or not KEPT.match(line)]
+        if status != self.status or told:
             return "status %s, %s" % (status, " ".join((said[0] + said[1]).split("\n")))
         for replica in ("first", "second"):
             problem = self.problem_of_modes(replica)
@@ -338,7 +353,7 @@ def fail(case, found, position, way, error, is_ordinary):
     before = ORDINARY if is_ordinary else []
     case.fresh(is_ordinary)
     case.is_strict = way == ONCE
-    case.asides = () if way == ONCE else ("old-", "trash-", "left-")
+    case.asides = () if way == ONCE else ("old-", "trash-", "left-", "kept-")
     case.lacks_bits = way == ALL or call in MODES + OPENS + LOOKS
     words = failures(found, position, way, error)
     trace = "trace=" + ",".join(sorted({name for name, _ in found}) if way == ALL else [call])
