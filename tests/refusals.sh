@@ -96,7 +96,7 @@ total 3 done 2 skipped 0 failed 1 blocked 0" ] && [ "$(cat second/ok)" = a ]; th
   for other in "${others[@]}"; do
     "${as[@]}" "$program" sync first $other archive >../out 2>../err
     got=$?
-    if [ "$got" = 3 ] && [ "$(cat ../err)" = 'twosync: fault 5 /.twosync' ] && [ ! -s ../out ] && [ ! -e first/.twosync ] && [ ! -e archive ]; then
+    if [ "$got" = 3 ] && [ "$(cat ../err)" = 'twosync: fault 5 /.twosync' ] && [ ! -s ../out ] && [ ! -e first/.twosync ] && [ ! -e second/d/x ]; then
       ok
     else
       bad ".twosync can't be used in $other: status $got, $(cat ../err)"
