@@ -311,7 +311,7 @@ for role in "${roles[@]}"; do
     outside_has f
     held_at "a link above, new $new, before it is set aside" "$(aside)" enter true edit_link
     answered "a link above, new $new, before it is set aside, from $from" 2 "failed $from /d/f"$'\n'"$lost" \
-      'twosync: fault 8 /d/f' "$held_status"
+      'twosync: fault 14 /d/f' "$held_status"
     outside_stays "a link above, new $new, before it is set aside, from $from"
     holds_true "a link above, new $new, before it is set aside, from $from: the old file" test "$(cat "$to/was/f")" = old.
     holds_true "a link above, new $new, before it is set aside, from $from: .twosync" test -z "$(ls -A "$to/.twosync")"

@@ -143,7 +143,8 @@ impl<R: Files + AllocGlobal + Clone + Drop> DiskPlaces<R> {
         }
     }
 
-    /// Moves back what was moved from a spot to another, if it is still there.
+    /// Moves back what was moved from a spot to another, if it is still there. What came to the old spot, where nothing was, is
+    /// what was moved, even where it isn't what was looked at before.
     fn move_back(
         &self,
         moved: Option<&Metadata>,
@@ -153,7 +154,7 @@ impl<R: Files + AllocGlobal + Clone + Drop> DiskPlaces<R> {
     ) -> io::Result<()> {
         let there = metadata_at(&self.files, self.place(to))?;
         match (moved, there) {
-            (Some(moved), Some(there)) if is_same(moved, &there) => {
+            (Some(moved), Some(there)) if to == Spot::Old || is_same(moved, &there) => {
                 move_anew(&self.files, self.place(to), standing, self.place(from))
             }
             _ => Err(io::Error::from(ErrorKind::NotFound)),
