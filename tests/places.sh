@@ -28,11 +28,7 @@ for role in 'first second' 'second first'; do
   fresh
   mkdir "$from/d"
   printf a >"$from/d/$name"
-  state >state.before
-  expect "a path that fits, and not while it is staged, from $from" 3 '' "twosync: fault 4 /d/$name" "${words[@]}"
-  rmdir first/.twosync second/.twosync 2>/dev/null
-  state >state.after
-  holds_true "a path that fits, and not while it is staged, from $from: nothing is changed" cmp -s state.before state.after
+  refused "a path that fits, and not while it is staged, from $from" "4 /d/$name" "${words[@]}"
   expect "the same by a short root, from $from" 0 "done $from /d"$'\n'"$one" '' "${sync[@]}"
   alike "the same by a short root, from $from"
   # moved aside it doesn't fit either
@@ -49,11 +45,7 @@ for role in 'first second' 'second first'; do
     fresh
     mkdir "$replica/d"
     printf a >"$replica/d/$name$name"
-    state >state.before
-    expect "a path that doesn't fit, in $replica, from $from" 3 '' "twosync: fault 4 /d/$name$name" "${words[@]}"
-    rmdir first/.twosync second/.twosync 2>/dev/null
-    state >state.after
-    holds_true "a path that doesn't fit, in $replica, from $from: nothing is changed" cmp -s state.before state.after
+    refused "a path that doesn't fit, in $replica, from $from" "4 /d/$name$name" "${words[@]}"
   done
 done
 

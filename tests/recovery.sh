@@ -140,6 +140,27 @@ expect 'a link in place of .twosync' 3 '' 'twosync: fault 5 /.twosync' "${sync[@
 holds_true 'it is not followed' test -z "$(ls elsewhere)" -a ! -e second/a
 rmdir elsewhere
 
+# ---- a run that is ended by a signal before one of the calls that mark its replicas, where the archive names a path and
+# neither has taken part: no later run takes one of them for a new one
+if command -v strace >/dev/null; then
+  for number in 1 2 3 4; do
+    fresh
+    printf a | tee first/a >second/a
+    archive_of "f /a 1 $SA" >archive
+    printf b >first/b
+    strace -qq -f -o trace.log -e signal=none -e trace=chmod -e inject="chmod:signal=KILL:when=$number" \
+      "$program" "${sync[@]}" --workers 1 >/dev/null 2>&1
+    stopped=$?
+    [ "$number" -gt 2 ] || holds_true "before mark $number: the run is stopped ($stopped)" test "$stopped" -gt 128
+    "$program" "${sync[@]}" >out 2>err
+    got=$?
+    if [ "$got" = 0 ] && [ ! -s err ]; then ok; else bad "after a stop before mark $number: status $got, $(cat err)"; fi
+    alike "after a stop before mark $number"
+  done
+else
+  echo 'skipped: strace is missing, so no run is stopped before a mark'
+fi
+
 # ---- a run that is ended by a signal while it writes, at several moments
 for delay in 0.02 0.05 0.1 0.2 0.4; do
   fresh
