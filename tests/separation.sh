@@ -15,7 +15,7 @@ below() {
   done
 }
 
-planner=(ts_dirty ts_recon ts_plan ts_plan_build ts_resume)
+planner=(ts_dirty ts_recon ts_plan ts_plan_build)
 checker=(ts_need ts_check)
 passed=0
 failed=0

@@ -22,7 +22,7 @@ fn told<R: Files + AllocGlobal>(rt: &R, word: &str) -> Option<u64> {
     line.split_whitespace().nth(1)?.parse::<u64>().ok()
 }
 
-/// How many KiB more there are now, where both are told; 0 where there are fewer.
+/// How many KiB more there are now, where both are known; 0 where there are fewer.
 pub fn more(before: Option<u64>, after: Option<u64>) -> Option<u64>
     ensures both { IfSome before (λ b. IfSome after (λ a. result ≡ Some (a - b))) }
     ensures no_before { IfNone before (result ≡ None) }

@@ -8,8 +8,8 @@ use std::alloc::Global;
 use std::rt::Clock;
 use std::time::Instant;
 use ts_hold::Holds;
+use ts_plan_build::resume;
 use ts_print::PrintReader;
-use ts_resume::resume;
 
 /// How many paths there are where no number is given.
 const FEW: u32 = 2_000;

@@ -17,7 +17,7 @@ use ts_exec::{ActionResult, commit_count, run};
 use ts_folder::MemFolder;
 use ts_hold::Holds;
 use ts_model::plan::{Kind, Plan};
-use ts_resume::resume;
+use ts_plan_build::resume;
 use ts_site::MemSite;
 use ts_tree::{SubTree, Tree, TreeReader};
 

@@ -1,8 +1,7 @@
 //! The actions of the plans, each carried out on its board.
 ghost use Rattle.std.specs.Prelude.{◌≡◌, ◌<◌, ◌+◌, ◌++◌, ℕ, [], ◌∷◌, true, length, IfNone, IfSome};
 ghost use Rattle.board_cases.specs.Worked.{HasFile, HasRemoval, act_steps};
-ghost use Rattle.ts_board.specs.Calls.{IsFresh, IsPassOf, mine};
-ghost use Rattle.ts_board.specs.Keys.{terms_of};
+ghost use Rattle.ts_board.specs.Calls.{IsFresh, IsPassOf, mine, plan_of, terms_of};
 ghost use Rattle.ts_board.specs.Terms.{is_place};
 ghost use Rattle.ts_check.specs.Checkup.{IsCommit, IsSourcePart};
 ghost use Rattle.ts_model.specs.Plans.{KindIs};
@@ -29,7 +28,7 @@ pub struct Desk<'a, 'b, S: Site> {
     pub board: &'b Board<S>,
     /// The byte that is staged as a piece.
     pub byte: u8,
-    pub ghost plan: { board.now.table.shared.key.plan.value ≡ checked.now.plan },
+    pub ghost plan: { plan_of board.now ≡ checked.now.plan },
     pub ghost first: { board.now.table.shared.key.first.value ≡ checked.now.first },
     pub ghost second: { board.now.table.shared.key.second.value ≡ checked.now.second },
 }
@@ -37,10 +36,10 @@ pub struct Desk<'a, 'b, S: Site> {
 impl<'a, 'b, S: Site> Desk<'a, 'b, S> {
     /// Releases an action by another that is done.
     fn free(&self, pass: &mut Pass<S>, i: u32, j: u32) -> Freed
-        requires pass { IsPassOf self.now.board.now.table.shared.table_id (terms_of S.content self.now.board.now.table.shared.key) pass.old }
+        requires pass { IsPassOf S.content self.now.board.now pass.old }
         requires action { j < length self.now.checked.now.plan.actions }
         requires may { WordsAllow self.now.checked.now.plan (mine pass.old) (Release i j) }
-        ensures pass { IsPassOf self.now.board.now.table.shared.table_id (terms_of S.content self.now.board.now.table.shared.key) pass.new }
+        ensures pass { IsPassOf S.content self.now.board.now pass.new }
         ensures released { mine pass.new ≡ mine pass.old ++ Release i j ∷ [] }
     {
         let is_last = self.board.release(pass, i, j);
@@ -50,13 +49,13 @@ impl<'a, 'b, S: Site> Desk<'a, 'b, S> {
 
     /// Claims the piece of a file and stages its byte, where nobody has claimed it.
     fn stage(&self, pass: &mut Pass<S>, b: u32, bytes: Vec<u8>) -> Option<Seen>
-        requires pass { IsPassOf self.now.board.now.table.shared.table_id (terms_of S.content self.now.board.now.table.shared.key) pass.old }
+        requires pass { IsPassOf S.content self.now.board.now pass.old }
         requires fresh { mine pass.old ≡ [] }
         requires file { HasFile self.now.checked.now.plan b }
         requires inside { b + 2 < length self.now.checked.now.plan.actions }
         requires small { b < 100 }
         requires one { length bytes.items ≡ 1 }
-        ensures pass { IsPassOf self.now.board.now.table.shared.table_id (terms_of S.content self.now.board.now.table.shared.key) pass.new }
+        ensures pass { IsPassOf S.content self.now.board.now pass.new }
     {
         let mut held = self.board.claim(pass, b)?;
         let claimed = self.board.look(pass, b);
@@ -79,12 +78,12 @@ impl<'a, 'b, S: Site> Desk<'a, 'b, S> {
 
     /// Stages the byte of the desk as the piece of a file. Where there's no memory for it the piece isn't claimed.
     pub fn stage_byte(&self, pass: &mut Pass<S>, b: u32) -> Option<Seen>
-        requires pass { IsPassOf self.now.board.now.table.shared.table_id (terms_of S.content self.now.board.now.table.shared.key) pass.old }
+        requires pass { IsPassOf S.content self.now.board.now pass.old }
         requires fresh { mine pass.old ≡ [] }
         requires file { HasFile self.now.checked.now.plan b }
         requires inside { b + 2 < length self.now.checked.now.plan.actions }
         requires small { b < 100 }
-        ensures pass { IsPassOf self.now.board.now.table.shared.table_id (terms_of S.content self.now.board.now.table.shared.key) pass.new }
+        ensures pass { IsPassOf S.content self.now.board.now pass.new }
     {
         let bytes = vec![in self.alloc; self.byte].ok()?;
         self.stage(pass, b, bytes)
@@ -93,15 +92,15 @@ impl<'a, 'b, S: Site> Desk<'a, 'b, S> {
     /// Puts in place what was assembled for a held commit, and ends it. Where the site refuses, the commit fails. Says the
     /// word after that, and the fault.
     fn put(&self, pass: &mut Pass<S>, mut held: Held<S>, staged: Staged) -> (u64, Option<SiteFault>)
-        requires pass { IsPassOf self.now.board.now.table.shared.table_id (terms_of S.content self.now.board.now.table.shared.key) pass.old }
+        requires pass { IsPassOf S.content self.now.board.now pass.old }
         requires action { held.action < length self.now.checked.now.plan.actions }
         requires held { IsPending (mine pass.old) held.action }
         requires commit { IsCommit self.now.checked.now.plan held.action }
         requires taken { (k : ℕ) → IsPieceOf self.now.checked.now.plan held.action k → Has (mine pass.old) (takes k) }
-        requires fresh { IsFresh S.content (terms_of S.content self.now.board.now.table.shared.key) held }
+        requires fresh { IsFresh S.content (terms_of S.content self.now.board.now) held }
         requires place { is_place held.slot ≡ true }
         requires begun { (part : Part) × IsSourcePart self.now.checked.now held.action part × (staged.wanted ≡ part.rows) }
-        ensures pass { IsPassOf self.now.board.now.table.shared.table_id (terms_of S.content self.now.board.now.table.shared.key) pass.new }
+        ensures pass { IsPassOf S.content self.now.board.now pass.new }
         ensures done { IfNone result.1 ((w : Work) × (mine pass.new ≡ mine pass.old ++ Act held.action w ∷ Done held.action ∷ [])) }
     {
         let c = held.action();
@@ -135,12 +134,12 @@ impl<'a, 'b, S: Site> Desk<'a, 'b, S> {
     /// Claims the commit of a file, takes the staged byte and puts it in place, where nobody has claimed it. Where there's no
     /// memory for an assembly it isn't claimed.
     pub fn commit(&self, pass: &mut Pass<S>, b: u32) -> Option<Seen>
-        requires pass { IsPassOf self.now.board.now.table.shared.table_id (terms_of S.content self.now.board.now.table.shared.key) pass.old }
+        requires pass { IsPassOf S.content self.now.board.now pass.old }
         requires fresh { mine pass.old ≡ [] }
         requires file { HasFile self.now.checked.now.plan b }
         requires inside { b + 2 < length self.now.checked.now.plan.actions }
         requires small { b < 100 }
-        ensures pass { IsPassOf self.now.board.now.table.shared.table_id (terms_of S.content self.now.board.now.table.shared.key) pass.new }
+        ensures pass { IsPassOf S.content self.now.board.now pass.new }
     {
         let mut staged = self.checked.staged(self.alloc, b + 1).ok()?;
         let mut held = self.board.claim(pass, b + 1)?;
@@ -169,11 +168,11 @@ impl<'a, 'b, S: Site> Desk<'a, 'b, S> {
     /// Claims the commit of a file that is deleted and takes the file away, where nobody has claimed it. Where there's no
     /// memory for an assembly it isn't claimed.
     pub fn remove(&self, pass: &mut Pass<S>) -> Option<Seen>
-        requires pass { IsPassOf self.now.board.now.table.shared.table_id (terms_of S.content self.now.board.now.table.shared.key) pass.old }
+        requires pass { IsPassOf S.content self.now.board.now pass.old }
         requires fresh { mine pass.old ≡ [] }
         requires file { HasRemoval self.now.checked.now.plan }
         requires inside { 1 < length self.now.checked.now.plan.actions }
-        ensures pass { IsPassOf self.now.board.now.table.shared.table_id (terms_of S.content self.now.board.now.table.shared.key) pass.new }
+        ensures pass { IsPassOf S.content self.now.board.now pass.new }
     {
         let staged = self.checked.staged(self.alloc, 0).ok()?;
         let held = self.board.claim(pass, 0)?;
@@ -198,10 +197,10 @@ impl<'a, 'b, S: Site> Desk<'a, 'b, S> {
 
     /// Claims a mark and makes it, where nobody has claimed it.
     pub fn mark(&self, pass: &mut Pass<S>, i: u32) -> Option<Turn>
-        requires pass { IsPassOf self.now.board.now.table.shared.table_id (terms_of S.content self.now.board.now.table.shared.key) pass.old }
+        requires pass { IsPassOf S.content self.now.board.now pass.old }
         requires action { i < length self.now.checked.now.plan.actions }
         requires mark { (e : ℕ) × KindIs self.now.checked.now.plan i (kind.Mark e) }
-        ensures pass { IsPassOf self.now.board.now.table.shared.table_id (terms_of S.content self.now.board.now.table.shared.key) pass.new }
+        ensures pass { IsPassOf S.content self.now.board.now pass.new }
         ensures won { IfSome result (λ turn. mine pass.new ≡ mine pass.old ++ act_steps i work.Marked) }
     {
         let mut held = self.board.claim(pass, i)?;
@@ -218,11 +217,11 @@ impl<'a, 'b, S: Site> Desk<'a, 'b, S> {
 
     /// Claims and makes the mark of a file, where nobody has claimed it.
     pub fn mark_file(&self, pass: &mut Pass<S>, b: u32) -> Option<Seen>
-        requires pass { IsPassOf self.now.board.now.table.shared.table_id (terms_of S.content self.now.board.now.table.shared.key) pass.old }
+        requires pass { IsPassOf S.content self.now.board.now pass.old }
         requires file { HasFile self.now.checked.now.plan b }
         requires inside { b + 2 < length self.now.checked.now.plan.actions }
         requires small { b < 100 }
-        ensures pass { IsPassOf self.now.board.now.table.shared.table_id (terms_of S.content self.now.board.now.table.shared.key) pass.new }
+        ensures pass { IsPassOf S.content self.now.board.now pass.new }
     {
         let turn = self.mark(pass, b + 2)?;
         Some(Seen {

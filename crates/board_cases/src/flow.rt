@@ -1,9 +1,8 @@
 //! The cases on a board, from its opening to its end.
 ghost use Rattle.std.specs.Prelude.{◌≡◌, ◌<◌, length, IfOk};
 ghost use Rattle.board_cases.specs.Worked.{IsWorked, removal};
-ghost use Rattle.ts_board.specs.Calls.{IsPassOf};
+ghost use Rattle.ts_board.specs.Calls.{IsPassOf, terms_of};
 ghost use Rattle.ts_board.specs.Checks.{IsFromCheck};
-ghost use Rattle.ts_board.specs.Keys.{terms_of};
 ghost use Rattle.ts_board.specs.Terms.{commit_count};
 
 use crate::desk::Desk;
@@ -35,8 +34,8 @@ fn opened<S: Site>(
     sites: Vec<S>,
 ) -> Result<(Board<S>, Pass<S>)>
     requires { length sites.items ≡ commit_count checked.now.plan.actions }
-    ensures from { IfOk result (λ r. IsFromCheck (terms_of S.content r.0.table.shared.key) checked.now) }
-    ensures pass { IfOk result (λ r. IsPassOf r.0.table.shared.table_id (terms_of S.content r.0.table.shared.key) r.1) }
+    ensures from { IfOk result (λ r. IsFromCheck (terms_of S.content r.0) checked.now) }
+    ensures pass { IfOk result (λ r. IsPassOf S.content r.0 r.1) }
 {
     match Board::open(alloc, checked, sites) {
         Ok(opened) => Ok(opened),
@@ -53,8 +52,8 @@ fn ended<S: Site>(
     c: u32,
 ) -> Result<End<S>>
     requires inside { c < length checked.now.plan.actions }
-    requires from { IsFromCheck (terms_of S.content board.table.shared.key) checked.now }
-    requires pass { IsPassOf board.table.shared.table_id (terms_of S.content board.table.shared.key) pass }
+    requires from { IsFromCheck (terms_of S.content board) checked.now }
+    requires pass { IsPassOf S.content board pass }
 {
     let mut closed = board.close(pass);
     let archive = closed.archive(alloc, checked)?;

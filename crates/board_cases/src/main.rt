@@ -18,7 +18,7 @@ use crate::task::Seen;
 use anyhow::{Result, bail};
 use std::alloc::Global;
 use std::thread::Threads;
-use ts_board::{ArchiveFault, OpenFault};
+use ts_board::OpenFault;
 use ts_check::{Checked, check};
 use ts_hold::Holds;
 use ts_model::row::Content;
@@ -227,7 +227,6 @@ fn main(rt: HostRuntime) -> Result<()> {
     tell_copies(&rt, alloc)?;
     tell_removal(&rt, alloc)?;
     let open = OpenFault::OutOfMemory.number();
-    let archive = ArchiveFault::OutOfMemory.number();
-    println!(rt; "want of memory: {open} {archive}")?;
+    println!(rt; "out of memory: {open}")?;
     Ok(())
 }

@@ -3,7 +3,6 @@ ghost use Rattle.std.specs.Prelude.{◌≡◌, []};
 ghost use Rattle.board_cases.specs.Worked.{IsTask};
 ghost use Rattle.board_cases.specs.declared.task.Task.TheVariants as task;
 ghost use Rattle.ts_board.specs.Calls.{IsPassOf, mine};
-ghost use Rattle.ts_board.specs.Keys.{terms_of};
 
 use crate::desk::Desk;
 use crate::task::{Seen, Task};
@@ -14,10 +13,10 @@ use ts_site::Site;
 impl<'a, 'b, S: Site> Desk<'a, 'b, S> {
     /// Tries an action once. None where it wasn't claimed.
     fn attempt(&self, mut pass: Pass<S>, task: Task) -> (Pass<S>, Option<Seen>)
-        requires pass { IsPassOf self.now.board.now.table.shared.table_id (terms_of S.content self.now.board.now.table.shared.key) pass }
+        requires pass { IsPassOf S.content self.now.board.now pass }
         requires fresh { mine pass ≡ [] }
         requires task { IsTask self.now.checked.now.plan task }
-        ensures { IsPassOf self.now.board.now.table.shared.table_id (terms_of S.content self.now.board.now.table.shared.key) result.0 }
+        ensures { IsPassOf S.content self.now.board.now result.0 }
     {
         let seen = match task {
             Task::Removal => self.remove(&mut pass),
@@ -36,18 +35,18 @@ impl<'a, 'b, S: Site> Desk<'a, 'b, S> {
         other: Pass<S>,
         task: Task,
     ) -> (Pass<S>, [Option<Seen>; 2])
-        requires one { IsPassOf self.now.board.now.table.shared.table_id (terms_of S.content self.now.board.now.table.shared.key) one × (mine one ≡ []) }
-        requires other { IsPassOf self.now.board.now.table.shared.table_id (terms_of S.content self.now.board.now.table.shared.key) other × (mine other ≡ []) }
+        requires one { IsPassOf S.content self.now.board.now one × (mine one ≡ []) }
+        requires other { IsPassOf S.content self.now.board.now other × (mine other ≡ []) }
         requires task { IsTask self.now.checked.now.plan task }
-        ensures { IsPassOf self.now.board.now.table.shared.table_id (terms_of S.content self.now.board.now.table.shared.key) result.0 }
+        ensures { IsPassOf S.content self.now.board.now result.0 }
     {
         let this = move || -> (Pass<S>, Option<Seen>)
-            requires { IsPassOf self.now.board.now.table.shared.table_id (terms_of S.content self.now.board.now.table.shared.key) one × (mine one ≡ []) × IsTask self.now.checked.now.plan task }
-            ensures { IsPassOf self.entry.now.board.now.table.shared.table_id (terms_of S.content self.entry.now.board.now.table.shared.key) result.0 }
+            requires { IsPassOf S.content self.now.board.now one × (mine one ≡ []) × IsTask self.now.checked.now.plan task }
+            ensures { IsPassOf S.content self.entry.now.board.now result.0 }
         { self.attempt(one, task) };
         let that = move || -> (Pass<S>, Option<Seen>)
-            requires { IsPassOf self.now.board.now.table.shared.table_id (terms_of S.content self.now.board.now.table.shared.key) other × (mine other ≡ []) × IsTask self.now.checked.now.plan task }
-            ensures { IsPassOf self.entry.now.board.now.table.shared.table_id (terms_of S.content self.entry.now.board.now.table.shared.key) result.0 }
+            requires { IsPassOf S.content self.now.board.now other × (mine other ≡ []) × IsTask self.now.checked.now.plan task }
+            ensures { IsPassOf S.content self.entry.now.board.now result.0 }
         { self.attempt(other, task) };
         let (this, that) = join(rt, this, that);
         (self.board.join(this.0, that.0), [this.1, that.1])
@@ -56,9 +55,9 @@ impl<'a, 'b, S: Site> Desk<'a, 'b, S> {
     /// Two passes race for an action, beside the one that keeps all that was done before. Says what the pass that has claimed
     /// it has seen; None where it wasn't claimed by one of the two alone.
     pub fn raced<R: Threads>(&self, rt: &R, pass: Pass<S>, task: Task) -> (Pass<S>, Option<Seen>)
-        requires pass { IsPassOf self.now.board.now.table.shared.table_id (terms_of S.content self.now.board.now.table.shared.key) pass }
+        requires pass { IsPassOf S.content self.now.board.now pass }
         requires task { IsTask self.now.checked.now.plan task }
-        ensures { IsPassOf self.now.board.now.table.shared.table_id (terms_of S.content self.now.board.now.table.shared.key) result.0 }
+        ensures { IsPassOf S.content self.now.board.now result.0 }
     {
         let (kept, fresh) = match self.board.split(pass) {
             Ok(halves) => halves,
@@ -78,9 +77,9 @@ impl<'a, 'b, S: Site> Desk<'a, 'b, S> {
 
     /// Races for the piece, the commit and the mark of a file.
     pub fn copied<R: Threads>(&self, rt: &R, pass: Pass<S>, b: u32) -> (Pass<S>, [Option<Seen>; 3])
-        requires pass { IsPassOf self.now.board.now.table.shared.table_id (terms_of S.content self.now.board.now.table.shared.key) pass }
+        requires pass { IsPassOf S.content self.now.board.now pass }
         requires file { IsTask self.now.checked.now.plan (task.Piece b) }
-        ensures { IsPassOf self.now.board.now.table.shared.table_id (terms_of S.content self.now.board.now.table.shared.key) result.0 }
+        ensures { IsPassOf S.content self.now.board.now result.0 }
     {
         let (pass, piece) = self.raced(rt, pass, Task::Piece(b));
         let (pass, commit) = self.raced(rt, pass, Task::Commit(b));

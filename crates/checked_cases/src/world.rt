@@ -89,7 +89,7 @@ pub enum Node {
 }
 
 impl Node {
-    /// The size of a file; none for what is no file.
+    /// The size of a file; none where no file is.
     pub fn size(self) -> Option<u64> {
         match self {
             Node::File(filling) => Some(filling.size()),

@@ -9,8 +9,8 @@ use ts_folder::{Failing, FaultyFolder, MemFolder, Trouble};
 use ts_hold::Holds;
 use ts_model::plan::{Kind, Plan};
 use ts_name::Path;
+use ts_plan_build::resume;
 use ts_print::Print;
-use ts_resume::resume;
 use ts_site::FaultySite;
 use ts_tree::{SubTree, Tree, TreeReader};
 

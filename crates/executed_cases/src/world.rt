@@ -5,8 +5,8 @@ use std::alloc::Global;
 use ts_check::{Checked, check};
 use ts_hold::Holds;
 use ts_model::plan::Plan;
+use ts_plan_build::resume;
 use ts_print::Print;
-use ts_resume::resume;
 use ts_tree::{Tree, TreeReader};
 
 /// Which files a replica has in each directory.

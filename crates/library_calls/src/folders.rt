@@ -68,14 +68,14 @@ type List = (&'static str, Result<&'static [u8], u8>);
 /// A file, an offset and a length, and the bytes there, or the number of the fault.
 type Reading = (&'static str, u64, u32, Result<&'static [u8], u8>);
 
-/// Lists each directory, and asserts what is told.
+/// Lists each directory, and asserts what is answered.
 fn assert_lists<F: Folder>(rt: &impl Abort, alloc: Global, folder: &F, cases: &[List]) {
     for (text, want) in cases {
         assert!(rt; is_answer(listed(alloc, folder, *text), *want), "at {text}");
     }
 }
 
-/// Reads each file from an offset on, and asserts what is told.
+/// Reads each file from an offset on, and asserts what is answered.
 fn assert_reads<F: Folder>(rt: &impl Abort, alloc: Global, folder: &F, cases: &[Reading]) {
     for (text, offset, len, want) in cases {
         assert!(rt;

@@ -14,7 +14,7 @@ use std::alloc::Global;
 use ts_check::check;
 use ts_dirty::detect;
 use ts_model::plan::{Entry, Reason};
-use ts_resume::resume;
+use ts_plan_build::resume;
 
 /// How many cases are tried.
 const CASES: u32 = 2_000;

@@ -127,7 +127,7 @@ fn tells_sides(alloc: Global, checked: &Checked<'_>) -> bool {
         && checked.after(1).rows().len() == 1
 }
 
-/// What is told of a plan that copies the one file of the first replica.
+/// What is said of a plan that copies the one file of the first replica.
 fn told(alloc: Global) -> Option<[bool; 4]> {
     let plan = plan_of(
         alloc,

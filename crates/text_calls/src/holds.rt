@@ -12,7 +12,7 @@ fn told(fault: &HoldFault) -> (u8, u64) {
     }
 }
 
-/// What is told of the text of rules: 0 and how many they are, or the fault.
+/// What comes of the text of rules: 0 and how many they are, or the fault.
 fn outcome(alloc: Global, text: &[u8]) -> (u8, u64) {
     match Holds::parse(alloc, text) {
         Ok(holds) => (0, holds.rules().len() as u64),
@@ -129,7 +129,7 @@ fn many_stars_take_few_steps(rt: HostRuntime) {
     assert!(rt; many_rules_name(rt.alloc()) == Some(false));
 }
 
-/// What is told of a bad line between two good ones, and how many rules there are in the end.
+/// What comes of a bad line between two good ones, and how many rules there are in the end.
 fn taken_by_line(alloc: Global) -> Option<((u8, u64), usize)> {
     let mut reader = RuleReader::new(alloc);
     reader.line(b"path /a").ok()?;
@@ -190,12 +190,12 @@ fn bad_lines_are_told(rt: HostRuntime) {
     }
 }
 
-/// What is told of so many rules.
+/// What comes of so many rules.
 fn outcome_of_many(alloc: Global, count: usize) -> Option<(u8, u64)> {
     Some(outcome(alloc, &repeated(alloc, b"name a\n", count)?))
 }
 
-/// What is told of a rule of so many symbols.
+/// What comes of a rule of so many symbols.
 fn outcome_of_long(alloc: Global, symbols: usize) -> Option<(u8, u64)> {
     Some(outcome(alloc, &around(alloc, b"name ", b"%20", symbols, b"\n")?))
 }
@@ -208,7 +208,7 @@ fn limits_are_kept(rt: HostRuntime) {
     assert!(rt; outcome_of_long(rt.alloc(), 256) == Some((11, 1)));
 }
 
-/// Whether the rules are written as far as there is room, and it is told where that isn't all.
+/// Whether the rules are written as far as there is room, and it is reported where that isn't all.
 fn writes_into(alloc: Global, holds: &Holds, text: &[u8], room: usize) -> bool {
     let mut sink = sink_of(alloc, 1, room, Some(ErrorKind::WriteZero));
     let result = holds.encode(alloc, &mut sink);

@@ -1,5 +1,5 @@
 //! Calls with ample memory of ts_name, ts_text, ts_hold, ts_plan, ts_archive, ts_report, ts_need, ts_check, ts_swap and
-//! ts_resume. A crate is proved a second time with its tests, so those that need nothing private of a library stand here.
+//! ts_plan_build. A crate is proved a second time with its tests, so those that need nothing private of a library stand here.
 #![tactic(auto)]
 
 #[cfg(test)]

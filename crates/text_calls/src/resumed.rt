@@ -2,7 +2,7 @@
 use crate::shared::{World, scene_of};
 use std::alloc::Global;
 use ts_model::plan::{Kind, Plan, Reason};
-use ts_resume::{ResumeFault, resume};
+use ts_plan_build::{BuildFault, resume};
 use ts_text::push_decimal;
 
 // The digests are those of the bytes `a`, `b` and `c`.
@@ -92,7 +92,7 @@ fn lines_of(alloc: Global, plan: &Plan) -> Option<Vec<u8>> {
 }
 
 /// The plan for what is there.
-fn plan_for(alloc: Global, world: &World<'_>) -> Option<Result<Plan, ResumeFault>> {
+fn plan_for(alloc: Global, world: &World<'_>) -> Option<Result<Plan, BuildFault>> {
     let scene = scene_of(alloc, world)?;
     Some(resume(
         alloc,
@@ -262,7 +262,7 @@ fn actions_for(alloc: Global, line: &[u8]) -> Option<Option<usize>> {
     };
     match plan_for(alloc, &world)? {
         Ok(plan) => Some(Some(plan.actions.as_slice().len())),
-        Err(ResumeFault::PastLimit) => Some(None),
+        Err(BuildFault::PastLimit) => Some(None),
         Err(_) => None,
     }
 }
@@ -282,6 +282,6 @@ fn a_plan_is_refused_past_the_limit_alone(rt: HostRuntime) {
     assert!(rt; actions_for(rt.alloc(), MOST) == Some(Some(1_048_576)));
     assert!(rt; actions_for(rt.alloc(), ONE_MORE) == Some(None));
     assert!(rt; actions_for(rt.alloc(), GREATEST) == Some(None));
-    assert!(rt; ResumeFault::OutOfMemory.number() == 1);
-    assert!(rt; ResumeFault::PastLimit.number() == 12);
+    assert!(rt; BuildFault::OutOfMemory.number() == 1);
+    assert!(rt; BuildFault::PastLimit.number() == 12);
 }

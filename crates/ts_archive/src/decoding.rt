@@ -11,8 +11,8 @@ use ts_text::{Lines, Source};
 
 /// The print whose archive file the lines are.
 ///
-/// A wrong count or digest is told only where nothing follows the end line.
-/// More than 2^64 - 2 lines are answered as want of memory, since no memory holds their print.
+/// A wrong count or digest is reported only where nothing follows the end line.
+/// More than 2^64 - 2 lines are answered as out of memory, since no memory holds their print.
 pub fn decode<S: Source>(alloc: Global, lines: &mut Lines<S>) -> Result<Print, ArchiveFault>
     ensures found { IfOk result (DecodesArchive lines.old) }
     ensures refused { IfErr result (FindsNoArchive lines.old lines.new) }

@@ -7,13 +7,17 @@ use Rattle.std.proofs.lemmas.Bool.{true≢false, cases_eq}
 use Rattle.std.proofs.lemmas.Option.{slice_get_within}
 use Rattle.ts_name.specs.Paths.{Name, Path, IsBefore}
 use Rattle.ts_model.specs.Trees.{Listing, Tree, Print, IsListing, at}
-use Rattle.ts_model.specs.Sync.{Snapshot, IsSnapshot, AreBothDirs, IsSkipped}
+use Rattle.ts_model.specs.Sync.{Snapshot, IsSnapshot, AreBothDirs, IsSkipped, treatment}
 use Rattle.ts_model.specs.Plans.{ActionIs, EntryIs, KindIs, Valid}
-use Rattle.ts_model.specs.Runs.{Run, Legal, Has, acts, finishes, graft, marked, after, start, word_after}
+use Rattle.ts_model.specs.Runs.{Run, Legal, Has, acts, finishes, graft, marked, after, start, word_after, marked_by}
 use Rattle.ts_model.specs.declared.row.Content.TheVariants.{Absent, Dir}
 use Rattle.ts_model.specs.declared.row.Stamp.{Stamp}
 use Rattle.ts_model.specs.declared.plan.Reason.{Reason}
 use Rattle.ts_model.specs.declared.plan.Reason.TheVariants as reason
+use Rattle.ts_model.specs.declared.plan.Side.TheVariants as side
+use Rattle.ts_model.specs.declared.plan.Treatment.{Treatment}
+use Rattle.ts_model.specs.declared.plan.Treatment.TheVariants.{Copied, Agreed, NewDirectory, Skipped}
+use Rattle.ts_model.proofs.Reasons.{skipped_from_left}
 use Rattle.ts_model.specs.declared.plan.Entry.{Entry}
 use Rattle.ts_model.specs.declared.plan.Action.{Action}
 use Rattle.ts_model.specs.declared.plan.Kind.TheVariants.{Mark}
@@ -32,8 +36,8 @@ use Rattle.ts_laws.specs.Laws.{IsEntryOf}
 use Rattle.ts_laws.proofs.Marks.{mark_kept, mark_over_mark, archive_from_marks}
 use Rattle.ts_laws.proofs.Places.{over_old_dir, not_root, parent_dirs, dir_before, ascends_to, apart_from}
 use Rattle.ts_laws.proofs.Carried.{AreFrom, first_from, rest_from}
-use Rattle.ts_carry.specs.Edits.{marks, left_by, with_put, ComesFirst, MayFollow}
-use Rattle.ts_carry.proofs.Edits.{first_marks, are_trees}
+use Rattle.ts_board.specs.Edits.{marks, left_by, with_put, ComesFirst, MayFollow, marks_by}
+use Rattle.ts_board.proofs.Edits.{first_marks, are_trees}
 use Rattle.ts_check.specs.Checkup.{Checkup, snapshot_of}
 use Rattle.ts_board.specs.declared.law.Terms.{Terms}
 use Rattle.ts_board.specs.Checks.{IsFromCheck}
@@ -54,13 +58,15 @@ picked_all P (x ∷ xs) (true ∷ flags) h = (h.0, picked_all P xs flags h.1)
 picked_all P (x ∷ xs) (false ∷ flags) h = picked_all P xs flags h.1
 
 -- what an entry that isn't skipped puts is its mark
-put_mark : (s : Snapshot) (t : Print) (p : Path) (r : Reason) → ¬ IsSkipped r → with_put t p (marks s.first s.second r p) ≡ graft t p (marked s r p)
-put_mark s t p reason.Same h = refl
-put_mark s t p reason.First h = refl
-put_mark s t p reason.Second h = refl
-put_mark s t p reason.Dir h = refl
-put_mark s t p reason.Conflict h = absurd (h (inl refl))
-put_mark s t p reason.Held h = absurd (h (inr refl))
+pub put_mark : (s : Snapshot) (t : Print) (p : Path) (r : Reason) → ¬ IsSkipped r → with_put t p (marks s.first s.second r p) ≡ graft t p (marked s r p)
+put_mark s t p r h = go (treatment r) refl
+  where
+    go : (how : Treatment) → treatment r ≡ how → with_put t p (marks_by s.first s.second how p) ≡ graft t p (marked_by s how p)
+    go (Copied side.First) e = refl
+    go (Copied side.Second) e = refl
+    go Agreed e = refl
+    go NewDirectory e = refl
+    go Skipped e = absurd (h (skipped_from_left r e))
 
 -- ---- marks in the entries' order
 

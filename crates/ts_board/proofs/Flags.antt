@@ -14,8 +14,8 @@ use Rattle.ts_model.specs.declared.plan.Kind.TheVariants.{Piece, Commit, Mark}
 use Rattle.ts_model.specs.declared.plan.Plan.{Plan}
 use Rattle.ts_table.specs.declared.splice.Edit.{Edit}
 use Rattle.ts_laws.proofs.Steps.{same_kind}
-use Rattle.ts_carry.specs.Edits.{Gives, AreEdits}
-use Rattle.ts_carry.proofs.Edits.{push_edit}
+use Rattle.ts_board.specs.Edits.{Gives, AreEdits}
+use Rattle.ts_board.proofs.Edits.{push_edit}
 use Rattle.ts_board.specs.Archives.{IsDone, picked}
 
 -- ---- flags

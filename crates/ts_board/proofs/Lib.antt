@@ -7,6 +7,7 @@ pub mod Sites
 pub mod Orderly
 pub mod Fitting
 pub mod Words
+pub mod Edits
 pub mod Archives
 pub mod Flags
 pub mod Acting

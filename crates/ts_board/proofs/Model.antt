@@ -16,12 +16,13 @@ use Rattle.ts_model.specs.declared.plan.Kind.TheVariants.{Piece}
 use Rattle.ts_name.specs.Paths.{Path}
 use Rattle.ts_model.specs.Trees.{at}
 use Rattle.ts_laws.proofs.Steps.{does_of}
-use Rattle.ts_laws.proofs.Lists.{element_at, weight, Contains-from_Among, Among, Among-push_cases}
+use Rattle.ts_laws.proofs.Lists.{weight, Contains-from_Among, Among, Among-push_cases}
 use Rattle.ts_laws.proofs.Runs.{count_push}
 use Rattle.ts_board.specs.declared.law.Terms.{Terms}
 use Rattle.ts_board.specs.Terms.{IsLegalRun, Suits, IsOrderly, preds}
 use Rattle.ts_board.specs.Runs.{same, bit, times, taken, count, size, open_of, word_of, work_after, Allowed, IsLegal}
 use Rattle.ts_board.proofs.Runs.{bump, legal_each, legal_push, sound, open_still, open_less, bit_other, word_start, times_push, taken_push, content_push, content_act, still}
+use Rattle.ts_name.proofs.Basics.{element_at}
 
 -- ---- tests and counts
 

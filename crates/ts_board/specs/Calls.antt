@@ -1,27 +1,36 @@
 -- What the calls of a board say of it and of their passes.
---     terms_of key        what the board was opened for
---     IsPassOf id t p     the pass is one of the board with this table, which was opened for these terms
---     seen p, mine p      the beginning of the history that the pass has seen, and its own steps in it
---     Sees, Makes         what a call adds to them
-use Rattle.std.specs.Prelude.{◌≡◌, ℕ, List, ◌++◌, true, false, Option}
+--     terms_of content board           what the board was opened for
+--     plan_of board                    its plan
+--     IsPassOf content board p         the pass is one of this board
+--     IsPassAt id t p                  the pass is one of the board with this table, which was opened for these terms
+--     seen p, mine p                   the beginning of the history that the pass has seen, and its own steps in it
+--     Sees, Makes                      what a call adds to them
+--     words_of closed, slots_of closed what a closed board has
+use Rattle.std.specs.Prelude.{◌≡◌, ℕ, ◌+◌, ◌*◌, ◌^◌, ◌≤◌, List, ◌++◌, true, false, Option}
+use Rattle.std.specs.Mem.Slots.{slots_items, slots_len}
 use Rattle.atomic_table.specs.Seated.{TableId}
 use Rattle.ts_model.specs.Trees.{Listing}
 use Rattle.ts_model.specs.Runs.{Run, WordsAllow}
+use Rattle.ts_model.specs.declared.plan.Plan.{Plan}
 use Rattle.ts_model.specs.declared.step.Step.TheVariants.{Act}
 use Rattle.ts_model.specs.declared.step.Work.{Work}
 use Rattle.ts_model.specs.declared.step.Work.TheVariants.{Marked}
 use Rattle.ts_board.specs.declared.law.Slot.{Slot}
 use Rattle.ts_board.specs.declared.law.Terms.{Terms}
+use Rattle.ts_board.specs.declared.board.Board.{Board}
+use Rattle.ts_board.specs.declared.board.Closed.{Closed}
 use Rattle.ts_board.specs.declared.board.Held.{Held}
 use Rattle.ts_board.specs.declared.board.Pass.{Pass}
 use Rattle.ts_board.specs.Terms.{work_in, IsTold, IsLegalRun, Suits}
 use Rattle.ts_board.specs.Runs.{StartsWith}
+use Rattle.ts_board.specs.Keys.{terms_of_key}
 use Rattle.ts_board.specs.Kept as kept
 use Rattle.ts_board.specs.Kept.{SitedEnds}
+use Rattle.ts_site.specs.declared.site.Site.{Ghosts}
 
 module _ {S : Type 0} where
-  abbrev pub IsPassOf : TableId → Terms → Pass S → Type 0
-  IsPassOf id t p = (p.seat.table_id ≡ id) × (p.seat.me.0.terms ≡ t)
+  abbrev pub IsPassAt : TableId → Terms → Pass S → Type 0
+  IsPassAt id t p = (p.seat.table_id ≡ id) × (p.seat.me.0.terms ≡ t)
 
   -- the beginning of the history that the pass has seen
   abbrev pub seen : Pass S → Run
@@ -37,6 +46,15 @@ module _ {S : Type 0} where
 
   abbrev pub IsSamePart : Pass S → Pass S → Type 0
   IsSamePart p q = HasPart q p.seat.me.0.part p.seat.me.0.cut
+
+  -- the last two have half each of what the first has
+  abbrev pub AreHalves : Pass S → Pass S → Pass S → Type 0
+  AreHalves p q r = HasPart q p.seat.me.0.part (p.seat.me.0.cut + 1) × HasPart r p.seat.me.0.part (p.seat.me.0.cut + 1)
+
+  -- the last has what the first two have together
+  abbrev pub HasBothParts : Pass S → Pass S → Pass S → Type 0
+  HasBothParts p q r =
+      HasPart r (p.seat.me.0.part * 2 ^ q.seat.me.0.cut + q.seat.me.0.part * 2 ^ p.seat.me.0.cut) (p.seat.me.0.cut + q.seat.me.0.cut)
 
   -- no other pass of the board counts
   abbrev pub IsWhole : Pass S → Type 0
@@ -66,3 +84,32 @@ module _ {S : Type 0} where
   -- the words and slots of a closed board: those after a legal run that begins with what the pass has seen, and for a whole pass just that run
   abbrev pub Ends : (S → Option (Listing (List ℕ))) → Terms → Pass S → List ℕ → List (Slot S) → Type 0
   Ends content t p words slots = SitedEnds work_in (IsTold content) t p.seat.me.0 words slots
+
+  -- in words over the board itself
+  abbrev pub table_of : Board S → TableId
+  table_of board = board.table.shared.table_id
+
+  abbrev pub plan_of : Board S → Plan
+  plan_of board = board.table.shared.key.plan.value
+
+  abbrev pub terms_of : (S → Option (Listing (List ℕ))) → Board S → Terms
+  terms_of content board = terms_of_key content board.table.shared.key
+
+  abbrev pub IsPassOf : (S → Option (Listing (List ℕ))) → Board S → Pass S → Type 0
+  IsPassOf content board p = IsPassAt (table_of board) (terms_of content board) p
+
+module _ {S : Type 0} {site : Ghosts S} where
+  -- the words and the slots of a closed board
+  abbrev pub words_of : Closed S site → List ℕ
+  words_of closed = slots_items closed.row.words
+
+  abbrev pub slots_of : Closed S site → List (Slot S)
+  slots_of closed = slots_items closed.row.slots
+
+  -- it has a word and a slot for each of so many actions
+  abbrev pub HasPlaces : Closed S site → ℕ → Type 0
+  HasPlaces closed n = (n ≤ slots_len closed.row.words) × (n ≤ slots_len closed.row.slots)
+
+  -- the second has as many of both as the first
+  abbrev pub IsAsWide : Closed S site → Closed S site → Type 0
+  IsAsWide old new = (slots_len new.row.words ≡ slots_len old.row.words) × (slots_len new.row.slots ≡ slots_len old.row.slots)

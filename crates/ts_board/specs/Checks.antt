@@ -1,8 +1,28 @@
 -- A board is opened for what was checked.
-use Rattle.std.specs.Prelude.{◌≡◌}
-use Rattle.ts_check.specs.Checkup.{Checkup}
+--     terms_for content k sites    the terms of a board for this checked plan and the sites of its commits
+--     IsFromCheck t k              the terms are those of this checked plan
+--     ReplacesTarget, DiffersFromTarget    what a commit's site tells, against the target's print of the commit
+use Rattle.std.specs.Prelude.{◌≡◌, ℕ, List, Option}
+use Rattle.ts_check.specs.Checkup.{Checkup, IsTargetPart}
+use Rattle.ts_model.specs.Trees.{Listing}
+use Rattle.ts_print.specs.Parts.{Part}
+use Rattle.ts_site.specs.Sites.{Differs, Replaces}
 use Rattle.ts_board.specs.declared.law.Terms.{Terms}
+use Rattle.ts_board.specs.declared.law.Slot.{Slot}
+use Rattle.ts_board.specs.Terms.{content_of, opening_terms}
 
 -- the terms are those of this checked plan
 abbrev pub IsFromCheck : Terms → Checkup → Type 0
 IsFromCheck t k = (t.plan ≡ k.plan) × (t.first ≡ k.first) × (t.second ≡ k.second)
+
+-- the sites are those of the commits, in order
+abbrev pub terms_for : {S : Type 0} → (S → Option (Listing (List ℕ))) → Checkup → List S → Terms
+terms_for content k sites = opening_terms content k.plan k.first k.second sites
+
+-- where the site in the slot tells its content, it had the print of the target's part of the commit, and is now what was made
+abbrev pub ReplacesTarget : {S : Type 0} → (S → Option (Listing (List ℕ))) → Checkup → ℕ → Slot S → Slot S → Listing (List ℕ) → Type 0
+ReplacesTarget content k c old new made = (part : Part) × IsTargetPart k c part × Replaces (content_of content old) (content_of content new) part.rows made
+
+-- where a site tells its content, that hasn't the print of the target's part of the commit
+abbrev pub DiffersFromTarget : Checkup → ℕ → Option (Listing (List ℕ)) → Type 0
+DiffersFromTarget k c content = (part : Part) × IsTargetPart k c part × Differs content part.rows

@@ -5,5 +5,5 @@ use Rattle.ts_board.specs.declared.law.Key.{Key}
 use Rattle.ts_board.specs.declared.law.Terms.{Terms}
 use Rattle.ts_board.specs.Terms.{terms_with}
 
-abbrev pub terms_of : {S : Type 0} → (S → Option (Listing (List ℕ))) → Key S → Terms
-terms_of content key = terms_with content key.plan.value key.first.value key.second.value key.slots.value.items
+abbrev pub terms_of_key : {S : Type 0} → (S → Option (Listing (List ℕ))) → Key S → Terms
+terms_of_key content key = terms_with content key.plan.value key.first.value key.second.value key.slots.value.items

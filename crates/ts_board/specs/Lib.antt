@@ -5,3 +5,4 @@ pub mod Kept
 pub mod Calls
 pub mod Checks
 pub mod Archives
+pub mod Edits

@@ -75,7 +75,9 @@ word_of t past i = open_of (preds t.plan i) past i + (4294967296 * times (Claim 
 abbrev pub Allowed : Terms → List Step → Step → Type 0
 Allowed t past (Claim i) = (i < size t) × (word_of t past i ≡ 0)
 Allowed t past (Take c k) = (0 < times (Claim c) past) × IsPieceOf t.plan c k × (0 < times (Done k) past) × (taken k past ≡ 0)
-Allowed t past (Act i w) = (times (Claim i) past ≡ 1) × (times (Act i Marked) past ≡ 0) × (times (Fail i) past ≡ 0) × ((k : ℕ) → IsPieceOf t.plan i k → 0 < taken k past) × Suits t (Act i w)
+Allowed t past (Act i w) =
+    (times (Claim i) past ≡ 1) × (times (Act i Marked) past ≡ 0) × (times (Fail i) past ≡ 0)
+    × ((k : ℕ) → IsPieceOf t.plan i k → 0 < taken k past) × Suits t (Act i w)
 Allowed t past (Done i) = (times (Act i Marked) past ≡ 1) × (times (Done i) past ≡ 0)
 Allowed t past (Fail i) = (times (Claim i) past ≡ 1) × (times (Act i Marked) past ≡ 0) × (times (Fail i) past ≡ 0)
 Allowed t past (Release i j) = (times (Done i) past ≡ 1) × (count i (preds t.plan j) ≡ 1) × (times (Release i j) past ≡ 0)

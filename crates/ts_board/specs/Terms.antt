@@ -114,6 +114,10 @@ IsUntouched (Bytes bytes) = ⊥
 abbrev pub terms_with : {S : Type 0} → (S → Option (Listing (List ℕ))) → Plan → Listing Stamp → Listing Stamp → List (Slot S) → Terms
 terms_with content plan first second slots = record { plan = plan; first = first; second = second; told = map (told_in content) slots }
 
+-- the same by the sites of the plan's commits, in order
+abbrev pub opening_terms : {S : Type 0} → (S → Option (Listing (List ℕ))) → Plan → Listing Stamp → Listing Stamp → List S → Terms
+opening_terms content plan first second sites = terms_with content plan first second (placed plan.actions sites)
+
 -- the site in a slot
 abbrev pub site_in : {S : Type 0} → Slot S → Option S
 site_in Empty = None

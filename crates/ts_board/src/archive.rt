@@ -2,15 +2,14 @@
 ghost use Rattle.std.specs.Prelude.{ℕ, List, ◌≡◌, ◌<◌, ◌≤◌, IfOk, IfSome, IfNone, length, slice_index};
 ghost use Rattle.std.specs.Mem.Slots.{slots_items, slots_len};
 ghost use Rattle.ts_board.specs.Archives.{AreMarked, HasEnded, IsDone, LeftArchive, picked};
-ghost use Rattle.ts_carry.specs.Edits.{AreEdits, MayFollow, left_by, marks};
+ghost use Rattle.ts_board.specs.Edits.{AreEdits, MayFollow, left_by, marks};
 ghost use Rattle.ts_model.specs.Trees.{at};
 ghost use Rattle.ts_model.specs.declared.plan.Kind.TheVariants.{Mark};
 
 use crate::board::Closed;
 use crate::calls::DONE;
-use crate::fault::ArchiveFault;
-use std::alloc::Global;
-use ts_carry::mark_of;
+use crate::marks::mark_of;
+use std::alloc::{AllocError, Global};
 use ts_check::Checked;
 use ts_model::plan::{Action, Entry, Kind, Plan};
 use ts_model::row::Stamp;
@@ -24,8 +23,8 @@ impl<S: Site> Closed<S> {
     ///
     /// # Errors
     ///
-    /// Want of memory alone.
-    pub fn archive(&self, alloc: Global, checked: &Checked<'_>) -> Result<Print, ArchiveFault>
+    /// `AllocError` where memory ran out.
+    pub fn archive(&self, alloc: Global, checked: &Checked<'_>) -> Result<Print, AllocError>
         requires words { length checked.now.plan.actions ≤ slots_len self.now.row.words }
         requires ended { HasEnded checked.now (slots_items self.now.row.words) }
         ensures { IfOk result (λ print. LeftArchive checked.now (slots_items self.now.row.words) print) }
@@ -42,7 +41,7 @@ impl<S: Site> Closed<S> {
     }
 
     /// For each entry, whether its mark is done.
-    fn marked_entries(&self, alloc: Global, plan: &Plan) -> Result<Vec<bool>, ArchiveFault>
+    fn marked_entries(&self, alloc: Global, plan: &Plan) -> Result<Vec<bool>, AllocError>
         requires { length plan.now.actions ≤ slots_len self.now.row.words }
         ensures count { IfOk result (λ flags. length flags.items ≡ length plan.now.entries) }
         ensures marked { IfOk result (λ flags. AreMarked plan.now (slots_items self.now.row.words) flags.items) }
@@ -80,19 +79,19 @@ fn with_marks(
     archive: &Print,
     first: &Print,
     second: &Print,
-) -> Result<Print, ArchiveFault>
+) -> Result<Print, AllocError>
     requires follow { MayFollow (marks (at first.now) (at second.now)) (at archive.now) (picked entries.now flags.now) }
     requires count { length flags.now ≡ length entries.now }
     ensures { IfOk result (λ print. at print ≡ left_by (marks (at first.now) (at second.now)) (at archive.now) (picked entries.now flags.now)) }
 {
     let edits = mark_edits(alloc, entries, flags, first, second)?;
     let Ok(mut print) = archive.copy(alloc) else {
-        return Err(ArchiveFault::OutOfMemory);
+        return Err(AllocError);
     };
     match print.splice(alloc, edits) {
         Ok(()) => Ok(print),
         Err(PrintFault::TooLong) => unreachable!(),
-        Err(_) => Err(ArchiveFault::OutOfMemory),
+        Err(_) => Err(AllocError),
     }
 }
 
@@ -103,7 +102,7 @@ fn mark_edits(
     flags: &[bool],
     first: &Print,
     second: &Print,
-) -> Result<Vec<Edit<Stamp>>, ArchiveFault>
+) -> Result<Vec<Edit<Stamp>>, AllocError>
     requires { length flags.now ≡ length entries.now }
     ensures { IfOk result (λ edits. AreEdits (marks (at first.now) (at second.now)) (picked entries.now flags.now) edits.items) }
 {

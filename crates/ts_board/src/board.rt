@@ -1,5 +1,5 @@
 //! The board, its passes and what they hold.
-ghost use Rattle.std.specs.Prelude.{ℕ, ◌≡◌, ◌<◌, ◌≤◌, true, false, [], length, slice_index, slice_index_or, slice_set, IsErrOf, OnErr, OnOk, ◌↔◌};
+ghost use Rattle.std.specs.Prelude.{◌≡◌, ◌<◌, ◌≤◌, true, false, [], length, slice_index, slice_index_or, slice_set, IsErrOf, OnErr, OnOk, ◌↔◌};
 ghost use Rattle.std.specs.Mem.Slots.{slots_items, slots_len, IsFull};
 ghost use Rattle.ts_board.specs.Terms.{AreSited, Suits, IsTold, content_of, failures_of, has_site, is_place, site_in, work_in};
 ghost use Rattle.ts_board.specs.declared.law.Terms.{Terms};
@@ -7,9 +7,9 @@ ghost use Rattle.ts_board.specs.declared.law.Slot.TheVariants.{Empty};
 ghost use Rattle.ts_model.specs.declared.step.Work.TheVariants as work;
 ghost use Rattle.ts_print.specs.Assemblies.{IsComplete};
 ghost use Rattle.ts_site.specs.Sites.{Differs, Replaces};
-ghost use Rattle.ts_check.specs.Checkup.{IsCommit, IsSourcePart, IsTargetPart};
+ghost use Rattle.ts_check.specs.Checkup.{IsCommit, IsSourcePart};
 ghost use Rattle.ts_print.specs.Parts.{Part};
-ghost use Rattle.ts_board.specs.Checks.{IsFromCheck};
+ghost use Rattle.ts_board.specs.Checks.{DiffersFromTarget, IsFromCheck, ReplacesTarget};
 ghost use Rattle.ts_model.specs.declared.step.Step.TheVariants.{Act};
 
 use crate::law::{Key, Law, Slot, View};
@@ -128,10 +128,10 @@ impl<S: Site> Held<S> {
         requires begun { (part : Part) × IsSourcePart checked.now self.old.action part × (staged.wanted ≡ part.rows) }
         ensures action { self.new.action ≡ self.old.action }
         ensures ok { OnOk result ((self.new.acted ≡ true) × (work_in self.new.slot ≡ work.Put staged.made)) }
-        ensures replaced { OnOk result ((part : Part) × IsTargetPart checked.now self.old.action part × Replaces (content_of S.content self.old.slot) (content_of S.content self.new.slot) part.rows staged.made) }
+        ensures replaced { OnOk result (ReplacesTarget S.content checked.now self.old.action self.old.slot self.new.slot staged.made) }
         ensures suits { OnOk result ((t : Terms) → IsFromCheck t checked.now → Suits t (Act self.new.action (work_in self.new.slot))) }
         ensures misfit { IsErrOf result SiteFault.Misfit ↔ (¬ IsComplete staged) }
-        ensures changed { IsErrOf result SiteFault.Changed → (part : Part) × IsTargetPart checked.now self.old.action part × Differs (content_of S.content self.old.slot) part.rows }
+        ensures changed { IsErrOf result SiteFault.Changed → DiffersFromTarget checked.now self.old.action (content_of S.content self.old.slot) }
         ensures device { IsErrOf result SiteFault.Device → failures_of S.failures self.old.slot < failures_of S.failures self.new.slot }
         ensures err { OnErr result ((self.new.acted ≡ false) × (work_in self.new.slot ≡ work.Marked) × (is_place self.new.slot ≡ true)) }
         ensures told { (t : Terms) → IsTold S.content t self.old.action self.old.slot → IsTold S.content t self.new.action self.new.slot }

@@ -37,7 +37,7 @@ impl<S: Drop> Slot<S> {
     }
 }
 
-/// What a board is told at the start. It has no bytes.
+/// What a board is opened with. It has no bytes.
 #[derive(Drop)]
 pub struct Key<S> {
     pub plan: Snapshot<Plan>,
@@ -80,11 +80,11 @@ pub struct Law<S> {
 impl<S: Site> TableRule<Slot<S>, View, Key<S>> for Law<S> {
     ghost use Rattle.ts_board.specs.Kept.{Kept, newcomer};
     ghost use Rattle.ts_board.specs.Terms.{work_in, IsTold};
-    ghost use Rattle.ts_board.specs.Keys.{terms_of};
+    ghost use Rattle.ts_board.specs.Keys.{terms_of_key};
 
-    ghost holds = { λ key s. Kept work_in (IsTold S.content) (terms_of S.content key) s };
+    ghost holds = { λ key s. Kept work_in (IsTold S.content) (terms_of_key S.content key) s };
 
-    ghost first = { λ key. newcomer (terms_of S.content key) };
+    ghost first = { λ key. newcomer (terms_of_key S.content key) };
 }
 
 pub struct Look;

@@ -6,8 +6,9 @@ pub mod board;
 pub mod calls;
 pub mod fault;
 pub mod law;
+mod marks;
 mod open;
 mod placing;
 
 pub use board::{Board, Closed, Held, Pass};
-pub use fault::{ArchiveFault, OpenFault};
+pub use fault::OpenFault;

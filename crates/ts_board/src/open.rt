@@ -1,9 +1,9 @@
 //! A board is opened and closed.
 ghost use Rattle.std.specs.Prelude.{ℕ, ◌≡◌, ◌<◌, ◌≤◌, [], IfOk, IfErr, length, slice_index_or};
-ghost use Rattle.std.specs.Mem.Slots.{slots_items, slots_len};
-ghost use Rattle.ts_board.specs.Keys.{terms_of};
-ghost use Rattle.ts_board.specs.Terms.{AreFirstWords, AreSited, IsOrderly, IsUntouched, commit_count, placed, terms_with};
-ghost use Rattle.ts_board.specs.Calls.{Ends, IsPassOf, IsWhole, mine, seen};
+ghost use Rattle.std.specs.Mem.Slots.{slots_len};
+ghost use Rattle.ts_board.specs.Terms.{AreFirstWords, AreSited, IsOrderly, IsUntouched, commit_count, opening_terms, terms_with};
+ghost use Rattle.ts_board.specs.Calls.{Ends, IsPassAt, IsPassOf, IsWhole, mine, plan_of, seen, slots_of, table_of, terms_of, words_of};
+ghost use Rattle.ts_board.specs.Checks.{terms_for};
 ghost use Rattle.ts_board.specs.declared.law.Slot.TheVariants.{Empty};
 
 use crate::board::{Board, Closed, Pass};
@@ -47,8 +47,8 @@ pub(crate) fn open_slots<S: Site>(
     requires each { length slots.items ≡ length plan.now.actions }
     requires sited { AreSited plan.now slots.items }
     requires untouched { (i : ℕ) → IsUntouched (slice_index_or slots.items i Empty) }
-    ensures board { IfOk result (λ r. terms_of S.content r.0.table.shared.key ≡ terms_with S.content plan.now first.now second.now slots.items) }
-    ensures pass { IfOk result (λ r. IsPassOf r.0.table.shared.table_id (terms_with S.content plan.now first.now second.now slots.items) r.1 × IsWhole r.1) }
+    ensures board { IfOk result (λ r. terms_of S.content r.0 ≡ terms_with S.content plan.now first.now second.now slots.items) }
+    ensures pass { IfOk result (λ r. IsPassAt (table_of r.0) (terms_with S.content plan.now first.now second.now slots.items) r.1 × IsWhole r.1) }
     ensures nothing { IfOk result (λ r. (seen r.1 ≡ []) × (mine r.1 ≡ [])) }
     ensures err { IfErr result (λ back. back.items ≡ slots.items) }
 {
@@ -72,7 +72,7 @@ pub(crate) fn open_slots<S: Site>(
 
 impl<S: Site> Board<S> {
     /// A board for an orderly plan, on which nothing is done yet, and its one pass. There is one site for each commit, in
-    /// the order of the actions. Where memory is wanting, the sites come back.
+    /// the order of the actions. Where memory runs out, the sites come back.
     pub(crate) fn open_with(
         alloc: Global,
         plan: &Plan,
@@ -82,8 +82,8 @@ impl<S: Site> Board<S> {
     ) -> Result<(Board<S>, Pass<S>), (Vec<S>, OpenFault)>
         requires orderly { IsOrderly plan.now }
         requires sites { length sites.items ≡ commit_count plan.now.actions }
-        ensures board { IfOk result (λ r. terms_of S.content r.0.table.shared.key ≡ terms_with S.content plan.now first.now second.now (placed plan.now.actions sites.items)) }
-        ensures pass { IfOk result (λ r. IsPassOf r.0.table.shared.table_id (terms_with S.content plan.now first.now second.now (placed plan.now.actions sites.items)) r.1 × IsWhole r.1) }
+        ensures board { IfOk result (λ r. terms_of S.content r.0 ≡ opening_terms S.content plan.now first.now second.now sites.items) }
+        ensures pass { IfOk result (λ r. IsPassAt (table_of r.0) (opening_terms S.content plan.now first.now second.now sites.items) r.1 × IsWhole r.1) }
         ensures nothing { IfOk result (λ r. (seen r.1 ≡ []) × (mine r.1 ≡ [])) }
         ensures back { IfErr result (λ refused. refused.0.items ≡ sites.items) }
     {
@@ -101,15 +101,15 @@ impl<S: Site> Board<S> {
     }
 
     /// A board for a checked plan, on which nothing is done yet, and its one pass. There is one site for each commit, in the
-    /// order of the actions. Where memory is wanting, the sites come back.
+    /// order of the actions. Where memory runs out, the sites come back.
     pub fn open(
         alloc: Global,
         checked: &Checked<'_>,
         sites: Vec<S>,
     ) -> Result<(Board<S>, Pass<S>), (Vec<S>, OpenFault)>
         requires sites { length sites.items ≡ commit_count checked.now.plan.actions }
-        ensures board { IfOk result (λ r. terms_of S.content r.0.table.shared.key ≡ terms_with S.content checked.now.plan checked.now.first checked.now.second (placed checked.now.plan.actions sites.items)) }
-        ensures pass { IfOk result (λ r. IsPassOf r.0.table.shared.table_id (terms_with S.content checked.now.plan checked.now.first checked.now.second (placed checked.now.plan.actions sites.items)) r.1 × IsWhole r.1) }
+        ensures board { IfOk result (λ r. terms_of S.content r.0 ≡ terms_for S.content checked.now sites.items) }
+        ensures pass { IfOk result (λ r. IsPassAt (table_of r.0) (terms_for S.content checked.now sites.items) r.1 × IsWhole r.1) }
         ensures nothing { IfOk result (λ r. (seen r.1 ≡ []) × (mine r.1 ≡ [])) }
         ensures back { IfErr result (λ refused. refused.0.items ≡ sites.items) }
     {
@@ -119,10 +119,10 @@ impl<S: Site> Board<S> {
 
     /// The board at its end, with its words and what lies in its slots.
     pub fn close(self, pass: Pass<S>) -> Closed<S>
-        requires pass { IsPassOf self.table.shared.table_id (terms_of S.content self.table.shared.key) pass }
-        ensures words { length self.table.shared.key.plan.value.actions ≤ slots_len result.row.words }
-        ensures slots { length self.table.shared.key.plan.value.actions ≤ slots_len result.row.slots }
-        ensures ends { Ends S.content (terms_of S.content self.table.shared.key) pass (slots_items result.row.words) (slots_items result.row.slots) }
+        requires pass { IsPassOf S.content self pass }
+        ensures words { length (plan_of self).actions ≤ slots_len result.row.words }
+        ensures slots { length (plan_of self).actions ≤ slots_len result.row.slots }
+        ensures ends { Ends S.content (terms_of S.content self) pass (words_of result) (slots_of result) }
     {
         let Board { table } = self;
         let Pass { seat } = pass;

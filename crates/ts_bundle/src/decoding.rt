@@ -10,7 +10,7 @@ use ts_text::{Lines, Source};
 
 /// The bundle that the lines spell, all of them.
 ///
-/// More than 2^64 - 2 lines are answered as want of memory, since no memory holds their bundle.
+/// More than 2^64 - 2 lines are answered as out of memory, since no memory holds their bundle.
 pub fn decode<S: Source>(alloc: Global, lines: &mut Lines<S>) -> Result<Bundle, BundleFault>
     ensures found { IfOk result (DecodesBundle lines.old) }
     ensures refused { IfErr result (FindsNoBundle lines.old lines.new) }

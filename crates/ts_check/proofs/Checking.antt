@@ -11,7 +11,6 @@ use Rattle.ts_model.specs.declared.plan.Side.{Side}
 use Rattle.ts_model.specs.declared.plan.Kind.TheVariants.{Piece, Commit}
 use Rattle.ts_model.specs.declared.plan.Plan.{Plan}
 use Rattle.ts_model.specs.declared.plan.PlanRule.TheVariants.{PredsAscend, OneCommit}
-use Rattle.ts_laws.proofs.Lists.{element_at}
 use Rattle.ts_check.proofs.Scans.{same_kind}
 use Rattle.ts_check.proofs.Succeeding.{contains_none}
 use Rattle.ts_check.proofs.Verdicts.{limits_hold}
@@ -19,9 +18,7 @@ use Rattle.ts_check.proofs.Waits.{ascending_preds}
 use Rattle.ts_check.specs.Pieces.{IsPieceFor}
 use Rattle.ts_check.specs.Places.{IsIndex, no_action}
 use Rattle.ts_check.specs.Waiting.{AreAllSuccessors}
-
-pub few_actions : (s : Snapshot) (plan : Plan) → Valid s plan → length plan.actions ≤ 1048576
-few_actions s plan valid = (limits_hold s plan (λ rule place less. valid rule place)).1
+use Rattle.ts_name.proofs.Basics.{element_at}
 
 -- the entry of a commit is copied
 pub commit_copies : (s : Snapshot) (plan : Plan) (c e : ℕ) → Valid s plan → KindIs plan c (Commit e) → ¬ (¬ IsCopied plan e)

@@ -13,8 +13,8 @@ use Rattle.ts_check.specs.Places.{IsIndex, no_action}
 use Rattle.ts_check.specs.Waiting.{IsLinked, LacksCommit, LacksDir, LacksLink}
 use Rattle.ts_check.specs.Nearest.{IsDirAbove, IsNearestIndex, IsNearestOf}
 use Rattle.ts_check.proofs.Scans.{same_kind}
-use Rattle.ts_laws.proofs.Lists.{element_at}
 use Rattle.ts_check.proofs.Waits.{IsFirst-same}
+use Rattle.ts_name.proofs.Basics.{element_at}
 
 -- a mark that lacks what stands at its entry among the commits lacks its commit
 pub IsFirst-LacksCommit : (plan : Plan) (commits : List ℕ) → length plan.actions ≤ 1048576 → IsIndex plan Commit (length plan.actions) commits → (o : Option ℕ) → IsFirst (LacksLink plan commits) o → IsFirst (LacksCommit plan) o

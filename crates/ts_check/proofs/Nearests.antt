@@ -8,21 +8,16 @@ use Rattle.ts_name.proofs.Order.{before_itself, before_trans, before_from_above,
 use Rattle.ts_model.specs.Plans.{IsOutOfOrder}
 use Rattle.ts_model.specs.declared.plan.Entry.{Entry}
 use Rattle.ts_model.specs.declared.plan.Reason.TheVariants as reason
-use Rattle.ts_laws.proofs.Lists.{element_at}
 use Rattle.ts_laws.proofs.Plans.{entries_in_order}
 use Rattle.ts_check.specs.Places.{no_action}
 use Rattle.ts_check.specs.Nearest.{IsDirAbove, IsDirEntry, IsEntryAbove, IsNearestIndex, IsNearestOf}
+use Rattle.ts_name.proofs.Basics.{element_at, got_last}
 
 -- what stands before the last element stays
 pub got_front : {A : Type 0} (xs : List A) (x : A) (k : ℕ) → k < length xs → slice_get (xs ++ x ∷ []) k ≡ slice_get xs k
 got_front [] x k h = absurd (omega arith)
 got_front (y ∷ ys) x zero h = refl
 got_front (y ∷ ys) x (suc k) h = got_front ys x k (omega arith)
-
--- the last element
-pub got_last : {A : Type 0} (xs : List A) (x : A) → slice_get (xs ++ x ∷ []) (length xs) ≡ Some x
-got_last [] x = refl
-got_last (y ∷ ys) x = got_last ys x
 
 -- each new directory above entry e is this one or above it
 pub record IsCandidate (entries : List Entry) (e at : ℕ) : Type 0 where

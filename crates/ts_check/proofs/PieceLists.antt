@@ -19,14 +19,15 @@ use Rattle.ts_model.specs.declared.row.Stamp.{Stamp}
 use Rattle.ts_model.specs.declared.plan.Entry.{Entry}
 use Rattle.ts_model.specs.declared.plan.Kind.TheVariants.{Piece, Commit}
 use Rattle.ts_model.specs.declared.plan.Plan.{Plan}
-use Rattle.ts_laws.proofs.Lists.{element_at}
 use Rattle.ts_check.proofs.Scans.{same_kind}
 use Rattle.ts_check.proofs.Rowed.{rows_order}
 use Rattle.ts_check.proofs.Staging.{one_source, source_lists, same_piece}
-use Rattle.ts_check.proofs.Placing.{place_eq, is_eq_Equal}
+use Rattle.ts_check.proofs.Placing.{place_eq}
 use Rattle.ts_check.proofs.Succeeding.{contains_cons, contains_tail, contains_none, at_key-yes, at_key-no}
 use Rattle.ts_check.specs.Lists.{at_key, AreKeysBelow}
 use Rattle.ts_check.specs.Pieces.{IsSourceOf, IsRowOf, IsStagedMap, Place, place_cmp, by_entry, IsPieceFor, IsEarlierPiece, ArePieces, AreAllPieces}
+use Rattle.ts_name.proofs.Order.{is_eq_Equal}
+use Rattle.ts_name.proofs.Basics.{element_at}
 
 -- ---- places in order
 

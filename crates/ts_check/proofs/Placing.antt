@@ -18,15 +18,11 @@ use Rattle.ts_check.proofs.Scans.{same_kind}
 use Rattle.ts_check.proofs.Rowed.{file_row, one_row}
 use Rattle.ts_check.proofs.Staging.{IsPieceOf-from, one_source, source_lists, same_piece}
 use Rattle.ts_check.specs.Pieces.{on_side, IsSourceOf, IsPieceIn, IsRowOf, IsUnlawful, IsAgain, NotEachOnce, IsPlaceOf, IsStagedMap, Place, place_cmp}
+use Rattle.ts_name.proofs.Order.{is_eq_Equal}
 
 -- places that compare equal are equal
 pub place_eq : (x y : Place) → place_cmp x y ≡ Equal → x ≡ y
 place_eq x y e = exact_pairs nat_cmp (λ (a b : ℕ × ℕ). ordering_then (nat_cmp a.0 b.0) (nat_cmp a.1 b.1)) exact_unsigned (exact_pairs nat_cmp nat_cmp exact_unsigned exact_unsigned) x y e
-
-pub is_eq_Equal : (o : Ordering) → is_eq o ≡ true → o ≡ Equal
-is_eq_Equal Less e = cc
-is_eq_Equal Equal e = refl
-is_eq_Equal Greater e = cc
 
 -- what a map has at a place after another was put in
 after_put : (m n : BTreeMap Place ℕ) (z : Place) (i : ℕ) → Updates place_cmp m n z (Some i) → (q : Place) → ((q ≡ z) × (get place_cmp n q ≡ Some i)) ⊎ (get place_cmp n q ≡ get place_cmp m q)

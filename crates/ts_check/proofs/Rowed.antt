@@ -17,8 +17,9 @@ use Rattle.ts_name.specs.Laws.{path_total, tied_paths, same_path_equal}
 use Rattle.ts_name.proofs.Order.{before_itself}
 use Rattle.ts_table.proofs.Rows.{ascend_pair}
 use Rattle.ts_table.proofs.Listings.{listed_at}
-use Rattle.ts_laws.proofs.Lists.{element_at}
 use Rattle.ts_check.specs.Pieces.{IsRowOf}
+use Rattle.ts_name.proofs.Basics.{all_at, element_at}
+use Rattle.ts_model.proofs.Rows.{at_listed}
 
 -- what a search by path finds
 pub row_found : (rows : Listing Stamp) (p : Path) (r : Result ℕ ℕ) → Ascend rows → IsSearchInRange r (length rows) → IsBinarySearchResult (λ row. path_cmp row.path p) rows r
@@ -37,19 +38,9 @@ row_found rows p (Err i) up within h = λ k is.
       | inr more ↦ (let e : path_cmp is.0.path p ≡ Greater = subst (λ (z : Row Stamp). path_cmp z.path p ≡ Greater) here (parted.1 k is.0 more inside) in absurd cc)
     ]
 
--- each row has its fact
-all_at : {A : Type 0} (P : A → Type 0) (xs : List A) → AllByRecursion P xs → (k : ℕ) (x : A) → slice_get xs k ≡ Some x → P x
-all_at P [] all k x e = absurd (none-some x e)
-all_at P (y ∷ ys) all zero x e = subst P (same_Some y x e) all.0
-all_at P (y ∷ ys) all (suc k) x e = all_at P ys all.1 k x e
-
 -- a row's path isn't the root, and something is there
 pub row_is : (rows : Listing Stamp) → IsListing rows → (k : ℕ) (row : Row Stamp) → slice_get rows k ≡ Some row → (row.path ≢ []) × (row.content ≢ Absent)
 row_is rows lists k row is = let h = all_at _ rows lists.rows_are k row is in (h.1, h.2)
-
-at_listed : (rows : Listing Stamp) (p : Path) → p ≢ [] → at rows p ≡ listed rows p
-at_listed rows [] some = absurd (some refl)
-at_listed rows (n ∷ p) some = refl
 
 -- a row says what is at its path
 pub at_row : (rows : Listing Stamp) → IsListing rows → (k : ℕ) (row : Row Stamp) → slice_get rows k ≡ Some row → at rows row.path ≡ row.content

@@ -11,10 +11,10 @@ use Rattle.ts_model.specs.declared.plan.Entry.{Entry}
 use Rattle.ts_model.specs.declared.plan.Kind.{Kind}
 use Rattle.ts_model.specs.declared.plan.Action.{Action}
 use Rattle.ts_model.specs.declared.plan.Plan.{Plan}
-use Rattle.ts_laws.proofs.Lists.{element_at}
 use Rattle.ts_check.specs.declared.census.Role.{Role}
 use Rattle.ts_check.specs.declared.census.Role.TheVariants.{Commits, Marks}
 use Rattle.ts_check.specs.Places.{IsIndex, IsUnmet, IsWanted, Wants, NotOneOf, kind_of, no_action}
+use Rattle.ts_name.proofs.Basics.{element_at}
 
 -- ---- lists
 

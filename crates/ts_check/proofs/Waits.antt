@@ -14,6 +14,7 @@ use Rattle.ts_name.specs.Paths.{Path}
 use Rattle.ts_check.proofs.Scans.{same_kind}
 use Rattle.ts_check.specs.Places.{IsFirst, IsIndex}
 use Rattle.ts_check.specs.Waiting.{AscendFrom, HasBadPreds, IsLateFor, IsLinked, LacksLink, LacksPiece, least}
+use Rattle.ts_laws.proofs.Lists.{decide_ascend}
 
 -- ---- ascending numbers
 
@@ -64,15 +65,6 @@ IsFirst-least A B k keeps new only (Some i) h = elim (cases_lt i k) [
     subst B (omega arith) new,
     λ j below wrong. elim (only j wrong) [ inl old ↦ h.1 j (omega arith) old | inr same ↦ omega arith ],
   )
-]
-
--- whether numbers ascend is decided
-pub decide_ascend : (n : ℕ) (xs : List ℕ) → Dec (AscendBelow n xs)
-decide_ascend n [] = yes tt
-decide_ascend n (x ∷ []) = elim (cases_lt x n) [ inl h ↦ yes h | inr h ↦ no (λ less. omega arith) ]
-decide_ascend n (x ∷ y ∷ ys) = elim (cases_lt x y) [
-  | inl h ↦ elim (decide_ascend n (y ∷ ys)) [ yes more ↦ yes (h, more) | no m ↦ no (λ all. m all.1) ]
-  | inr h ↦ no (λ all. let less = all.0 in omega arith)
 ]
 
 -- ---- waiting

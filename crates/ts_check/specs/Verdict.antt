@@ -1,6 +1,6 @@
 -- What the checker answers.
 --     HoldBelow s plan n      no rule before the n-th is broken anywhere
---     IsTold s plan fault     a plan that is told to be broken is broken there first
+--     IsTold s plan fault     a plan that is called broken is broken there first
 --     IsSafe s plan           what every run of the plan keeps, where it ends, and how it is resumed
 use Rattle.std.specs.Prelude.{ℕ, ◌<◌}
 use Rattle.ts_model.specs.Sync.{Snapshot}

@@ -1,6 +1,7 @@
 //! Which entry has which commit and which mark: each entry that wants one has one.
 
-ghost use Rattle.std.specs.Prelude.{◌≡◌, ◌≢◌, ◌≤◌, ◌<◌, ◌↔◌, ◌+◌, ℕ, length, replicate, slice_get, IsTrue, IfSome, IfNone, IfOk, IfErr, MatchOption, MatchResult, Some};
+ghost use Rattle.std.specs.Prelude.{◌≡◌, ◌≢◌, ◌≤◌, ◌<◌, ◌↔◌, ◌+◌, ℕ, length, replicate, slice_get, IsTrue, IfSome, IfNone, IfOk};
+ghost use Rattle.std.specs.Prelude.{IfErr, MatchOption, MatchResult, Some};
 ghost use Rattle.ts_check.specs.Places.{IsFirst, IsIndex, IsUnmet, IsWanted, Never, NotOneOf, kind_of, no_action};
 ghost use Rattle.ts_model.specs.Plans.{entry_limit, action_limit};
 

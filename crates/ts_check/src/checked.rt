@@ -18,7 +18,7 @@ use crate::census::NO_ACTION;
 use crate::fault::CheckFault;
 use crate::kinds::{commit_entry, piece_entry, source_side};
 use crate::lists::Lists;
-use std::alloc::Global;
+use std::alloc::{AllocError, Global};
 use std::marker::Model;
 use ts_hold::Holds;
 use ts_model::plan::{Plan, Side};
@@ -147,7 +147,7 @@ impl<'a> Checked<'a> {
         }
     }
 
-    /// The pieces of a commit, by path and then by offset; none for what is no commit.
+    /// The pieces of a commit, by path and then by offset; none for another action.
     pub fn pieces(&self, c: u32) -> &[u32]
         ensures pieces { (k : ℕ) → Contains result.now k ↔ IsPieceOf self.now.plan c k }
         ensures order { AllPairs (IsEarlierPiece self.now.plan) result.now }
@@ -158,7 +158,7 @@ impl<'a> Checked<'a> {
         }
     }
 
-    /// The commit that a piece is for; none for what is no piece.
+    /// The commit that a piece is for; none for another action.
     pub fn commit_of(&self, k: u32) -> Option<u32>
         ensures commit { IfSome result (λ c. IsPieceOf self.now.plan c k) }
         ensures none { IfNone result ((c : ℕ) → ¬ IsPieceOf self.now.plan c k) }
@@ -211,15 +211,10 @@ impl<'a> Checked<'a> {
     }
 
     /// The assembly of a commit: all directories and files of its source, each file without bytes yet.
-    pub fn staged(&self, alloc: Global, c: u32) -> Result<Staged, CheckFault>
+    pub fn staged(&self, alloc: Global, c: u32) -> Result<Staged, AllocError>
         requires { IsCommit self.now.plan c }
         ensures begun { IfOk result (λ staged. (part : Part) × IsSourcePart self.now c part × (staged ≡ assembly_of part)) }
-        ensures fault { IfErr result (λ e. e ≡ CheckFault.OutOfMemory) }
     {
-        let after = self.after(c);
-        match Staged::begin(alloc, &after) {
-            Ok(staged) => Ok(staged),
-            Err(_) => Err(CheckFault::OutOfMemory),
-        }
+        Staged::begin(alloc, &self.after(c))
     }
 }

@@ -3,11 +3,11 @@ ghost use Rattle.std.specs.Prelude.{◌≡◌};
 use std::alloc::{AllocError, AllocFailed};
 use thiserror::Error;
 use ts_model::plan::PlanRule;
-use ts_need::NeedFault;
 
 /// Why a plan wasn't accepted.
 #[derive(Clone, Copy, Debug, PartialEq, Eq, Drop, Error)]
 pub enum CheckFault {
+    /// Memory ran out.
     #[error("out of memory")]
     OutOfMemory,
     /// The first rule that the plan breaks, with the least place where it does.
@@ -18,7 +18,7 @@ pub enum CheckFault {
 impl CheckFault {
     ghost use Rattle.ts_check.specs.Verdict.{fault_number};
 
-    /// The fault's number: 1 for want of memory, 13 for a broken plan.
+    /// The fault's number: 1 for out of memory, 13 for a broken plan.
     pub fn number(&self) -> u8
         ensures { result ≡ fault_number self.now }
     {
@@ -45,16 +45,6 @@ impl<T: Drop> From<AllocFailed<T>> for CheckFault {
     ghost from_gives = { λ _ e. e ≡ OutOfMemory };
 
     fn from(_fault: AllocFailed<T>) -> CheckFault {
-        CheckFault::OutOfMemory
-    }
-}
-
-impl From<NeedFault> for CheckFault {
-    ghost use Rattle.ts_check.specs.declared.fault.CheckFault.TheVariants.{OutOfMemory};
-
-    ghost from_gives = { λ _ e. e ≡ OutOfMemory };
-
-    fn from(_fault: NeedFault) -> CheckFault {
         CheckFault::OutOfMemory
     }
 }

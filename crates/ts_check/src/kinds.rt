@@ -8,7 +8,7 @@ ghost use Rattle.ts_model.specs.declared.plan.Kind.TheVariants.{Commit};
 
 use ts_model::plan::{Kind, Plan, Side};
 
-/// The entry of a commit; none for what is no commit.
+/// The entry of a commit; none for another action.
 pub fn commit_entry(plan: &Plan, c: u32) -> Option<u32>
     ensures some { IfSome result (λ e. KindIs plan.now c (Commit e)) }
     ensures none { IfNone result ((e : ℕ) → ¬ KindIs plan.now c (Commit e)) }
@@ -24,7 +24,7 @@ pub fn commit_entry(plan: &Plan, c: u32) -> Option<u32>
     }
 }
 
-/// The entry of a piece; none for what is no piece.
+/// The entry of a piece; none for another action.
 pub fn piece_entry(plan: &Plan, k: u32) -> Option<u32>
     ensures some { IfSome result (λ e. IsPieceFor plan.now e k) }
     ensures none { IfNone result ((e : ℕ) → ¬ IsPieceFor plan.now e k) }

@@ -7,13 +7,7 @@ ghost use Rattle.ts_model.specs.Sync.{Snapshot};
 ghost use Rattle.ts_model.specs.declared.plan.PlanRule.TheVariants.{Limits};
 ghost use Rattle.std.specs.Prelude.{IsTrue, ◌↔◌};
 
-use ts_model::plan::{Action, Plan};
-
-const ENTRY_LIMIT: usize = 1_048_576;
-
-const ACTION_LIMIT: usize = 1_048_576;
-
-const PRED_LIMIT: usize = 4_194_304;
+use ts_model::plan::{ACTION_LIMIT, Action, ENTRY_LIMIT, PRED_LIMIT, Plan};
 
 /// Whether the actions have no more predecessors than the limit, all together.
 fn has_few_preds(actions: &[Action]) -> bool

@@ -1,7 +1,8 @@
 //! The pieces: each is lawful, and each lawful one stands once.
 
 ghost use Rattle.std.specs.Prelude.{◌≡◌, ◌≢◌, ◌≤◌, ◌<◌, ◌↔◌, ℕ, length, IsTrue, IsSome, IfSome, IfNone, IfOk, IfErr, MatchOption, Some, None, false, []};
-ghost use Rattle.ts_check.specs.Pieces.{HasAll, HasAllBelow, HasNoRoot, IsAgain, IsPieceIn, IsRowOf, IsSourceOf, IsUnlawful, IsPlaceOf, IsStagedMap, LacksBelow, LacksRange, LacksSome, NotEachOnce, Place};
+ghost use Rattle.ts_check.specs.Pieces.{HasAll, HasAllBelow, HasNoRoot, IsAgain, IsPieceIn, IsRowOf, IsSourceOf, IsUnlawful, IsPlaceOf, IsStagedMap, LacksBelow};
+ghost use Rattle.ts_check.specs.Pieces.{LacksRange, LacksSome, NotEachOnce, Place};
 ghost use Rattle.ts_check.specs.Places.{IsFirst, Never};
 ghost use Rattle.ts_model.specs.Plans.{EntryIs, IsCopied, IsRange, action_limit, entry_limit};
 ghost use Rattle.ts_model.specs.Trees.{IsListing};
@@ -13,12 +14,9 @@ ghost use Rattle.ts_model.specs.declared.row.Stamp.{Stamp};
 use crate::order::row_of;
 use std::alloc::{AllocError, Global};
 use std::collections::BTreeMap;
-use ts_model::plan::{Kind, Plan, Side};
+use ts_model::plan::{Kind, PIECE_SIZE, Plan, Side};
 use ts_model::row::{Content, Row, Stamp};
 use ts_name::Path;
-
-/// The bytes of a piece, except the last of a file.
-const PIECE_SIZE: u64 = 1_048_576;
 
 /// An entry, a row of its source, and an offset.
 pub type Place = (u32, (usize, u64));

@@ -59,8 +59,10 @@ fn without_value(alloc: Global) -> Result<CommandFault, CommandFault>
 
 /// What is answered where clap gives no matches: help and version are printed, all else is a mistake in the words.
 fn tell<'a>(message: clap::Error) -> Result<Command<'a>, CommandFault>
-    ensures asked { (words : List (List ℕ)) → (takes command_line words ≡ true → kind_of message ≡ ErrorKind.OutOfMemory) → IfOk result (λ command. AsksToTell words command.job) }
-    ensures usage { (words : List (List ℕ)) → (takes command_line words ≡ true → kind_of message ≡ ErrorKind.OutOfMemory) → IfErr result (λ e. e ≢ OutOfMemory → takes command_line words ≢ true) }
+    ensures asked { (words : List (List ℕ)) → (takes command_line words ≡ true → kind_of message ≡ ErrorKind.OutOfMemory)
+        → IfOk result (λ command. AsksToTell words command.job) }
+    ensures usage { (words : List (List ℕ)) → (takes command_line words ≡ true → kind_of message ≡ ErrorKind.OutOfMemory)
+        → IfErr result (λ e. e ≢ OutOfMemory → takes command_line words ≢ true) }
 {
     match message.kind() {
         ErrorKind::OutOfMemory => Err(CommandFault::OutOfMemory),

@@ -13,10 +13,9 @@ use Rattle.ts_model.specs.declared.row.Content.TheVariants.{Absent, Dir, File}
 use Rattle.ts_model.specs.declared.row.Stamp.{Stamp}
 use Rattle.ts_model.specs.declared.plan.Side.TheVariants as side
 use Rattle.ts_dirty.specs.Found.{AreAscending, AreTopmost, HasBelow, HasAbove, Found, IsFoundOf}
-use Rattle.ts_name.proofs.Order.{before_trans, before_cases, before_turned}
+use Rattle.ts_name.proofs.Order.{before_trans, before_cases, before_turned, is_lt_Less}
 use Rattle.ts_name.proofs.Prefixes.{above_itself, above_trans, above_either}
 use Rattle.ts_dirty.proofs.Order.{above_upto, above_between}
-use Rattle.ts_dirty.proofs.Rows.{Less-from_test}
 
 -- ---- by halving
 
@@ -24,7 +23,7 @@ use Rattle.ts_dirty.proofs.Rows.{Less-from_test}
 pub before_front : (ps : List Path) (p : Path) → AreAscending ps → IsPartitionedBy (λ y. is_lt (path_cmp y p)) ps
 before_front ps p ascending i j d le l h = elim (cases_lt i j) [
   | inl less ↦ let before : IsBefore (get_or ps i d) (get_or ps j d) = ascending i j d less l in
-      let e : path_cmp (get_or ps i d) p ≡ Less = before_trans _ _ p before (Less-from_test _ h) in rw e refl
+      let e : path_cmp (get_or ps i d) p ≡ Less = before_trans _ _ p before (is_lt_Less _ h) in rw e refl
   | inr more ↦ let same : j ≡ i = omega arith in subst (λ (k : ℕ). is_lt (path_cmp (get_or ps k d) p) ≡ true) same h
 ]
 
@@ -32,7 +31,7 @@ before_front ps p ascending i j d le l h = elim (cases_lt i j) [
 pub place_parts : (ps : List Path) (p : Path) (at : ℕ) → IsPartitionPoint (λ y. is_lt (path_cmp y p) ≡ true) (λ y. is_lt (path_cmp y p) ≡ false) ps at
     → IsPartitionPoint (λ q. IsBefore q p) (λ q. ¬ IsBefore q p) ps at
 place_parts ps p at parts = (
-  λ k d l h. Less-from_test _ (parts.0 k d l h),
+  λ k d l h. is_lt_Less _ (parts.0 k d l h),
   λ k d l h before. let e : path_cmp (get_or ps k d) p ≡ Less = before in let f : is_lt (path_cmp (get_or ps k d) p) ≡ true = rw e refl in true_not_false (sym f ∙ parts.1 k d l h),
 )
   where

@@ -16,12 +16,7 @@ use Rattle.ts_dirty.specs.Walks.{ArePlain, IsStep, HasNoneBefore, IsEarlier, IsL
 use Rattle.ts_name.specs.Laws.{path_total, tied_paths, same_path_itself, same_path_differ}
 use Rattle.ts_name.proofs.Order.{before_itself, before_trans, before_cases, before_turned, decide_before}
 use Rattle.ts_dirty.proofs.Order.{before_upto, upto_before}
-
-pub listed_here : {F : Type 0} (row : Row F) (rows : Listing F) → listed (row ∷ rows) row.path ≡ row.content
-listed_here row rows = rw (same_path_itself row.path)
-
-pub listed_there : {F : Type 0} (row : Row F) (rows : Listing F) (p : Path) → row.path ≢ p → listed (row ∷ rows) p ≡ listed rows p
-listed_there row rows p differ = rw (same_path_differ row.path p differ)
+use Rattle.ts_model.proofs.Rows.{listed_here, listed_there}
 
 -- what is left after the first row is plain
 pub plain_rest : {F : Type 0} (row : Row F) (rows : Listing F) → ArePlain (row ∷ rows) → ArePlain rows
@@ -153,17 +148,6 @@ step_nothing (row ∷ rows) p plain none differ = elim (before_cases p row.path)
     | inr less ↦ absurd (plain.there.0 (sym (listed_here row rows) ∙ none row.path less))
   ]
 ]
-
--- a test for equality, and one for less
-pub Equal-from_test : (o : Ordering) → is_eq o ≡ true → o ≡ Equal
-Equal-from_test Less h = cc
-Equal-from_test Equal h = refl
-Equal-from_test Greater h = cc
-
-pub Less-from_test : (o : Ordering) → is_lt o ≡ true → o ≡ Less
-Less-from_test Less h = refl
-Less-from_test Equal h = cc
-Less-from_test Greater h = cc
 
 pub not_Equal : (o : Ordering) → is_eq o ≡ false → o ≢ Equal
 not_Equal Less h e = cc

@@ -4,7 +4,6 @@ ghost use Rattle.ts_model.specs.Holds.{Names};
 ghost use Rattle.ts_model.specs.Sync.{listed_snapshot};
 ghost use Rattle.ts_model.specs.Trees.{IsListing};
 
-use crate::fault::DirtyFault;
 use crate::marks::Marks;
 use crate::walk::{Seen, Walk};
 use std::alloc::{AllocError, Global};
@@ -17,14 +16,14 @@ use ts_print::Print;
 ///
 /// # Errors
 ///
-/// Want of memory.
+/// `AllocError` where memory ran out.
 pub fn detect(
     alloc: Global,
     archive: &Print,
     first: &Print,
     second: &Print,
     holds: &Holds,
-) -> Result<Marks, DirtyFault>
+) -> Result<Marks, AllocError>
     ensures { IfOk result (λ marks. IsFoundOf (listed_snapshot archive.now first.now second.now holds.now) marks) }
 {
     compare(alloc, archive.rows(), first.rows(), second.rows(), holds)
@@ -37,7 +36,7 @@ fn compare(
     first: &[Row<Stamp>],
     second: &[Row<Stamp>],
     holds: &Holds,
-) -> Result<Marks, DirtyFault>
+) -> Result<Marks, AllocError>
     requires archive { IsListing archive.now }
     requires first { IsListing first.now }
     requires second { IsListing second.now }
@@ -109,10 +108,7 @@ fn note(
     ensures { IfOk result (λ _. paths.new.items ≡ cond is_wanted (paths.old.items ++ path.now ∷ []) paths.old.items) }
 {
     if is_wanted {
-        let Ok(copy) = path.copy(alloc) else {
-            return Err(AllocError);
-        };
-        paths.push(copy)?;
+        paths.push(path.copy(alloc)?)?;
     }
     Ok(())
 }

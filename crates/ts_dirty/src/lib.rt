@@ -2,11 +2,9 @@
 #![tactic(auto)]
 
 mod detection;
-mod fault;
 mod marks;
 mod walk;
 
 pub use detection::detect;
-pub use fault::DirtyFault;
 pub use marks::Marks;
 pub use walk::{Seen, Walk};

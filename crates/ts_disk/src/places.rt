@@ -86,7 +86,7 @@ impl<R: Drop> DiskPlaces<R> {
         self.failures
     }
 
-    /// Counts a failure, if it is one, and answers what is told of it.
+    /// Counts a failure, if it is one, and answers what is reported of it.
     pub(crate) fn counted(&mut self, done: &io::Result<()>) -> Result<(), Failed>
         ensures { Counts self.old.failures self.new.failures result }
     {

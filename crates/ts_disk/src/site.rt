@@ -20,7 +20,7 @@ use ts_swap::{Places, Spot, replace};
 ///
 /// A commit that the device fails at tries to leave what was there: it brings its swap to an end once more. That this
 /// succeeded, and that the disk returns what was written to it, is for its user to know. Where the device has failed
-/// 2^64 - 1 times, each commit answers want of memory.
+/// 2^64 - 1 times, each commit answers out of memory.
 #[derive(Drop)]
 pub struct DiskSite<R> {
     files: R,

@@ -12,13 +12,14 @@ use Rattle.ts_model.specs.Plans.{ActionIs, Valid, Waits}
 use Rattle.ts_model.specs.Runs.{Run, Has, HasNot, Legal, claims, finishes, fails, releases, open_count, word_after}
 use Rattle.ts_model.specs.declared.plan.Action.{Action}
 use Rattle.ts_model.specs.declared.plan.Plan.{Plan}
-use Rattle.ts_laws.proofs.Lists.{Among, Among-from_Contains, Contains-from_Among, element_at}
+use Rattle.ts_laws.proofs.Lists.{Among, Among-from_Contains, Contains-from_Among}
 use Rattle.ts_laws.proofs.Runs.{same_action}
 use Rattle.ts_board.specs.Runs.{StartsWith}
 use Rattle.ts_board.proofs.Words.{done_word, failed_word, false_from_bit, true_from_bit}
 use Rattle.ts_exec.specs.Tidy.{IsTidy, WasTried}
 use Rattle.ts_exec.proofs.Steps.{has_left, not_some, none_or_some}
 use Rattle.ts_exec.proofs.Runs.{free_word, legal_front}
+use Rattle.ts_name.proofs.Basics.{element_at}
 
 -- ---- what an unclaimed action waits for
 

@@ -14,8 +14,8 @@ use Rattle.ts_board.specs.Kept.{HasLeft}
 use Rattle.ts_board.specs.Checks.{IsFromCheck}
 use Rattle.ts_folder.specs.declared.folder.Call.{Call}
 use Rattle.ts_folder.specs.declared.fault.Trouble.{Trouble}
-use Rattle.ts_exec.specs.Failures.{Setting, MayFail, setting_of}
-use Rattle.ts_exec.specs.Outcomes.{IsEnd, IsOutcome, ResultIs, ResultFits}
+use Rattle.ts_exec.specs.Failures.{MayFail, Setting, setting_with}
+use Rattle.ts_exec.specs.Outcomes.{IsEnd, IsOutcome, ResultFits, ResultIs}
 use Rattle.ts_exec.specs.Tidy.{IsTidy, Noted, Swept}
 use Rattle.ts_exec.specs.declared.fault.ActFault.{ActFault}
 use Rattle.ts_exec.specs.declared.outcome.ActionResult.{ActionResult}
@@ -51,10 +51,10 @@ result_fits x r faults noted i (Blocked k) is = is
 module _ {S F : Type 0} (content : S → Option (Listing (List ℕ))) (failures : S → ℕ) (tells : F → Option (Listing (List ℕ))) (lets : F → Call → Path → Trouble → Type 0)
     (k : Checkup) (valid : Valid (snapshot_of k) k.plan) (first second : F) (t opened : Terms) (same : t ≡ opened) (checked : IsFromCheck opened k)
     (p : Pass S) (words : List ℕ) (slots : List (Slot S)) (faults : List (Option ActFault)) (ends : Ends content t p words slots) (whole : IsWhole p)
-    (tidy : IsTidy k.plan (mine p)) (noted : Noted (setting_of failures tells lets k first second t.told) (mine p) (seen p) faults)
+    (tidy : IsTidy k.plan (mine p)) (noted : Noted (setting_with failures tells lets k first second t.told) (mine p) (seen p) faults)
     (swept : Swept k.plan (length k.plan.actions) (mine p) (seen p)) where
   abbrev pub setting : Terms → Setting
-  setting z = setting_of failures tells lets k first second z.told
+  setting z = setting_with failures tells lets k first second z.told
 
   from : IsFromCheck t k
   from = subst (λ (z : Terms). IsFromCheck z k) (sym same) checked

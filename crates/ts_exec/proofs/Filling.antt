@@ -21,11 +21,12 @@ use Rattle.ts_laws.proofs.Steps.{same_kind}
 use Rattle.ts_print.specs.Assemblies.{begun, begun_rows, more, with_more}
 use Rattle.ts_print.specs.Prints.{stamped_rows}
 use Rattle.ts_print.proofs.Assembling.{KeepsKinds, listed-changed}
-use Rattle.ts_print.proofs.Stamping.{ascend-stamped, listed-stamped, stamped_absent}
+use Rattle.ts_print.proofs.Stamping.{ascend-stamped, listed-stamped}
 use Rattle.ts_table.proofs.Listings.{one_listed}
 use Rattle.ts_check.specs.Pieces.{IsEarlierPiece}
 use Rattle.ts_exec.proofs.Rows.{among_take}
 use Rattle.ts_exec.proofs.Ranges.{aligned_end, earlier_offset, end_before, lawful, no_gap, offset_in, path_in, range_within, same_bytes, size_in, some_bytes}
+use Rattle.ts_model.proofs.Rows.{stamped_absent}
 
 -- ---- rows whose files have these bytes
 

@@ -1,4 +1,4 @@
--- Over folders that tell trees of the checked prints nothing misfits, and where nothing else is wrong actions fail for want of memory alone.
+-- Over folders that tell trees of the checked prints nothing misfits, and where nothing else is wrong actions fail only where memory runs out.
 use Rattle.std.proofs.Common.{◌≡◌, ℕ, ◌+◌, ◌<◌, List, length, Option, IfSome, refl, ap, ◌∙◌, subst, arith}
 use Rattle.ts_model.specs.Trees.{Listing, at}
 use Rattle.ts_model.specs.Plans.{KindIs, Valid}
@@ -11,8 +11,8 @@ use Rattle.ts_laws.proofs.Steps.{entry_of_kind}
 use Rattle.ts_board.specs.declared.law.Slot.{Slot}
 use Rattle.ts_board.specs.declared.law.Terms.{Terms}
 use Rattle.ts_check.specs.Checkup.{snapshot_of}
-use Rattle.ts_exec.specs.Failures.{Setting, AreRead, KindFails, TellsTree}
-use Rattle.ts_exec.specs.Outcomes.{IsCopiedFrom, IsOutcome, IsSteady, MisfitsAreUntold, WantMemoryAlone}
+use Rattle.ts_exec.specs.Failures.{AreRead, KindFails, Setting, TellsTree}
+use Rattle.ts_exec.specs.Outcomes.{IsCopiedFrom, IsOutcome, IsSteady, MisfitsAreUntold, OnlyMemoryRanOut}
 use Rattle.ts_exec.specs.declared.fault.ActFault.{ActFault}
 use Rattle.ts_exec.specs.declared.fault.ActFault.TheVariants.{OutOfMemory, Device, NotThere, Unreadable, Changed, Misfit}
 use Rattle.ts_folder.specs.Folders.{IsFile}
@@ -63,8 +63,8 @@ misfits_untold content x valid t results words slots o i at = (
     let fits = o.each i (Failed Misfit) at in
     untold x valid o.run o.read i fits.1.0 fits.1.1 fits.1.2)
 
-pub want_memory_alone : {S : Type 0} (content : S → Option (Listing (List ℕ))) (x : Setting) → Valid (snapshot_of x.checkup) x.checkup.plan → (t : Terms) (results : List ActionResult) (words : List ℕ) (slots : List (Slot S))
-    → IsOutcome content x t results words slots → IsSteady x → WantMemoryAlone results
-want_memory_alone content x valid t results words slots o steady i f at = (
+pub only_memory_ran_out : {S : Type 0} (content : S → Option (Listing (List ℕ))) (x : Setting) → Valid (snapshot_of x.checkup) x.checkup.plan → (t : Terms) (results : List ActionResult) (words : List ℕ) (slots : List (Slot S))
+    → IsOutcome content x t results words slots → IsSteady x → OnlyMemoryRanOut results
+only_memory_ran_out content x valid t results words slots o steady i f at = (
     let fits = o.each i (Failed f) at in
     steady_fails x valid o.run o.read steady i fits.1.0 f fits.1.1 fits.1.2)

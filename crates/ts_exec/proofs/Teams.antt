@@ -7,12 +7,12 @@ use Rattle.std.proofs.lemmas.Bool.{true≢false}
 use Rattle.std.proofs.lemmas.Option.{none-some}
 use Rattle.atomic_table.specs.Seated.{TableId}
 use Rattle.ts_model.specs.Runs.{Run, Has, fails}
-use Rattle.ts_board.specs.Calls.{HasPart, IsPassOf, IsSamePart, mine, seen}
+use Rattle.ts_board.specs.Calls.{HasPart, IsPassAt, IsSamePart, mine, seen}
 use Rattle.ts_board.specs.Kept.{IsMerged}
 use Rattle.ts_board.specs.Runs.{StartsWith}
 use Rattle.ts_board.specs.declared.board.Pass.{Pass}
 use Rattle.ts_board.specs.declared.law.Terms.{Terms}
-use Rattle.ts_exec.specs.Failures.{Setting, AreTold}
+use Rattle.ts_exec.specs.Failures.{AreTold, Setting}
 use Rattle.ts_exec.specs.Tidy.{HasFault, IsListed, IsSameShare, IsTidy, KeepsList, KeepsNotes, MayBe, Noted}
 use Rattle.ts_exec.specs.declared.crew.Failure.{Failure}
 use Rattle.ts_exec.specs.declared.fault.ActFault.{ActFault}
@@ -24,7 +24,7 @@ use Rattle.ts_exec.proofs.Tries.{tidy_merged, tidy_start}
 
 module _ {S : Type 0} (id : TableId) (t : Terms) (x : Setting) where
   -- a pass with no steps of its own
-  pub fresh_list : (p : Pass S) (fs : List Failure) → IsPassOf id t p → mine p ≡ [] → fs ≡ [] → KeepsList id t x p fs
+  pub fresh_list : (p : Pass S) (fs : List Failure) → IsPassAt id t p → mine p ≡ [] → fs ≡ [] → KeepsList id t x p fs
   fresh_list p fs of none empty = record {
     of_board = of;
     tidy = subst (λ (z : Run). IsTidy x.checkup.plan z) (sym none) (tidy_start x.checkup.plan);
@@ -35,7 +35,7 @@ module _ {S : Type 0} (id : TableId) (t : Terms) (x : Setting) where
     };
   }
 
-  pub same_notes : (p q : Pass S) (fs : List (Option ActFault)) → IsPassOf id t q → seen q ≡ seen p → mine q ≡ mine p → KeepsNotes id t x p fs → KeepsNotes id t x q fs
+  pub same_notes : (p q : Pass S) (fs : List (Option ActFault)) → IsPassAt id t q → seen q ≡ seen p → mine q ≡ mine p → KeepsNotes id t x p fs → KeepsNotes id t x q fs
   same_notes p q fs of sees same k = record {
     of_board = of;
     tidy = subst (λ (z : Run). IsTidy x.checkup.plan z) (sym same) k.tidy;
@@ -43,7 +43,7 @@ module _ {S : Type 0} (id : TableId) (t : Terms) (x : Setting) where
     noted = subst (λ (z : Run). Noted x z (seen q) fs) (sym same) (subst (λ (z : Run). Noted x (mine p) z fs) (sym sees) k.noted);
   }
 
-  pub joined_notes : (p q r : Pass S) (before after : List (Option ActFault)) (failures : List Failure) → KeepsNotes id t x p before → KeepsList id t x q failures → IsPassOf id t r → StartsWith (seen r) (seen p) → StartsWith (seen r) (seen q)
+  pub joined_notes : (p q r : Pass S) (before after : List (Option ActFault)) (failures : List Failure) → KeepsNotes id t x p before → KeepsList id t x q failures → IsPassAt id t r → StartsWith (seen r) (seen p) → StartsWith (seen r) (seen q)
       → IsMerged (mine p) (mine q) (mine r) → length after ≡ length before → ((run : Run) → MayBe x run failures → (i : ℕ) → HasFault x run before i → HasFault x run after i)
       → ((run : Run) → MayBe x run failures → (i : ℕ) → IsListed i failures → HasFault x run after i) → KeepsNotes id t x r after
   joined_notes p q r before after failures notes list of this that merged room kept noted = record {

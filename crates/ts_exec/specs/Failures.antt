@@ -1,5 +1,6 @@
 -- Why an action may fail.
 --     Setting             what folders and sites tell, and may fail with
+--     setting_for ..      that of a run, by the sites of its commits at the start
 --     TellsTree x from    the folder of this side tells a tree, of the print that the plan was checked with
 --     AreRead x r         in these steps, what pieces staged is what their folders tell
 --     AreTold x r own     and what commits put in place, where pieces did so in the steps r
@@ -15,16 +16,19 @@ use Rattle.ts_model.specs.declared.row.Content.TheVariants.{File}
 use Rattle.ts_model.specs.declared.plan.Entry.{Entry}
 use Rattle.ts_model.specs.declared.plan.Kind.{Kind}
 use Rattle.ts_model.specs.declared.plan.Kind.TheVariants.{Piece, Commit, Mark}
+use Rattle.ts_model.specs.declared.plan.Plan.{Plan}
 use Rattle.ts_model.specs.declared.plan.Side.{Side}
 use Rattle.ts_model.specs.declared.plan.Side.TheVariants as side
 use Rattle.ts_model.specs.declared.step.Step.{Step}
 use Rattle.ts_model.specs.declared.step.Step.TheVariants.{Claim, Take, Act, Done, Fail, Release}
 use Rattle.ts_model.specs.declared.step.Work.{Work}
 use Rattle.ts_model.specs.declared.step.Work.TheVariants.{Staged, Put}
-use Rattle.ts_check.specs.Checkup.{Checkup, IsSourcePart, IsTargetPart, snapshot_of}
+use Rattle.ts_check.specs.Checkup.{Checkup, IsSourcePart, snapshot_of}
 use Rattle.ts_print.specs.Parts.{Part}
 use Rattle.ts_print.specs.Assemblies.{Assembly, IsComplete}
-use Rattle.ts_site.specs.Sites.{Differs}
+use Rattle.ts_board.specs.Checks.{DiffersFromTarget, terms_for}
+use Rattle.ts_site.specs.declared.site.Site as sites
+use Rattle.ts_folder.specs.declared.folder.Folder as folders
 use Rattle.ts_folder.specs.Folders.{IsFile, Reads}
 use Rattle.ts_folder.specs.declared.folder.Call.{Call}
 use Rattle.ts_folder.specs.declared.folder.Call.TheVariants.{Read}
@@ -51,14 +55,28 @@ of_side first second side.Second = second
 abbrev pub MayBreak : {S : Type 0} → (S → ℕ) → Type 0
 MayBreak {S} failures = (before : S) × (after : S) × (failures before < failures after)
 
-abbrev pub setting_of : {S F : Type 0} → (S → ℕ) → (F → Option (Listing (List ℕ))) → (F → Call → Path → Trouble → Type 0) → Checkup → F → F → List (Option (Option (Listing (List ℕ)))) → Setting
-setting_of failures tells lets checkup first second told = record {
+abbrev pub setting_with : {S F : Type 0} → (S → ℕ) → (F → Option (Listing (List ℕ))) → (F → Call → Path → Trouble → Type 0)
+    → Checkup → F → F → List (Option (Option (Listing (List ℕ)))) → Setting
+setting_with failures tells lets checkup first second told = record {
   checkup = checkup;
   tells = λ from. tells (of_side first second from);
   lets = λ from p t. lets (of_side first second from) Read p t;
   told = told;
   breaks = MayBreak failures;
 }
+
+-- a run of this checked plan, over folders and sites as they are at its start: the sites are those of the commits, in order
+abbrev pub setting_for : {S F File : Type 0} → sites.Ghosts S → folders.Ghosts F File → Checkup → F → F → List S → Setting
+setting_for site folder k first second starts =
+    setting_with site.failures folder.tells folder.lets k first second (terms_for site.content k starts).told
+
+-- the entry is copied
+abbrev pub IsCopied : Plan → ℕ → Type 0
+IsCopied plan e = (entry : Entry) × (from : Side) × Copies plan e entry from
+
+-- of two values, this is that of the side that the entry is copied from
+abbrev pub IsOfSource : {A : Type 0} → Plan → ℕ → A → A → A → Type 0
+IsOfSource plan e first second it = (entry : Entry) × (from : Side) × Copies plan e entry from × (it ≡ of_side first second from)
 
 -- the folder of this side tells a tree, whose print is the one that the plan was checked with
 abbrev pub TellsTree : Setting → Side → Type 0
@@ -132,7 +150,7 @@ IsMisfit x r c =
 abbrev pub IsChanged : Setting → ℕ → Type 0
 IsChanged x c =
     (content : Option (Listing (List ℕ))) × (slice_index_or x.told c None ≡ Some content)
-    × ((part : Part) × IsTargetPart x.checkup c part × Differs content part.rows)
+    × DiffersFromTarget x.checkup c content
 
 abbrev pub CommitFails : Setting → Run → ℕ → ActFault → Type 0
 CommitFails x r c fault.OutOfMemory = Unit {0}

@@ -3,3 +3,4 @@ pub mod Failures
 pub mod Acts
 pub mod Tidy
 pub mod Outcomes
+pub mod Sharing

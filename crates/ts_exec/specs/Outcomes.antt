@@ -1,11 +1,13 @@
 -- What comes of a plan.
 --     IsEnd plan r words faults       the words and faults after a run in which everything was tried
 --     ResultIs plan r faults i res    what came of action i in the run r, by these faults
+--     AreResults plan r faults res    what came of each action
 --     ResultFits x r i res            what came of action i in the run r
 --     IsOutcome                       all results and sites are those after one legal run
+--     IsOutcomeOf x outcome           the same of what an outcome has
 --     MisfitsAreUntold x results      an action misfits only where its source's folder tells no tree of the checked print
 --     IsSteady x                      folders and sites tell what was checked, and nothing of theirs fails
---     WantMemoryAlone results         an action fails for want of memory alone
+--     OnlyMemoryRanOut results        each action that failed is out of memory
 use Rattle.std.specs.Prelude.{◌≡◌, ℕ, ◌<◌, Contains, List, Some, length, slice_get, slice_index, slice_index_or, Option}
 use Rattle.ts_name.specs.Paths.{Path}
 use Rattle.ts_folder.specs.declared.fault.Trouble.{Trouble}
@@ -18,6 +20,8 @@ use Rattle.ts_model.specs.declared.plan.Plan.{Plan}
 use Rattle.ts_model.specs.declared.step.Step.TheVariants.{Act}
 use Rattle.ts_model.specs.declared.step.Work.TheVariants.{Put}
 use Rattle.ts_model.specs.declared.plan.Side.{Side}
+use Rattle.ts_site.specs.declared.site.Site.{Ghosts}
+use Rattle.ts_board.specs.Calls.{slots_of, words_of}
 use Rattle.ts_board.specs.Terms.{IsTold, work_in}
 use Rattle.ts_board.specs.Runs.{size}
 use Rattle.ts_board.specs.Kept.{HasLeft, Rests}
@@ -28,6 +32,7 @@ use Rattle.ts_exec.specs.Failures.{Setting, AreRead, IsChanged, MayFail, TellsTr
 use Rattle.ts_exec.specs.Tidy.{IsTidy}
 use Rattle.ts_exec.specs.declared.fault.ActFault.{ActFault}
 use Rattle.ts_exec.specs.declared.fault.ActFault.TheVariants.{OutOfMemory, Misfit}
+use Rattle.ts_exec.specs.declared.outcome.Outcome.{Outcome}
 use Rattle.ts_exec.specs.declared.outcome.ActionResult.{ActionResult}
 use Rattle.ts_exec.specs.declared.outcome.ActionResult.TheVariants.{Done, Failed, Blocked}
 
@@ -48,6 +53,9 @@ abbrev pub ResultIs : Plan → Run → List (Option ActFault) → ℕ → Action
 ResultIs plan r faults i Done = Has r (finishes i)
 ResultIs plan r faults i (Failed f) = Has r (fails i) × (slice_get faults i ≡ Some (Some f))
 ResultIs plan r faults i (Blocked k) = HasNot r (claims i) × IsLeastOpen plan r i k
+
+abbrev pub AreResults : Plan → Run → List (Option ActFault) → List ActionResult → Type 0
+AreResults plan r faults results = (i : ℕ) (result : ActionResult) → slice_get results i ≡ Some result → ResultIs plan r faults i result
 
 abbrev pub ResultFits : Setting → Run → ℕ → ActionResult → Type 0
 ResultFits x r i Done = Has r (finishes i)
@@ -71,6 +79,13 @@ pub record IsOutcome {S : Type 0} (content : S → Option (Listing (List ℕ))) 
   pub each : (i : ℕ) (result : ActionResult) → slice_get results i ≡ Some result → ResultFits x run i result
   pub sites : (i : ℕ) → i < size t → Rests work_in (IsTold content t i) t run i (slice_index_or slots i Empty)
 
+-- what a board is opened for in this setting
+abbrev pub terms_in : Setting → Terms
+terms_in x = record { plan = x.checkup.plan; first = x.checkup.first; second = x.checkup.second; told = x.told }
+
+abbrev pub IsOutcomeOf : {S : Type 0} {site : Ghosts S} → Setting → Outcome S site → Type 0
+IsOutcomeOf {S} {site} x outcome = IsOutcome site.content x (terms_in x) outcome.results.items (words_of outcome.closed) (slots_of outcome.closed)
+
 -- the entry of the action is copied from this side
 abbrev pub IsCopiedFrom : Plan → ℕ → Side → Type 0
 IsCopiedFrom plan i from = (entry : Entry) × (entry_of plan i ≡ Some entry) × (source entry.reason ≡ Some from)
@@ -86,5 +101,5 @@ pub record IsSteady (x : Setting) : Type 0 where
   pub unchanged : (c : ℕ) → ¬ IsChanged x c
   pub unbroken : ¬ x.breaks
 
-abbrev pub WantMemoryAlone : List ActionResult → Type 0
-WantMemoryAlone results = (i : ℕ) (f : ActFault) → slice_get results i ≡ Some (Failed f) → f ≡ OutOfMemory
+abbrev pub OnlyMemoryRanOut : List ActionResult → Type 0
+OnlyMemoryRanOut results = (i : ℕ) (f : ActFault) → slice_get results i ≡ Some (Failed f) → f ≡ OutOfMemory

@@ -1,23 +1,28 @@
 -- What a worker keeps between two tries.
 --     IsTidy plan own          of these steps: what is claimed in them is ended, and what is done is released
 --     AreTakes, AreReleases    the takes of a commit, the releases of what is done
+--     ReleasesAll plan i b     in these steps action i is released to all that wait for it
 --     IsTry plan i fault b     the steps b of one try of action i, which failed with this fault or didn't fail
+--     MakesTry x p i fault q   between these passes one try of action i was made
+--     AreFresh members         no worker has found a failure yet
 --     Listed, Noted            why each action failed is known, and what acts did is what folders tell
+--     StayNoted, AreNoted      what the list of a worker adds to the faults that are noted
 --     Swept                    the actions below this number were tried in order
 --     KeepsList, KeepsNotes    a pass of this board is tidy, and Listed or Noted
-use Rattle.std.specs.Prelude.{◌≡◌, ◌≢◌, ◌⊎◌, ℕ, ◌<◌, ◌*◌, ◌^◌, length, List, [], ◌∷◌, Option, Some, IsSome, slice_get}
+use Rattle.std.specs.Prelude.{◌≡◌, ◌≢◌, ◌⊎◌, ℕ, ◌<◌, ◌*◌, ◌^◌, All, length, List, [], ◌∷◌, ◌++◌, Option, Some, IsSome, slice_get}
 use Rattle.atomic_table.specs.Seated.{TableId}
 use Rattle.ts_model.specs.Plans.{Waits}
 use Rattle.ts_model.specs.Runs.{Run, Has, claims, finishes, fails, releases, takes, word_after, IsPieceOf}
 use Rattle.ts_model.specs.declared.plan.Plan.{Plan}
 use Rattle.ts_model.specs.declared.step.Step.TheVariants.{Take, Release}
 use Rattle.ts_board.specs.Runs.{StartsWith}
-use Rattle.ts_board.specs.Calls.{IsPassOf, mine, seen}
+use Rattle.ts_board.specs.Calls.{IsPassAt, mine, seen}
 use Rattle.ts_board.specs.declared.board.Pass.{Pass}
 use Rattle.ts_board.specs.declared.law.Terms.{Terms}
 use Rattle.ts_exec.specs.Failures.{Setting, AreTold, MayFail}
 use Rattle.ts_exec.specs.declared.fault.ActFault.{ActFault}
 use Rattle.ts_exec.specs.declared.crew.Failure.{Failure}
+use Rattle.ts_exec.specs.declared.crew.Member.{Member}
 
 pub record IsTidy (plan : Plan) (own : Run) : Type 0 where
   pub ended : (i : ℕ) → Has own (claims i) → Has own (finishes i) ⊎ Has own (fails i)
@@ -32,10 +37,20 @@ abbrev pub AreReleases : ℕ → Run → Type 0
 AreReleases i [] = Unit {0}
 AreReleases i (x ∷ xs) = ((j : ℕ) × (x ≡ Release i j)) × AreReleases i xs
 
+abbrev pub ReleasesAll : Plan → ℕ → Run → Type 0
+ReleasesAll plan i own = (j : ℕ) → Waits plan j i → Has own (releases i j)
+
 pub record IsTry (plan : Plan) (i : ℕ) (fault : Option ActFault) (block : Run) : Type 0 where
   pub tidy : IsTidy plan block
   pub done : (k : ℕ) → Has block (finishes k) → k ≡ i
   pub failed : (k : ℕ) → Has block (fails k) → (k ≡ i) × IsSome fault
+
+-- the steps of the one try are the last of the pass's own, and what acts did in them is what folders tell
+abbrev pub MakesTry : {S : Type 0} → Setting → Pass S → ℕ → Option ActFault → Pass S → Type 0
+MakesTry x p i fault q = (block : Run) × (mine q ≡ mine p ++ block) × IsTry x.checkup.plan i fault block × AreTold x (seen q) block
+
+abbrev pub AreFresh : List Member → Type 0
+AreFresh members = All (λ (m : Member). m.failures.items ≡ []) members
 
 -- the number of the failed action is in the list
 abbrev pub IsListed : ℕ → List Failure → Type 0
@@ -60,15 +75,23 @@ pub record Noted (x : Setting) (own seen : Run) (faults : List (Option ActFault)
   pub each : (i : ℕ) → Has own (fails i) → HasFault x seen faults i
   pub told : AreTold x seen own
 
+-- where all in the list may have failed so after any steps, faults that may be had after them are still noted
+abbrev pub StayNoted : Setting → List Failure → List (Option ActFault) → List (Option ActFault) → Type 0
+StayNoted x failures old new = (r : Run) → MayBe x r failures → (i : ℕ) → HasFault x r old i → HasFault x r new i
+
+-- and each action in the list has its fault noted
+abbrev pub AreNoted : Setting → List Failure → List (Option ActFault) → Type 0
+AreNoted x failures new = (r : Run) → MayBe x r failures → (i : ℕ) → IsListed i failures → HasFault x r new i
+
 -- what a worker has between two tries
 pub record KeepsList {S : Type 0} (id : TableId) (t : Terms) (x : Setting) (pass : Pass S) (failures : List Failure) : Type 0 where
-  pub of_board : IsPassOf id t pass
+  pub of_board : IsPassAt id t pass
   pub tidy : IsTidy x.checkup.plan (mine pass)
   pub listed : Listed x (mine pass) (seen pass) failures
 
 -- what workers leave behind together
 pub record KeepsNotes {S : Type 0} (id : TableId) (t : Terms) (x : Setting) (pass : Pass S) (faults : List (Option ActFault)) : Type 0 where
-  pub of_board : IsPassOf id t pass
+  pub of_board : IsPassAt id t pass
   pub tidy : IsTidy x.checkup.plan (mine pass)
   pub room : length faults ≡ length x.checkup.plan.actions
   pub noted : Noted x (mine pass) (seen pass) faults

@@ -1,25 +1,22 @@
 //! The acts of pieces, commits and marks.
-ghost use Rattle.std.specs.Prelude.{ℕ, ◌≡◌, ◌<◌, ◌++◌, length, IfErr, OnErr, OnOk};
-ghost use Rattle.ts_board.specs.Calls.{HasActed, IsFresh, IsPassOf, IsSamePart, mine, seen, work_of};
-ghost use Rattle.ts_board.specs.Keys.{terms_of};
+ghost use Rattle.std.specs.Prelude.{◌≡◌, ◌<◌, ◌++◌, length, IfErr, OnErr, OnOk};
+ghost use Rattle.ts_board.specs.Calls.{HasActed, IsFresh, IsPassOf, IsSamePart, mine, seen, terms_of, work_of};
 ghost use Rattle.ts_board.specs.Runs.{StartsWith};
 ghost use Rattle.ts_board.specs.Terms.{IsSited};
-ghost use Rattle.ts_check.specs.Checkup.{IsCommit, IsSourcePart};
-ghost use Rattle.ts_exec.specs.Acts.{HasAll, IsActed, MayGoOn};
-ghost use Rattle.ts_exec.specs.Failures.{AreRead, HasRead, IsTold, MayFail, TellsTree, setting_of};
+ghost use Rattle.ts_check.specs.Checkup.{IsCommit};
+ghost use Rattle.ts_exec.specs.Acts.{HasAll, HasNone, IsActed, IsAppended, IsMadeWhole, IsPut, MayGoOn};
+ghost use Rattle.ts_exec.specs.Failures.{HasRead, IsTold, MayFail};
 ghost use Rattle.ts_exec.specs.Tidy.{AreTakes};
+ghost use Rattle.ts_exec.specs.Sharing.{setting_of};
 ghost use Rattle.ts_exec.specs.declared.fault.ActFault.TheVariants as fault;
 ghost use Rattle.ts_model.specs.Plans.{KindIs};
-ghost use Rattle.ts_model.specs.Runs.{HasNot, IsPending, IsPieceOf, Run, takes};
+ghost use Rattle.ts_model.specs.Runs.{IsPending, Run};
 ghost use Rattle.ts_model.specs.declared.plan.Kind.TheVariants.{Piece};
-ghost use Rattle.ts_model.specs.Trees.{at, listed, sub};
-ghost use Rattle.ts_name.specs.Paths.{Path};
-ghost use Rattle.ts_print.specs.Assemblies.{HasSoFar, IsComplete, assembly_of, with_more};
-ghost use Rattle.ts_print.specs.Parts.{Part};
+ghost use Rattle.ts_print.specs.Assemblies.{HasSoFar};
 
 use crate::fault::ActFault;
 use crate::gate::Gate;
-use crate::job::Job;
+use crate::shared::Shared;
 use std::alloc::Global;
 use ts_board::{Held, Pass};
 use ts_folder::Folder;
@@ -28,23 +25,23 @@ use ts_name::Path;
 use ts_print::Staged;
 use ts_site::Site;
 
-impl<'a, 'b, S: Site, F: Folder + Sync, G: Gate + Sync> Job<'a, 'b, S, F, G> {
+impl<'a, 'b, S: Site, F: Folder + Sync, G: Gate + Sync> Shared<'a, 'b, S, F, G> {
     /// Makes the act of a claimed action, of which nothing was taken yet. After a fault it has not acted.
     pub fn act(&self, pass: &mut Pass<S>, held: &mut Held<S>) -> Result<(), ActFault>
-        requires pass { IsPassOf self.now.board.now.table.shared.table_id (terms_of S.content self.now.board.now.table.shared.key) pass.old }
+        requires pass { IsPassOf S.content self.now.board.now pass.old }
         requires action { held.old.action < length self.now.checked.now.plan.actions }
         requires held { IsPending (mine pass.old) held.old.action }
-        requires fresh { IsFresh S.content (terms_of S.content self.now.board.now.table.shared.key) held.old }
+        requires fresh { IsFresh S.content (terms_of S.content self.now.board.now) held.old }
         requires site { IsSited self.now.checked.now.plan held.old.action held.old.slot }
-        requires untaken { (k : ℕ) → IsPieceOf self.now.checked.now.plan held.old.action k → HasNot (mine pass.old) (takes k) }
-        ensures pass { IsPassOf self.now.board.now.table.shared.table_id (terms_of S.content self.now.board.now.table.shared.key) pass.new × IsSamePart pass.old pass.new }
+        requires untaken { HasNone self.now.checked.now.plan held.old.action (mine pass.old) }
+        ensures pass { IsPassOf S.content self.now.board.now pass.new × IsSamePart pass.old pass.new }
         ensures seen { StartsWith (seen pass.new) (seen pass.old) }
         ensures steps { (more : Run) × (mine pass.new ≡ mine pass.old ++ more) × AreTakes self.now.checked.now.plan held.old.action more }
         ensures action { held.new.action ≡ held.old.action }
-        ensures ok { OnOk result (HasActed S.content (terms_of S.content self.now.board.now.table.shared.key) (mine pass.new) held.new) }
-        ensures told { OnOk result (IsTold (setting_of S.failures F.tells F.lets self.now.checked.now self.now.first.now self.now.second.now (terms_of S.content self.now.board.now.table.shared.key).told) (seen pass.new) held.old.action (work_of held.new)) }
-        ensures err { OnErr result (MayGoOn S.content (terms_of S.content self.now.board.now.table.shared.key) (mine pass.new) held.new) }
-        ensures fault { IfErr result (MayFail (setting_of S.failures F.tells F.lets self.now.checked.now self.now.first.now self.now.second.now (terms_of S.content self.now.board.now.table.shared.key).told) (seen pass.new) held.old.action) }
+        ensures ok { OnOk result (HasActed S.content (terms_of S.content self.now.board.now) (mine pass.new) held.new) }
+        ensures told { OnOk result (IsTold (setting_of S.Site F.Folder self.now) (seen pass.new) held.old.action (work_of held.new)) }
+        ensures err { OnErr result (MayGoOn S.content (terms_of S.content self.now.board.now) (mine pass.new) held.new) }
+        ensures fault { IfErr result (MayFail (setting_of S.Site F.Folder self.now) (seen pass.new) held.old.action) }
     {
         match self.kind(held.action()) {
             Kind::Piece {
@@ -71,13 +68,13 @@ impl<'a, 'b, S: Site, F: Folder + Sync, G: Gate + Sync> Job<'a, 'b, S, F, G> {
         path: &Path,
     ) -> Result<(), ActFault>
         requires kind { KindIs self.now.checked.now.plan held.old.action (Piece entry offset length path.now) }
-        requires fresh { IsFresh S.content (terms_of S.content self.now.board.now.table.shared.key) held.old }
+        requires fresh { IsFresh S.content (terms_of S.content self.now.board.now) held.old }
         requires site { IsSited self.now.checked.now.plan held.old.action held.old.slot }
         ensures action { held.new.action ≡ held.old.action }
-        ensures ok { OnOk result (IsActed S.content (terms_of S.content self.now.board.now.table.shared.key) held.new) }
-        ensures read { OnOk result (HasRead (setting_of S.failures F.tells F.lets self.now.checked.now self.now.first.now self.now.second.now (terms_of S.content self.now.board.now.table.shared.key).told) (Piece entry offset length path.now) (work_of held.new)) }
+        ensures ok { OnOk result (IsActed S.content (terms_of S.content self.now.board.now) held.new) }
+        ensures read { OnOk result (HasRead (setting_of S.Site F.Folder self.now) (Piece entry offset length path.now) (work_of held.new)) }
         ensures err { OnErr result (held.new ≡ held.old) }
-        ensures fault { IfErr result (λ f. (r : Run) → MayFail (setting_of S.failures F.tells F.lets self.now.checked.now self.now.first.now self.now.second.now (terms_of S.content self.now.board.now.table.shared.key).told) r held.old.action f) }
+        ensures fault { IfErr result (λ f. (r : Run) → MayFail (setting_of S.Site F.Folder self.now) r held.old.action f) }
     {
         let bytes = self
             .source(entry)
@@ -91,20 +88,20 @@ impl<'a, 'b, S: Site, F: Folder + Sync, G: Gate + Sync> Job<'a, 'b, S, F, G> {
 
     /// Takes the pieces of a commit, and puts what they staged in place.
     fn commit(&self, pass: &mut Pass<S>, held: &mut Held<S>) -> Result<(), ActFault>
-        requires pass { IsPassOf self.now.board.now.table.shared.table_id (terms_of S.content self.now.board.now.table.shared.key) pass.old }
+        requires pass { IsPassOf S.content self.now.board.now pass.old }
         requires commit { IsCommit self.now.checked.now.plan held.old.action }
         requires held { IsPending (mine pass.old) held.old.action }
-        requires fresh { IsFresh S.content (terms_of S.content self.now.board.now.table.shared.key) held.old }
+        requires fresh { IsFresh S.content (terms_of S.content self.now.board.now) held.old }
         requires site { IsSited self.now.checked.now.plan held.old.action held.old.slot }
-        requires untaken { (k : ℕ) → IsPieceOf self.now.checked.now.plan held.old.action k → HasNot (mine pass.old) (takes k) }
-        ensures pass { IsPassOf self.now.board.now.table.shared.table_id (terms_of S.content self.now.board.now.table.shared.key) pass.new × IsSamePart pass.old pass.new }
+        requires untaken { HasNone self.now.checked.now.plan held.old.action (mine pass.old) }
+        ensures pass { IsPassOf S.content self.now.board.now pass.new × IsSamePart pass.old pass.new }
         ensures seen { StartsWith (seen pass.new) (seen pass.old) }
         ensures steps { (more : Run) × (mine pass.new ≡ mine pass.old ++ more) × AreTakes self.now.checked.now.plan held.old.action more }
         ensures action { held.new.action ≡ held.old.action }
-        ensures ok { OnOk result (HasActed S.content (terms_of S.content self.now.board.now.table.shared.key) (mine pass.new) held.new) }
-        ensures told { OnOk result (IsTold (setting_of S.failures F.tells F.lets self.now.checked.now self.now.first.now self.now.second.now (terms_of S.content self.now.board.now.table.shared.key).told) (seen pass.new) held.old.action (work_of held.new)) }
-        ensures err { OnErr result (MayGoOn S.content (terms_of S.content self.now.board.now.table.shared.key) (mine pass.new) held.new) }
-        ensures fault { IfErr result (MayFail (setting_of S.failures F.tells F.lets self.now.checked.now self.now.first.now self.now.second.now (terms_of S.content self.now.board.now.table.shared.key).told) (seen pass.new) held.old.action) }
+        ensures ok { OnOk result (HasActed S.content (terms_of S.content self.now.board.now) (mine pass.new) held.new) }
+        ensures told { OnOk result (IsTold (setting_of S.Site F.Folder self.now) (seen pass.new) held.old.action (work_of held.new)) }
+        ensures err { OnErr result (MayGoOn S.content (terms_of S.content self.now.board.now) (mine pass.new) held.new) }
+        ensures fault { IfErr result (MayFail (setting_of S.Site F.Folder self.now) (seen pass.new) held.old.action) }
     {
         let Ok(mut staged) = self.checked.staged(self.alloc, held.action()) else {
             return Err(ActFault::OutOfMemory);
@@ -121,16 +118,16 @@ impl<'a, 'b, S: Site, F: Folder + Sync, G: Gate + Sync> Job<'a, 'b, S, F, G> {
         held: &mut Held<S>,
         staged: &mut Staged,
     ) -> Result<(), ActFault>
-        requires pass { IsPassOf self.now.board.now.table.shared.table_id (terms_of S.content self.now.board.now.table.shared.key) pass.old }
+        requires pass { IsPassOf S.content self.now.board.now pass.old }
         requires held { IsPending (mine pass.old) held.old.action }
-        requires untaken { (k : ℕ) → IsPieceOf self.now.checked.now.plan held.old.action k → HasNot (mine pass.old) (takes k) }
-        ensures pass { IsPassOf self.now.board.now.table.shared.table_id (terms_of S.content self.now.board.now.table.shared.key) pass.new × IsSamePart pass.old pass.new }
+        requires untaken { HasNone self.now.checked.now.plan held.old.action (mine pass.old) }
+        ensures pass { IsPassOf S.content self.now.board.now pass.new × IsSamePart pass.old pass.new }
         ensures seen { StartsWith (seen pass.new) (seen pass.old) }
         ensures steps { (more : Run) × (mine pass.new ≡ mine pass.old ++ more) × AreTakes self.now.checked.now.plan held.old.action more }
         ensures held { held.new ≡ held.old }
         ensures wanted { staged.new.wanted ≡ staged.old.wanted }
         ensures all { OnOk result (HasAll self.now.checked.now.plan held.old.action (mine pass.new)) }
-        ensures whole { OnOk result ((part : Part) (of : IsSourcePart self.now.checked.now held.old.action part) → staged.old ≡ assembly_of part → (told : TellsTree (setting_of S.failures F.tells F.lets self.now.checked.now self.now.first.now self.now.second.now (terms_of S.content self.now.board.now.table.shared.key).told) of.from) → AreRead (setting_of S.failures F.tells F.lets self.now.checked.now self.now.first.now self.now.second.now (terms_of S.content self.now.board.now.table.shared.key).told) (seen pass.new) → IsComplete staged.new × (listed staged.new.made ≡ sub (at told.0) part.top)) }
+        ensures whole { OnOk result (IsMadeWhole (setting_of S.Site F.Folder self.now) (seen pass.new) held.old.action staged.old staged.new) }
         ensures fault { IfErr result (λ e. e ≡ ActFault.OutOfMemory) }
     {
         let pieces = self.checked.pieces(held.action());
@@ -147,7 +144,7 @@ impl<'a, 'b, S: Site, F: Folder + Sync, G: Gate + Sync> Job<'a, 'b, S, F, G> {
     fn add(&self, staged: &mut Staged, k: u32, bytes: Vec<u8>) -> Result<(), ActFault>
         requires { k < length self.now.checked.now.plan.actions }
         ensures wanted { staged.new.wanted ≡ staged.old.wanted }
-        ensures put { OnOk result ((e offset size : ℕ) (path : Path) → KindIs self.now.checked.now.plan k (Piece e offset size path) → HasSoFar staged.old path offset → staged.new ≡ record staged.old { made = with_more staged.old.top path bytes.items staged.old.made }) }
+        ensures put { OnOk result (IsPut self.now.checked.now.plan k bytes.items staged.old staged.new) }
         ensures fault { IfErr result (λ e. e ≡ ActFault.OutOfMemory) }
     {
         let Kind::Piece { path, offset, .. } = self.kind(k) else {
@@ -167,7 +164,7 @@ fn append(
     bytes: Vec<u8>,
 ) -> Result<(), ActFault>
     ensures wanted { staged.new.wanted ≡ staged.old.wanted }
-    ensures put { OnOk result (HasSoFar staged.old path.now offset → staged.new ≡ record staged.old { made = with_more staged.old.top path.now bytes.items staged.old.made }) }
+    ensures put { OnOk result (HasSoFar staged.old path.now offset → IsAppended path.now bytes.items staged.old staged.new) }
     ensures left_out { OnOk result ((¬ HasSoFar staged.old path.now offset) → staged.new ≡ staged.old) }
     ensures fault { IfErr result (λ e. e ≡ ActFault.OutOfMemory) }
 {

@@ -1,5 +1,6 @@
 //! The workers' hints, and room for what they find.
-ghost use Rattle.std.specs.Prelude.{◌≡◌, ◌≤◌, [], All, IfOk, length, vec_capacity};
+ghost use Rattle.std.specs.Prelude.{◌≡◌, ◌≤◌, [], IfOk, length, vec_capacity};
+ghost use Rattle.ts_exec.specs.Tidy.{AreFresh};
 
 use crate::fault::ActFault;
 use crate::outcome::ActionResult;
@@ -56,7 +57,7 @@ impl Crew {
     /// A crew of so many workers. The actions that wait for nothing are dealt out to them round by number.
     pub fn gather(alloc: Global, checked: &Checked<'_>, workers: u32) -> Result<Crew, AllocError>
         ensures workers { IfOk result (λ crew. (length crew.members.items ≡ workers) × (length crew.queues.items ≡ workers)) }
-        ensures members { IfOk result (λ crew. All (λ m. m.failures.items ≡ []) crew.members.items) }
+        ensures members { IfOk result (λ crew. AreFresh crew.members.items) }
         ensures faults { IfOk result (λ crew. length crew.faults.items ≡ length checked.now.plan.actions) }
         ensures results { IfOk result (λ crew. (crew.results.items ≡ []) × (length checked.now.plan.actions ≤ vec_capacity crew.results)) }
     {
@@ -92,7 +93,7 @@ fn members_with(
     actions: usize,
 ) -> Result<Vec<Member>, AllocError>
     ensures count { IfOk result (λ members. length members.items ≡ length queues.items) }
-    ensures fresh { IfOk result (λ members. All (λ m. m.failures.items ≡ []) members.items) }
+    ensures fresh { IfOk result (λ members. AreFresh members.items) }
 {
     let mut members = Vec::with_capacity(alloc, queues.len())?;
     for freed in queues {

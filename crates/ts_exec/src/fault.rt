@@ -6,7 +6,7 @@ use thiserror::Error;
 use ts_folder::FolderFault;
 use ts_site::SiteFault;
 
-/// Why an action failed. A piece fails by its folder, a commit by its site, and either for want of memory.
+/// Why an action failed. A piece fails by its folder, a commit by its site, or either because memory ran out.
 #[derive(Clone, Copy, Debug, PartialEq, Eq, Drop, Error)]
 pub enum ActFault {
     /// Memory ran out.

@@ -1,16 +1,16 @@
 //! The executor: a checked plan is carried out by many workers, and the outcome is that of one legal run.
 #![tactic(auto)]
 
-pub mod acts;
-pub mod crew;
-pub mod crowd;
-pub mod fault;
-pub mod gate;
-pub mod job;
-pub mod outcome;
-pub mod running;
-pub mod sweep;
-pub mod workers;
+mod acts;
+mod crew;
+mod crowd;
+mod fault;
+mod gate;
+mod outcome;
+mod running;
+mod shared;
+mod sweep;
+mod workers;
 
 pub use fault::{ActFault, RunFault};
 pub use gate::{Gate, OpenGate};

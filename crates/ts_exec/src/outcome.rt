@@ -1,17 +1,17 @@
 //! What came of a plan.
-ghost use Rattle.std.specs.Prelude.{ℕ, List, ◌≡◌, ◌<◌, ◌≤◌, [], Some, length, slice_get, slice_index_or, slice_set, vec_capacity, IfOk};
-ghost use Rattle.std.specs.Mem.Slots.{slots_items, slots_len};
+ghost use Rattle.std.specs.Prelude.{◌≡◌, ◌<◌, ◌≤◌, [], Some, length, slice_get, slice_index_or, slice_set, vec_capacity, IfOk};
+ghost use Rattle.std.specs.Mem.Slots.{slots_len};
 ghost use Rattle.ts_board.specs.Archives.{HasEnded, LeftArchive};
 ghost use Rattle.ts_board.specs.Terms.{commit_count, site_in};
 ghost use Rattle.ts_board.specs.declared.law.Slot.TheVariants.{Empty};
-ghost use Rattle.ts_exec.specs.Outcomes.{IsEnd, IsLeastOpen, ResultIs};
-ghost use Rattle.ts_exec.specs.declared.outcome.ActionResult.{ActionResult};
+ghost use Rattle.ts_exec.specs.Outcomes.{AreResults, IsEnd, IsLeastOpen, ResultIs};
+ghost use Rattle.ts_board.specs.Calls.{IsAsWide, slots_of, words_of};
 ghost use Rattle.ts_model.specs.Runs.{HasNot, Run, claims};
 
 use crate::fault::ActFault;
-use std::alloc::Global;
+use std::alloc::{AllocError, Global};
+use ts_board::Closed;
 use ts_board::calls::{DONE, FAILED};
-use ts_board::{ArchiveFault, Closed};
 use ts_check::Checked;
 use ts_model::plan::{Kind, Plan};
 use ts_print::Print;
@@ -61,10 +61,10 @@ impl<S: Site> Outcome<S> {
     /// Takes the site of a commit. A second time there is none.
     pub fn take_site(&mut self, c: u32) -> Option<S>
         requires { c < slots_len self.old.closed.row.slots }
-        ensures site { result ≡ site_in (slice_index_or (slots_items self.old.closed.row.slots) c Empty) }
-        ensures others { slots_items self.new.closed.row.slots ≡ slice_set (slots_items self.old.closed.row.slots) c Empty }
-        ensures words { slots_items self.new.closed.row.words ≡ slots_items self.old.closed.row.words }
-        ensures counts { (slots_len self.new.closed.row.words ≡ slots_len self.old.closed.row.words) × (slots_len self.new.closed.row.slots ≡ slots_len self.old.closed.row.slots) }
+        ensures site { result ≡ site_in (slice_index_or (slots_of self.old.closed) c Empty) }
+        ensures others { slots_of self.new.closed ≡ slice_set (slots_of self.old.closed) c Empty }
+        ensures words { words_of self.new.closed ≡ words_of self.old.closed }
+        ensures counts { IsAsWide self.old.closed self.new.closed }
         ensures results { self.new.results ≡ self.old.results }
     {
         self.closed.take_site(c)
@@ -75,11 +75,11 @@ impl<S: Site> Outcome<S> {
     ///
     /// # Errors
     ///
-    /// Want of memory alone.
-    pub fn archive(&self, alloc: Global, checked: &Checked<'_>) -> Result<Print, ArchiveFault>
+    /// Out of memory alone.
+    pub fn archive(&self, alloc: Global, checked: &Checked<'_>) -> Result<Print, AllocError>
         requires words { length checked.now.plan.actions ≤ slots_len self.now.closed.row.words }
-        requires ended { HasEnded checked.now (slots_items self.now.closed.row.words) }
-        ensures { IfOk result (λ print. LeftArchive checked.now (slots_items self.now.closed.row.words) print) }
+        requires ended { HasEnded checked.now (words_of self.now.closed) }
+        ensures { IfOk result (λ print. LeftArchive checked.now (words_of self.now.closed) print) }
     {
         self.closed.archive(alloc, checked)
     }
@@ -106,11 +106,11 @@ pub fn results_of<S: Site>(
     mut results: Vec<ActionResult>,
 ) -> Vec<ActionResult>
     requires words { length checked.now.plan.actions ≤ slots_len closed.now.row.words }
-    requires end { (run : Run) × IsEnd checked.now.plan run (slots_items closed.now.row.words) faults.now }
+    requires end { (run : Run) × IsEnd checked.now.plan run (words_of closed.now) faults.now }
     requires empty { results.items ≡ [] }
     requires room { length checked.now.plan.actions ≤ vec_capacity results }
     ensures count { length result.items ≡ length checked.now.plan.actions }
-    ensures each { (run : Run) → IsEnd checked.now.plan run (slots_items closed.now.row.words) faults.now → (i : ℕ) (r : ActionResult) → slice_get result.items i ≡ Some r → ResultIs checked.now.plan run faults.now i r }
+    ensures each { (run : Run) → IsEnd checked.now.plan run (words_of closed.now) faults.now → AreResults checked.now.plan run faults.now result.items }
 {
     for i in 0..checked.action_count() {
         results.push_reserved(result_of(checked, closed, faults, i));
@@ -127,8 +127,8 @@ fn result_of<S: Site>(
 ) -> ActionResult
     requires action { i < length checked.now.plan.actions }
     requires words { length checked.now.plan.actions ≤ slots_len closed.now.row.words }
-    requires end { (run : Run) × IsEnd checked.now.plan run (slots_items closed.now.row.words) faults.now }
-    ensures { (run : Run) → IsEnd checked.now.plan run (slots_items closed.now.row.words) faults.now → ResultIs checked.now.plan run faults.now i result }
+    requires end { (run : Run) × IsEnd checked.now.plan run (words_of closed.now) faults.now }
+    ensures { (run : Run) → IsEnd checked.now.plan run (words_of closed.now) faults.now → ResultIs checked.now.plan run faults.now i result }
 {
     let word = closed.word(i);
     if word & DONE != 0 {
@@ -160,8 +160,8 @@ fn least_not_done<S: Site>(
 ) -> u32
     requires action { i < length checked.now.plan.actions }
     requires words { length checked.now.plan.actions ≤ slots_len closed.now.row.words }
-    requires end { (run : Run) × IsEnd checked.now.plan run (slots_items closed.now.row.words) faults.now × HasNot run (claims i) }
-    ensures { (run : Run) → IsEnd checked.now.plan run (slots_items closed.now.row.words) faults.now → IsLeastOpen checked.now.plan run i result }
+    requires end { (run : Run) × IsEnd checked.now.plan run (words_of closed.now) faults.now × HasNot run (claims i) }
+    ensures { (run : Run) → IsEnd checked.now.plan run (words_of closed.now) faults.now → IsLeastOpen checked.now.plan run i result }
 {
     let preds = checked.preds(i);
     for k in preds {

@@ -1,20 +1,19 @@
 //! A checked plan is carried out.
-ghost use Rattle.std.specs.Prelude.{◌≡◌, ◌≤◌, [], All, IfErr, IfOk, length};
-ghost use Rattle.std.specs.Mem.Slots.{slots_items, slots_len};
+ghost use Rattle.std.specs.Prelude.{◌≡◌, ◌≤◌, [], IfErr, IfOk, length};
 ghost use Rattle.ts_board.specs.Archives.{HasEnded};
-ghost use Rattle.ts_board.specs.Calls.{IsPassOf, IsWhole, mine, seen};
-ghost use Rattle.ts_board.specs.Keys.{terms_of};
-ghost use Rattle.ts_board.specs.Terms.{commit_count, placed, terms_with};
-ghost use Rattle.ts_exec.specs.Failures.{setting_of};
-ghost use Rattle.ts_exec.specs.Outcomes.{IsOutcome, IsSteady, MisfitsAreUntold, WantMemoryAlone};
-ghost use Rattle.ts_exec.specs.Tidy.{IsTidy, Noted, Swept};
+ghost use Rattle.ts_board.specs.Calls.{HasPlaces, IsPassOf, IsWhole, mine, seen, words_of};
+ghost use Rattle.ts_board.specs.Terms.{commit_count};
+ghost use Rattle.ts_exec.specs.Failures.{setting_for};
+ghost use Rattle.ts_exec.specs.Outcomes.{IsOutcomeOf, IsSteady, MisfitsAreUntold, OnlyMemoryRanOut};
+ghost use Rattle.ts_exec.specs.Tidy.{AreFresh, IsTidy, Noted, Swept};
+ghost use Rattle.ts_exec.specs.Sharing.{setting_of};
 
 use crate::crew::{Crew, Member, Queues};
 use crate::crowd::work_at_once;
 use crate::fault::{ActFault, RunFault};
 use crate::gate::Gate;
-use crate::job::Job;
 use crate::outcome::{Outcome, results_of};
+use crate::shared::Shared;
 use crossbeam_deque::Worker;
 use std::alloc::Global;
 use std::thread::Threads;
@@ -26,7 +25,7 @@ use ts_site::Site;
 /// Lets all members work, and then tries what is still open, in order.
 fn work_and_sweep<R: Threads + Sync, S: Site, F: Folder + Sync, G: Gate + Sync>(
     rt: &R,
-    job: &Job<'_, '_, S, F, G>,
+    shared: &Shared<'_, '_, S, F, G>,
     queues: &[Queues],
     members: Vec<Member>,
     mut unread: Worker<u32>,
@@ -35,18 +34,18 @@ fn work_and_sweep<R: Threads + Sync, S: Site, F: Folder + Sync, G: Gate + Sync>(
 ) -> (Pass<S>, Vec<Option<ActFault>>)
 where
     F::File: Send,
-    requires pass { IsPassOf job.now.board.now.table.shared.table_id (terms_of S.content job.now.board.now.table.shared.key) pass × IsWhole pass }
+    requires pass { IsPassOf S.content shared.now.board.now pass × IsWhole pass }
     requires nothing { mine pass ≡ [] }
-    requires room { length faults.items ≡ length job.now.checked.now.plan.actions }
-    requires fresh { All (λ m. m.failures.items ≡ []) members.items }
-    ensures pass { IsPassOf job.now.board.now.table.shared.table_id (terms_of S.content job.now.board.now.table.shared.key) result.0 × IsWhole result.0 }
-    ensures tidy { IsTidy job.now.checked.now.plan (mine result.0) }
-    ensures noted { Noted (setting_of S.failures F.tells F.lets job.now.checked.now job.now.first.now job.now.second.now (terms_of S.content job.now.board.now.table.shared.key).told) (mine result.0) (seen result.0) result.1.items }
-    ensures room { length result.1.items ≡ length job.now.checked.now.plan.actions }
-    ensures swept { Swept job.now.checked.now.plan (length job.now.checked.now.plan.actions) (mine result.0) (seen result.0) }
+    requires room { length faults.items ≡ length shared.now.checked.now.plan.actions }
+    requires fresh { AreFresh members.items }
+    ensures pass { IsPassOf S.content shared.now.board.now result.0 × IsWhole result.0 }
+    ensures tidy { IsTidy shared.now.checked.now.plan (mine result.0) }
+    ensures noted { Noted (setting_of S.Site F.Folder shared.now) (mine result.0) (seen result.0) result.1.items }
+    ensures room { length result.1.items ≡ length shared.now.checked.now.plan.actions }
+    ensures swept { Swept shared.now.checked.now.plan (length shared.now.checked.now.plan.actions) (mine result.0) (seen result.0) }
 {
-    let (mut pass, mut faults) = work_at_once(rt, job, queues, members, pass, faults);
-    job.sweep(&mut pass, &mut unread, &mut faults);
+    let (mut pass, mut faults) = work_at_once(rt, shared, queues, members, pass, faults);
+    shared.sweep(&mut pass, &mut unread, &mut faults);
     (pass, faults)
 }
 
@@ -56,11 +55,11 @@ where
 ///
 /// Where both folders tell trees of the prints that the plan was checked with, nothing misfits, and each commit that is done has
 /// put in place just what its source's folder tells. Where sites, too, told what was checked, and nothing of theirs fails,
-/// actions fail for want of memory alone.
+/// actions fail only where memory runs out.
 ///
 /// # Errors
 ///
-/// Want of memory, before anything was done, and the sites come back as they were.
+/// Out of memory, before anything was done, and the sites come back as they were.
 pub fn run<'a, R: Threads + Sync, S: Site, F: Folder + Sync, G: Gate + Sync>(
     rt: &R,
     alloc: Global,
@@ -75,11 +74,11 @@ where
     F::File: Send,
     requires few { workers ≤ 64 }
     requires sites { length sites.items ≡ commit_count checked.now.plan.actions }
-    ensures outcome { IfOk result (λ o. let t = terms_with S.content checked.now.plan checked.now.first checked.now.second (placed checked.now.plan.actions sites.items) in IsOutcome S.content (setting_of S.failures F.tells F.lets checked.now first.now second.now t.told) t o.results.items (slots_items o.closed.row.words) (slots_items o.closed.row.slots)) }
-    ensures misfits { IfOk result (λ o. let t = terms_with S.content checked.now.plan checked.now.first checked.now.second (placed checked.now.plan.actions sites.items) in MisfitsAreUntold (setting_of S.failures F.tells F.lets checked.now first.now second.now t.told) o.results.items) }
-    ensures steady { IfOk result (λ o. let t = terms_with S.content checked.now.plan checked.now.first checked.now.second (placed checked.now.plan.actions sites.items) in IsSteady (setting_of S.failures F.tells F.lets checked.now first.now second.now t.told) → WantMemoryAlone o.results.items) }
-    ensures ended { IfOk result (λ o. HasEnded checked.now (slots_items o.closed.row.words)) }
-    ensures wide { IfOk result (λ o. (length checked.now.plan.actions ≤ slots_len o.closed.row.words) × (length checked.now.plan.actions ≤ slots_len o.closed.row.slots)) }
+    ensures outcome { IfOk result (λ o. IsOutcomeOf (setting_for S.Site F.Folder checked.now first.now second.now sites.items) o) }
+    ensures misfits { IfOk result (λ o. MisfitsAreUntold (setting_for S.Site F.Folder checked.now first.now second.now sites.items) o.results.items) }
+    ensures steady { IfOk result (λ o. IsSteady (setting_for S.Site F.Folder checked.now first.now second.now sites.items) → OnlyMemoryRanOut o.results.items) }
+    ensures ended { IfOk result (λ o. HasEnded checked.now (words_of o.closed)) }
+    ensures wide { IfOk result (λ o. HasPlaces o.closed (length checked.now.plan.actions)) }
     ensures back { IfErr result (λ refused. refused.0.items ≡ sites.items) }
 {
     let Ok(crew) = Crew::gather(alloc, checked, workers) else {
@@ -97,7 +96,7 @@ where
         results,
     } = crew;
     let _plan = checked.plan();
-    let job = Job {
+    let shared = Shared {
         alloc,
         checked,
         board: &board,
@@ -105,7 +104,15 @@ where
         second,
         gate,
     };
-    let (pass, faults) = work_and_sweep(rt, &job, queues.as_slice(), members, unread, pass, faults);
+    let (pass, faults) = work_and_sweep(
+        rt,
+        &shared,
+        queues.as_slice(),
+        members,
+        unread,
+        pass,
+        faults,
+    );
     let closed = board.close(pass);
     let results = results_of(checked, &closed, faults.as_slice(), results);
     Ok(Outcome::new(results, closed))

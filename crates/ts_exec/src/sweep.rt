@@ -1,21 +1,20 @@
 //! After the workers, what is still open is claimed in order.
 ghost use Rattle.std.specs.Prelude.{ℕ, ◌≡◌, ◌≢◌, ◌⊎◌, ◌<◌, ◌++◌, length};
 ghost use Rattle.ts_board.specs.Calls.{IsPassOf, IsSamePart, mine, seen};
-ghost use Rattle.ts_board.specs.Keys.{terms_of};
-ghost use Rattle.ts_exec.specs.Failures.{setting_of};
 ghost use Rattle.ts_board.specs.Runs.{StartsWith};
 ghost use Rattle.ts_exec.specs.Tidy.{IsTidy, Noted, Swept};
+ghost use Rattle.ts_exec.specs.Sharing.{setting_of};
 ghost use Rattle.ts_model.specs.Runs.{Has, Run, claims, finishes, word_after};
 
 use crate::fault::ActFault;
 use crate::gate::Gate;
-use crate::job::Job;
+use crate::shared::Shared;
 use crossbeam_deque::Worker;
 use ts_board::Pass;
 use ts_folder::Folder;
 use ts_site::Site;
 
-impl<'a, 'b, S: Site, F: Folder + Sync, G: Gate + Sync> Job<'a, 'b, S, F, G> {
+impl<'a, 'b, S: Site, F: Folder + Sync, G: Gate + Sync> Shared<'a, 'b, S, F, G> {
     /// Tries each action once, in order, and notes why it failed.
     pub fn sweep(
         &self,
@@ -23,13 +22,13 @@ impl<'a, 'b, S: Site, F: Folder + Sync, G: Gate + Sync> Job<'a, 'b, S, F, G> {
         unread: &mut Worker<u32>,
         faults: &mut Vec<Option<ActFault>>,
     )
-        requires pass { IsPassOf self.now.board.now.table.shared.table_id (terms_of S.content self.now.board.now.table.shared.key) pass.old }
+        requires pass { IsPassOf S.content self.now.board.now pass.old }
         requires tidy { IsTidy self.now.checked.now.plan (mine pass.old) }
         requires room { length faults.old.items ≡ length self.now.checked.now.plan.actions }
-        requires noted { Noted (setting_of S.failures F.tells F.lets self.now.checked.now self.now.first.now self.now.second.now (terms_of S.content self.now.board.now.table.shared.key).told) (mine pass.old) (seen pass.old) faults.old.items }
-        ensures pass { IsPassOf self.now.board.now.table.shared.table_id (terms_of S.content self.now.board.now.table.shared.key) pass.new × IsSamePart pass.old pass.new }
+        requires noted { Noted (setting_of S.Site F.Folder self.now) (mine pass.old) (seen pass.old) faults.old.items }
+        ensures pass { IsPassOf S.content self.now.board.now pass.new × IsSamePart pass.old pass.new }
         ensures tidy { IsTidy self.now.checked.now.plan (mine pass.new) }
-        ensures noted { Noted (setting_of S.failures F.tells F.lets self.now.checked.now self.now.first.now self.now.second.now (terms_of S.content self.now.board.now.table.shared.key).told) (mine pass.new) (seen pass.new) faults.new.items }
+        ensures noted { Noted (setting_of S.Site F.Folder self.now) (mine pass.new) (seen pass.new) faults.new.items }
         ensures room { length faults.new.items ≡ length self.now.checked.now.plan.actions }
         ensures swept { Swept self.now.checked.now.plan (length self.now.checked.now.plan.actions) (mine pass.new) (seen pass.new) }
     {
@@ -46,16 +45,16 @@ impl<'a, 'b, S: Site, F: Folder + Sync, G: Gate + Sync> Job<'a, 'b, S, F, G> {
         unread: &mut Worker<u32>,
         faults: &mut Vec<Option<ActFault>>,
     )
-        requires pass { IsPassOf self.now.board.now.table.shared.table_id (terms_of S.content self.now.board.now.table.shared.key) pass.old }
+        requires pass { IsPassOf S.content self.now.board.now pass.old }
         requires action { i < length self.now.checked.now.plan.actions }
         requires tidy { IsTidy self.now.checked.now.plan (mine pass.old) }
         requires room { length faults.old.items ≡ length self.now.checked.now.plan.actions }
-        requires noted { Noted (setting_of S.failures F.tells F.lets self.now.checked.now self.now.first.now self.now.second.now (terms_of S.content self.now.board.now.table.shared.key).told) (mine pass.old) (seen pass.old) faults.old.items }
-        ensures pass { IsPassOf self.now.board.now.table.shared.table_id (terms_of S.content self.now.board.now.table.shared.key) pass.new × IsSamePart pass.old pass.new }
+        requires noted { Noted (setting_of S.Site F.Folder self.now) (mine pass.old) (seen pass.old) faults.old.items }
+        ensures pass { IsPassOf S.content self.now.board.now pass.new × IsSamePart pass.old pass.new }
         ensures seen { StartsWith (seen pass.new) (seen pass.old) }
         ensures steps { (block : Run) × (mine pass.new ≡ mine pass.old ++ block) × IsTidy self.now.checked.now.plan block × ((k : ℕ) → Has block (finishes k) → k ≡ i) }
         ensures tried { Has (mine pass.new) (claims i) ⊎ ((mine pass.new ≡ mine pass.old) × (word_after self.now.checked.now.plan (seen pass.new) i ≢ 0)) }
-        ensures noted { Noted (setting_of S.failures F.tells F.lets self.now.checked.now self.now.first.now self.now.second.now (terms_of S.content self.now.board.now.table.shared.key).told) (mine pass.new) (seen pass.new) faults.new.items }
+        ensures noted { Noted (setting_of S.Site F.Folder self.now) (mine pass.new) (seen pass.new) faults.new.items }
         ensures room { length faults.new.items ≡ length self.now.checked.now.plan.actions }
     {
         if let Some(fault) = self.attempt(pass, i, unread) {

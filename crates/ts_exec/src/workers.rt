@@ -1,17 +1,16 @@
 //! Workers claim actions, act, and release what waited for them.
-ghost use Rattle.std.specs.Prelude.{ℕ, List, ◌≡◌, ◌≢◌, ◌⊎◌, ◌<◌, ◌≤◌, ◌++◌, [], length, IfSome, vec_len, vec_capacity};
-ghost use Rattle.ts_board.specs.Calls.{HasPart, IsPassOf, IsSamePart, mine, seen};
-ghost use Rattle.ts_board.specs.Keys.{terms_of};
+ghost use Rattle.std.specs.Prelude.{ℕ, ◌≡◌, ◌≢◌, ◌⊎◌, ◌<◌, ◌++◌, length, IfSome, vec_len, vec_capacity};
+ghost use Rattle.ts_board.specs.Calls.{IsPassOf, IsSamePart, mine, seen};
 ghost use Rattle.ts_board.specs.Runs.{StartsWith};
-ghost use Rattle.ts_exec.specs.Failures.{AreTold, MayFail, setting_of};
-ghost use Rattle.ts_exec.specs.Tidy.{AreReleases, IsTidy, IsTry, Listed, Noted};
-ghost use Rattle.ts_model.specs.Plans.{Waits};
+ghost use Rattle.ts_exec.specs.Failures.{MayFail};
+ghost use Rattle.ts_exec.specs.Tidy.{AreReleases, IsTidy, Listed, MakesTry, ReleasesAll};
+ghost use Rattle.ts_exec.specs.Sharing.{setting_of};
 ghost use Rattle.ts_model.specs.Runs.{Has, HasNot, Run, claims, finishes, releases, word_after};
 
 use crate::crew::{Failure, Member, Queues};
 use crate::fault::ActFault;
 use crate::gate::Gate;
-use crate::job::Job;
+use crate::shared::Shared;
 use crossbeam_deque::Worker;
 use std::thread;
 use ts_board::Pass;
@@ -27,18 +26,18 @@ pub struct Worked<S> {
     pub failures: Vec<Failure>,
 }
 
-impl<'a, 'b, S: Site, F: Folder + Sync, G: Gate + Sync> Job<'a, 'b, S, F, G> {
+impl<'a, 'b, S: Site, F: Folder + Sync, G: Gate + Sync> Shared<'a, 'b, S, F, G> {
     /// Tries an action. Who claims it makes all its steps, and leaves a hint at each action that it freed. Answers the fault
     /// where it was claimed and failed.
     pub fn attempt(&self, pass: &mut Pass<S>, i: u32, freed: &mut Worker<u32>) -> Option<ActFault>
-        requires pass { IsPassOf self.now.board.now.table.shared.table_id (terms_of S.content self.now.board.now.table.shared.key) pass.old }
+        requires pass { IsPassOf S.content self.now.board.now pass.old }
         requires action { i < length self.now.checked.now.plan.actions }
         requires tidy { IsTidy self.now.checked.now.plan (mine pass.old) }
-        ensures pass { IsPassOf self.now.board.now.table.shared.table_id (terms_of S.content self.now.board.now.table.shared.key) pass.new × IsSamePart pass.old pass.new }
+        ensures pass { IsPassOf S.content self.now.board.now pass.new × IsSamePart pass.old pass.new }
         ensures seen { StartsWith (seen pass.new) (seen pass.old) }
-        ensures steps { (block : Run) × (mine pass.new ≡ mine pass.old ++ block) × IsTry self.now.checked.now.plan i result block × AreTold (setting_of S.failures F.tells F.lets self.now.checked.now self.now.first.now self.now.second.now (terms_of S.content self.now.board.now.table.shared.key).told) (seen pass.new) block }
+        ensures steps { MakesTry (setting_of S.Site F.Folder self.now) pass.old i result pass.new }
         ensures tried { Has (mine pass.new) (claims i) ⊎ ((mine pass.new ≡ mine pass.old) × (word_after self.now.checked.now.plan (seen pass.new) i ≢ 0)) }
-        ensures fault { IfSome result (MayFail (setting_of S.failures F.tells F.lets self.now.checked.now self.now.first.now self.now.second.now (terms_of S.content self.now.board.now.table.shared.key).told) (seen pass.new) i) }
+        ensures fault { IfSome result (MayFail (setting_of S.Site F.Folder self.now) (seen pass.new) i) }
     {
         let mut held = self.board.claim(pass, i)?;
         self.gate.pass(i);
@@ -57,12 +56,12 @@ impl<'a, 'b, S: Site, F: Folder + Sync, G: Gate + Sync> Job<'a, 'b, S, F, G> {
 
     /// Takes a done action off what its successors wait for.
     fn release_all(&self, pass: &mut Pass<S>, i: u32, freed: &mut Worker<u32>)
-        requires pass { IsPassOf self.now.board.now.table.shared.table_id (terms_of S.content self.now.board.now.table.shared.key) pass.old }
+        requires pass { IsPassOf S.content self.now.board.now pass.old }
         requires done { Has (mine pass.old) (finishes i) }
         requires fresh { (j : ℕ) → HasNot (mine pass.old) (releases i j) }
-        ensures pass { IsPassOf self.now.board.now.table.shared.table_id (terms_of S.content self.now.board.now.table.shared.key) pass.new × IsSamePart pass.old pass.new }
+        ensures pass { IsPassOf S.content self.now.board.now pass.new × IsSamePart pass.old pass.new }
         ensures seen { StartsWith (seen pass.new) (seen pass.old) }
-        ensures steps { (more : Run) × (mine pass.new ≡ mine pass.old ++ more) × AreReleases i more × ((j : ℕ) → Waits self.now.checked.now.plan j i → Has more (releases i j)) }
+        ensures steps { (more : Run) × (mine pass.new ≡ mine pass.old ++ more) × AreReleases i more × ReleasesAll self.now.checked.now.plan i more }
     {
         let successors = self.checked.successors(i);
         for j in successors {
@@ -75,12 +74,12 @@ impl<'a, 'b, S: Site, F: Folder + Sync, G: Gate + Sync> Job<'a, 'b, S, F, G> {
 
     /// Follows hints until none has come for a while.
     pub fn work(&self, queues: &[Queues], member: Member, pass: Pass<S>) -> Worked<S>
-        requires pass { IsPassOf self.now.board.now.table.shared.table_id (terms_of S.content self.now.board.now.table.shared.key) pass }
+        requires pass { IsPassOf S.content self.now.board.now pass }
         requires tidy { IsTidy self.now.checked.now.plan (mine pass) }
-        requires listed { Listed (setting_of S.failures F.tells F.lets self.now.checked.now self.now.first.now self.now.second.now (terms_of S.content self.now.board.now.table.shared.key).told) (mine pass) (seen pass) member.failures.items }
-        ensures pass { IsPassOf self.now.board.now.table.shared.table_id (terms_of S.content self.now.board.now.table.shared.key) result.pass × IsSamePart pass result.pass }
+        requires listed { Listed (setting_of S.Site F.Folder self.now) (mine pass) (seen pass) member.failures.items }
+        ensures pass { IsPassOf S.content self.now.board.now result.pass × IsSamePart pass result.pass }
         ensures tidy { IsTidy self.now.checked.now.plan (mine result.pass) }
-        ensures listed { Listed (setting_of S.failures F.tells F.lets self.now.checked.now self.now.first.now self.now.second.now (terms_of S.content self.now.board.now.table.shared.key).told) (mine result.pass) (seen result.pass) result.failures.items }
+        ensures listed { Listed (setting_of S.Site F.Folder self.now) (mine result.pass) (seen result.pass) result.failures.items }
     {
         let Member {
             mut hints,
@@ -114,13 +113,13 @@ impl<'a, 'b, S: Site, F: Folder + Sync, G: Gate + Sync> Job<'a, 'b, S, F, G> {
 
     /// Tries the action of a hint, if there is one of this number.
     fn follow(&self, worked: &mut Worked<S>, i: u32, freed: &mut Worker<u32>)
-        requires pass { IsPassOf self.now.board.now.table.shared.table_id (terms_of S.content self.now.board.now.table.shared.key) worked.old.pass }
+        requires pass { IsPassOf S.content self.now.board.now worked.old.pass }
         requires room { vec_len worked.old.failures < vec_capacity worked.old.failures }
         requires tidy { IsTidy self.now.checked.now.plan (mine worked.old.pass) }
-        requires listed { Listed (setting_of S.failures F.tells F.lets self.now.checked.now self.now.first.now self.now.second.now (terms_of S.content self.now.board.now.table.shared.key).told) (mine worked.old.pass) (seen worked.old.pass) worked.old.failures.items }
-        ensures pass { IsPassOf self.now.board.now.table.shared.table_id (terms_of S.content self.now.board.now.table.shared.key) worked.new.pass × IsSamePart worked.old.pass worked.new.pass }
+        requires listed { Listed (setting_of S.Site F.Folder self.now) (mine worked.old.pass) (seen worked.old.pass) worked.old.failures.items }
+        ensures pass { IsPassOf S.content self.now.board.now worked.new.pass × IsSamePart worked.old.pass worked.new.pass }
         ensures tidy { IsTidy self.now.checked.now.plan (mine worked.new.pass) }
-        ensures listed { Listed (setting_of S.failures F.tells F.lets self.now.checked.now self.now.first.now self.now.second.now (terms_of S.content self.now.board.now.table.shared.key).told) (mine worked.new.pass) (seen worked.new.pass) worked.new.failures.items }
+        ensures listed { Listed (setting_of S.Site F.Folder self.now) (mine worked.new.pass) (seen worked.new.pass) worked.new.failures.items }
     {
         if i >= self.checked.action_count() {
             return;

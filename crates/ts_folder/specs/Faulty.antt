@@ -1,4 +1,4 @@
--- A folder that fails where it is told to.
+-- A folder that fails at the calls on its list.
 --     trouble_at failing p           how the first in the list that names p says that it fails
 --     of_call call lists reads       the list for a kind of call
 use Rattle.std.specs.Prelude.{List, Option}

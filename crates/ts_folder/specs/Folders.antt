@@ -47,7 +47,7 @@ pub record Reads (x : Content (List ℕ)) (offset n : ℕ) (answer : List ℕ) :
 abbrev pub Fills : Content (List ℕ) → ℕ → List ℕ → ℕ → Type 0
 Fills x offset buffer n = Reads x offset (length buffer) (take n buffer)
 
--- want of memory at any time, the folder's own troubles where it lets them, and that nothing is there for a reason
+-- out of memory at any time, the folder's own troubles where it lets them, and that nothing is there for a reason
 abbrev pub MayAnswer : (Trouble → Type 0) → Type 0 → FolderFault → Type 0
 MayAnswer lets missing fault.OutOfMemory = Unit {0}
 MayAnswer lets missing fault.Device = lets trouble.Device

@@ -191,7 +191,7 @@ fn child_of<R: Files>(
     };
     match entry.file_type() {
         Ok(file_type) => Ok((name, kind_of(&file_type)?)),
-        // its path is longer than the system takes, which whoever opens it is told
+        // its path is longer than the system takes, which shows when it is opened
         Err(e) if e.kind() == ErrorKind::InvalidFilename => Ok((name, Kind::File)),
         Err(e) => Err(listing_fault(&e)),
     }

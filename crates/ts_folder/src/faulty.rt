@@ -1,4 +1,4 @@
-//! A folder that fails where it is told to, for tests.
+//! A folder that fails at the calls on its list, for tests.
 ghost use Rattle.std.specs.Prelude.{◌≡◌};
 ghost use Rattle.ts_folder.specs.Faulty.{trouble_at};
 

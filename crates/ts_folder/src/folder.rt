@@ -120,7 +120,8 @@ fn fill_behind<F: Folder>(
     ensures len { vec_len bytes.new ≡ vec_len bytes.old }
     ensures before { take start bytes.new.items ≡ take start bytes.old.items }
     ensures bound { IfOk result (λ n. start + n ≤ vec_len bytes.old) }
-    ensures told { (p : List (List ℕ)) → F.is_open folder.now file.old p → IfSome (F.tells folder.now) (λ rows. IfOk result (λ n. Reads (at rows p) offset (vec_len bytes.old - start) (take n (drop start bytes.new.items)))) }
+    ensures told { (p : List (List ℕ)) → F.is_open folder.now file.old p
+        → IfSome (F.tells folder.now) (λ rows. IfOk result (λ n. Reads (at rows p) offset (vec_len bytes.old - start) (take n (drop start bytes.new.items)))) }
     ensures fault { (p : List (List ℕ)) → F.is_open folder.now file.old p → IfErr result (MayAnswer (F.lets folder.now Call.Read p) ⊥) }
     ensures opened { (p : List (List ℕ)) → F.is_open folder.now file.old p → F.is_open folder.now file.new p }
 {

@@ -207,7 +207,7 @@ pub whole_text : (bytes : List ℕ) (rules : List Rule) (rest : List ℕ) → Ha
 whole_text bytes rules [] has lawful none = record { rules_fit = lawful; spelled = has ∙ append-nil (text (map rule_line rules)) }
 whole_text bytes rules (b ∷ rest) has lawful none = absurd (omega arith)
 
--- a text of rules is refused for want of memory alone
+-- a text of rules is refused only because memory ran out
 pub only_memory : (bytes : List ℕ) (fault : HoldFault) (rules : List Rule) → TellsBadLine bytes fault → IsRulesText bytes rules → fault ≡ OutOfMemory
 only_memory bytes OutOfMemory rules tells is = refl
 only_memory bytes (BadRule n) rules tells is = absurd (no_bad_line bytes n rules tells is)

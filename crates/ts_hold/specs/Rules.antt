@@ -1,4 +1,4 @@
--- What is told of rules that are read line by line, and of their text.
+-- What rules that are read line by line say, and how their text is spelled.
 use Rattle.std.specs.Prelude.{◌≡◌, ◌⊎◌, ℕ, ◌+◌, List, [], ◌∷◌, ◌++◌, length, Result, Ok, Err}
 use Rattle.ts_model.specs.declared.hold.Rule.{Rule}
 use Rattle.ts_model.specs.Texts.{Line, IsBadLine}

@@ -69,7 +69,7 @@ impl Holds {
         false
     }
 
-    /// The rules that a text spells, one a line. A bad line is told by its number, the first one of them.
+    /// The rules that a text spells, one a line. A bad line is reported by its number, the first one of them.
     pub fn parse(alloc: Global, text: &[u8]) -> Result<Holds, HoldFault>
         ensures found { IfOk result (IsRulesText text.now) }
         ensures bad { IfErr result (TellsBadLine text.now) }

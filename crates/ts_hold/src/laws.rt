@@ -8,7 +8,7 @@ pub fn no_bad_line()
     ensures { (bytes : List ℕ) (number : ℕ) (rules : List Rule) → IsBadLine bytes number → ¬ IsRulesText bytes rules }
 {}
 
-/// A text has at most one bad line that is told: the first.
+/// A text has at most one bad line that is reported: the first.
 pub fn one_bad_line()
     ensures { (bytes : List ℕ) (m n : ℕ) → IsBadLine bytes m → IsBadLine bytes n → m ≡ n }
 {}

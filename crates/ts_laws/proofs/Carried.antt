@@ -5,7 +5,7 @@ use Rattle.std.proofs.lemmas.Option.{none-some, same_Some}
 use Rattle.ts_name.specs.Paths.{Path, IsAbove, IsBefore}
 use Rattle.ts_model.specs.Trees.{Tree, Print, sub, IsTree, AreApart}
 use Rattle.ts_model.specs.Sync.{Snapshot, IsSnapshot, AreReplicas, HasReason, IsSkipped, Synced, is_skipped}
-use Rattle.ts_model.specs.Plans.{EntryIs, source, Valid}
+use Rattle.ts_model.specs.Plans.{EntryIs, is_from, source, Valid}
 use Rattle.ts_model.specs.Runs.{Run, graft, marked, with_mark, after, start}
 use Rattle.ts_model.specs.Headline.{AllDone, FinalArchive, Meets}
 use Rattle.ts_model.specs.declared.plan.Side.{Side}
@@ -16,7 +16,8 @@ use Rattle.ts_model.specs.declared.plan.Entry.{Entry}
 use Rattle.ts_model.specs.declared.plan.Kind.TheVariants.{Commit, Mark}
 use Rattle.ts_model.specs.declared.plan.Plan.{Plan}
 use Rattle.ts_laws.specs.Laws.{Finishes}
-use Rattle.ts_laws.specs.Carried.{same_reason, copied, marked_all, IsCarriedOut, LeavesCarried}
+use Rattle.ts_model.proofs.Reasons.{decide_from, source_from_test, test_from_source}
+use Rattle.ts_laws.specs.Carried.{copied, marked_all, IsCarriedOut, LeavesCarried}
 use Rattle.ts_laws.proofs.Settings.{Setting, Begun, Ran, begun_at, ran_at, ran_from}
 use Rattle.ts_laws.proofs.Basics.{Dec-both, Dec-either, Dec-not, IsTree-from_print, Start-from, stable, same_names}
 use Rattle.ts_name.proofs.Prefixes.{decide_above}
@@ -38,25 +39,6 @@ use Rattle.ts_laws.proofs.Finishing.{finish}
 
 -- ---- tests of reasons
 
--- reasons that test the same are one
-pub same_reason_equal : (x y : Reason) → same_reason x y ≡ true → x ≡ y
-same_reason_equal reason.Same reason.Same h = refl
-same_reason_equal reason.First reason.First h = refl
-same_reason_equal reason.Second reason.Second h = refl
-same_reason_equal reason.Conflict reason.Conflict h = refl
-same_reason_equal reason.Held reason.Held h = refl
-same_reason_equal reason.Dir reason.Dir h = refl
-same_reason_equal _ _ h = cc
-
--- a reason tests the same as itself
-pub same_reason_itself : (x : Reason) → same_reason x x ≡ true
-same_reason_itself reason.Same = refl
-same_reason_itself reason.First = refl
-same_reason_itself reason.Second = refl
-same_reason_itself reason.Conflict = refl
-same_reason_itself reason.Held = refl
-same_reason_itself reason.Dir = refl
-
 -- what tests skipped is
 pub skipped_from_test : (r : Reason) → is_skipped r ≡ true → IsSkipped r
 skipped_from_test reason.Conflict h = inl refl
@@ -69,54 +51,55 @@ test_from_skipped r h still = true≢false (sym (elim still [ inl e ↦ ap is_sk
 
 -- ---- what is copied
 
--- a graft of a source's own subtree keeps what is the source's
-graft_source : (t source : Tree) (p q : Path) → t q ≡ source q → graft t p (sub source p) q ≡ source q
-graft_source t source p q same = elim (decide_above p q) [
-  | yes found ↦ ap (graft t p (sub source p)) found.1 ∙ graft_at t p (sub source p) found.0 ∙ ap source (sym found.1)
-  | no n ↦ graft_off t p (sub source p) q (λ rest at. n (rest, at)) ∙ same
+-- a graft of an origin's own subtree keeps what is the origin's
+graft_origin : (t origin : Tree) (p q : Path) → t q ≡ origin q → graft t p (sub origin p) q ≡ origin q
+graft_origin t origin p q same = elim (decide_above p q) [
+  | yes found ↦ ap (graft t p (sub origin p)) found.1 ∙ graft_at t p (sub origin p) found.0 ∙ ap origin (sym found.1)
+  | no n ↦ graft_off t p (sub origin p) q (λ rest at. n (rest, at)) ∙ same
 ]
 
-module _ (r : Reason) (source : Tree) where
-  -- where no entry of the reason is above, nothing changes
+module _ (from : Side) (origin : Tree) where
+  -- where no entry that is copied from the side is above, nothing changes
   pub copied_off : (t : Tree) (entries : List Entry) (q : Path)
-      → ((j : ℕ) (x : Entry) → slice_get entries j ≡ Some x → x.reason ≡ r → (rest : Path) → q ≢ x.path ++ rest) → copied r source t entries q ≡ t q
+      → ((j : ℕ) (x : Entry) → slice_get entries j ≡ Some x → source x.reason ≡ Some from → (rest : Path) → q ≢ x.path ++ rest)
+      → copied from origin t entries q ≡ t q
   copied_off t [] q off = refl
-  copied_off t (x ∷ xs) q off = go (same_reason x.reason r) refl (λ u. copied_off u xs q (λ j y is. off (suc j) y is))
+  copied_off t (x ∷ xs) q off = go (is_from from x.reason) refl (λ u. copied_off u xs q (λ j y is. off (suc j) y is))
     where
-      go : (test : Bool) → same_reason x.reason r ≡ test → ((u : Tree) → copied r source u xs q ≡ u q)
-          → copied r source (cond test (graft t x.path (sub source x.path)) t) xs q ≡ t q
-      go true e more = more (graft t x.path (sub source x.path)) ∙ graft_off t x.path (sub source x.path) q (off 0 x refl (same_reason_equal x.reason r e))
+      go : (test : Bool) → is_from from x.reason ≡ test → ((u : Tree) → copied from origin u xs q ≡ u q)
+          → copied from origin (cond test (graft t x.path (sub origin x.path)) t) xs q ≡ t q
+      go true e more = more (graft t x.path (sub origin x.path)) ∙ graft_off t x.path (sub origin x.path) q (off 0 x refl (source_from_test from x.reason e))
       go false e more = more t
 
   -- one part of the entries after another
-  pub copied_append : (t : Tree) (xs ys : List Entry) → copied r source t (xs ++ ys) ≡ copied r source (copied r source t xs) ys
+  pub copied_append : (t : Tree) (xs ys : List Entry) → copied from origin t (xs ++ ys) ≡ copied from origin (copied from origin t xs) ys
   copied_append t [] ys = refl
-  copied_append t (x ∷ xs) ys = copied_append (cond (same_reason x.reason r) (graft t x.path (sub source x.path)) t) xs ys
+  copied_append t (x ∷ xs) ys = copied_append (cond (is_from from x.reason) (graft t x.path (sub origin x.path)) t) xs ys
 
-  -- what is the source's stays so
-  pub copied_kept : (t : Tree) (entries : List Entry) (q : Path) → t q ≡ source q → copied r source t entries q ≡ source q
+  -- what is the origin's stays so
+  pub copied_kept : (t : Tree) (entries : List Entry) (q : Path) → t q ≡ origin q → copied from origin t entries q ≡ origin q
   copied_kept t [] q same = same
-  copied_kept t (x ∷ xs) q same = go (same_reason x.reason r) (λ u. copied_kept u xs q)
+  copied_kept t (x ∷ xs) q same = go (is_from from x.reason) (λ u. copied_kept u xs q)
     where
-      go : (test : Bool) → ((u : Tree) → u q ≡ source q → copied r source u xs q ≡ source q)
-          → copied r source (cond test (graft t x.path (sub source x.path)) t) xs q ≡ source q
-      go true more = more (graft t x.path (sub source x.path)) (graft_source t source x.path q same)
+      go : (test : Bool) → ((u : Tree) → u q ≡ origin q → copied from origin u xs q ≡ origin q)
+          → copied from origin (cond test (graft t x.path (sub origin x.path)) t) xs q ≡ origin q
+      go true more = more (graft t x.path (sub origin x.path)) (graft_origin t origin x.path q same)
       go false more = more t same
 
-  -- at and below an entry of the reason is what the source has
-  pub copied_at : (t : Tree) (entries : List Entry) (k : ℕ) (x : Entry) (rest : Path) → slice_get entries k ≡ Some x → x.reason ≡ r
-      → copied r source t entries (x.path ++ rest) ≡ source (x.path ++ rest)
+  -- at and below an entry that is copied from the side is what the origin has
+  pub copied_at : (t : Tree) (entries : List Entry) (k : ℕ) (x : Entry) (rest : Path) → slice_get entries k ≡ Some x → source x.reason ≡ Some from
+      → copied from origin t entries (x.path ++ rest) ≡ origin (x.path ++ rest)
   copied_at t [] k x rest is why = absurd (none-some x is)
-  copied_at t (y ∷ ys) zero x rest is why = go (same_reason y.reason r) (ap (λ z. same_reason z r) (ap (λ z. z.reason) same ∙ why) ∙ same_reason_itself r)
+  copied_at t (y ∷ ys) zero x rest is why = go (is_from from y.reason) (test_from_source from y.reason (ap (λ z. source z.reason) same ∙ why))
     where
       same : y ≡ x
       same = same_Some y x is
 
-      go : (test : Bool) → test ≡ true → copied r source (cond test (graft t y.path (sub source y.path)) t) ys (x.path ++ rest) ≡ source (x.path ++ rest)
-      go true e = copied_kept (graft t y.path (sub source y.path)) ys (x.path ++ rest)
-          (subst (λ z. graft t y.path (sub source y.path) (z.path ++ rest) ≡ source (z.path ++ rest)) same (graft_at t y.path (sub source y.path) rest))
+      go : (test : Bool) → test ≡ true → copied from origin (cond test (graft t y.path (sub origin y.path)) t) ys (x.path ++ rest) ≡ origin (x.path ++ rest)
+      go true e = copied_kept (graft t y.path (sub origin y.path)) ys (x.path ++ rest)
+          (subst (λ z. graft t y.path (sub origin y.path) (z.path ++ rest) ≡ origin (z.path ++ rest)) same (graft_at t y.path (sub origin y.path) rest))
       go false e = cc
-  copied_at t (y ∷ ys) (suc k) x rest is why = copied_at (cond (same_reason y.reason r) (graft t y.path (sub source y.path)) t) ys k x rest is why
+  copied_at t (y ∷ ys) (suc k) x rest is why = copied_at (cond (is_from from y.reason) (graft t y.path (sub origin y.path)) t) ys k x rest is why
 
 -- ---- what is marked
 
@@ -209,25 +192,32 @@ module _ (given : Ran) (done : AllDone given.begun.setting.plan given.r) where
   has_from_copy side.First p copy = (copy.edge.below, (copy.edge.no_dirs, copy.differ, stable (decide_dirty s lawful side.Second p) copy.dirty, copy.clean))
   has_from_copy side.Second p copy = (copy.edge.below, (copy.edge.no_dirs, copy.differ, stable (decide_dirty s lawful side.First p) copy.dirty, copy.clean))
 
+  -- what the entries that are copied onto a side make of it
+  abbrev Ends : Side → Tree
+  Ends on = copied (other on) (tree_on (start s a b) (other on)) (tree_on (start s a b) on) plan.entries
+
+  -- an entry is copied onto a side, at a path or above it
+  abbrev Brings : Side → Path → Entry → Type 0
+  Brings on q x = (source x.reason ≡ Some (other on)) × IsAbove x.path q
+
   -- each side is left with what its entries copy
-  pub ends_copied : (on : Side) → tree_on (after s plan (start s a b) r) on ≡ copied (reason_onto on) (tree_on (start s a b) (other on)) (tree_on (start s a b) on) plan.entries
-  ends_copied on = by_each (tree_on (after s plan (start s a b) r) on) (copied (reason_onto on) (tree_on (start s a b) (other on)) (tree_on (start s a b) on) plan.entries) (λ q.
-      go q (find_index (λ x. (x.reason ≡ reason_onto on) × IsAbove x.path q) (λ x. Dec-both (decide_reason x.reason (reason_onto on)) (decide_above x.path q)) plan.entries))
+  pub ends_copied : (on : Side) → tree_on (after s plan (start s a b) r) on ≡ Ends on
+  ends_copied on = by_each (tree_on (after s plan (start s a b) r) on) (Ends on) (λ q.
+      go q (find_index (Brings on q) (λ x. Dec-both (decide_from (other on) x.reason) (decide_above x.path q)) plan.entries))
     where
-      go : (q : Path)
-          → ((k : ℕ) × (x : Entry) × EntryIs plan k x × ((x.reason ≡ reason_onto on) × IsAbove x.path q)) ⊎ ((k : ℕ) (x : Entry) → EntryIs plan k x → ¬ ((x.reason ≡ reason_onto on) × IsAbove x.path q))
-          → tree_on (after s plan (start s a b) r) on q ≡ copied (reason_onto on) (tree_on (start s a b) (other on)) (tree_on (start s a b) on) plan.entries q
-      go q (inl (k, x, is, (why, (rest, at)))) =
-          let from_is : source x.reason ≡ Some (other on) = ap source why ∙ source_onto on in
+      go : (q : Path) → ((k : ℕ) × (x : Entry) × EntryIs plan k x × Brings on q x) ⊎ ((k : ℕ) (x : Entry) → EntryIs plan k x → ¬ Brings on q x)
+          → tree_on (after s plan (start s a b) r) on q ≡ Ends on q
+      go q (inl (k, x, is, (from_is, (rest, at)))) =
           let commit = commit_exists s plan valid k x (other on) is from_is in
-          subst (λ z. tree_on (after s plan (start s a b) r) on z ≡ copied (reason_onto on) (tree_on (start s a b) (other on)) (tree_on (start s a b) on) plan.entries z) (sym at)
+          subst (λ z. tree_on (after s plan (start s a b) r) on z ≡ Ends on z) (sym at)
           (at_each (copied_after given.begun commit.0 k x on commit.1 is from_is r legal contents (done_acts given done commit.0 (Commit k) commit.1)) rest
-          ∙ sym (copied_at (reason_onto on) (tree_on (start s a b) (other on)) (tree_on (start s a b) on) plan.entries k x rest is why))
+          ∙ sym (copied_at (other on) (tree_on (start s a b) (other on)) (tree_on (start s a b) on) plan.entries k x rest is from_is))
       go q (inr none) =
           untouched_at given.begun on q (λ p copy rest at.
           let found = reason_has_entry s plan valid p (reason_onto on) (has_from_copy on p copy) in
-          none found.0 found.1 found.2 (found.4, (rest, at ∙ ap (λ z. z ++ rest) (sym found.3)))) r legal
-          ∙ sym (copied_off (reason_onto on) (tree_on (start s a b) (other on)) (tree_on (start s a b) on) plan.entries q (λ j x is why rest at. none j x is (why, (rest, at))))
+          none found.0 found.1 found.2 (ap source found.4 ∙ source_onto on, (rest, at ∙ ap (λ z. z ++ rest) (sym found.3)))) r legal
+          ∙ sym (copied_off (other on) (tree_on (start s a b) (other on)) (tree_on (start s a b) on) plan.entries q
+          (λ j x is why rest at. none j x is (why, (rest, at))))
 
   -- the mark of an entry reaches a path
   abbrev Reaches : Path → Entry → Type 0
@@ -272,10 +262,10 @@ module _ (given : Ran) (done : AllDone given.begun.setting.plan given.r) where
   pub carried : IsCarriedOut s plan a b
   carried = go (complete given done)
     where
-      first : (after s plan (start s a b) r).first ≡ copied reason.Second b a plan.entries
+      first : (after s plan (start s a b) r).first ≡ copied side.Second b a plan.entries
       first = ends_copied side.First
 
-      second : (after s plan (start s a b) r).second ≡ copied reason.First a b plan.entries
+      second : (after s plan (start s a b) r).second ≡ copied side.First a b plan.entries
       second = ends_copied side.Second
 
       go : Synced s a b (after s plan (start s a b) r).first (after s plan (start s a b) r).second
@@ -285,8 +275,8 @@ module _ (given : Ran) (done : AllDone given.begun.setting.plan given.r) where
           let closed = archive_is_closed given.begun.setting r legal in
           let asks = asks_for_same given w.first w.second ended.0 closed.0 closed.1 in
           record {
-            pair = subst (λ t. Synced s a b (copied reason.Second b a plan.entries) t) second (subst (λ t. Synced s a b t w.second) first ended.0);
-            archive = subst (λ t. FinalArchive s (copied reason.Second b a plan.entries) t) ends_marked (subst (λ t. FinalArchive s t w.archive) first ended.1);
+            pair = subst (λ t. Synced s a b (copied side.Second b a plan.entries) t) second (subst (λ t. Synced s a b t w.second) first ended.0);
+            archive = subst (λ t. FinalArchive s (copied side.Second b a plan.entries) t) ends_marked (subst (λ t. FinalArchive s t w.archive) first ended.1);
             trees = (
               subst (λ t. IsTree t) first (IsTree-from_print w.first asks.lawful.first),
               subst (λ t. IsTree t) second (IsTree-from_print w.second asks.lawful.second),

@@ -27,8 +27,8 @@ use Rattle.ts_model.specs.declared.plan.Plan.{Plan}
 use Rattle.ts_laws.specs.Laws.{IsUnfailed, tree_of, IsOwnWork, Finishes, CanFinish}
 use Rattle.ts_laws.proofs.Settings.{Begun, begun_at}
 use Rattle.ts_laws.proofs.Basics.{Start-from, stable}
-use Rattle.ts_name.proofs.Basics.{at_each}
-use Rattle.ts_laws.proofs.Lists.{Among, Among-from_Contains, Contains-from_Among, any_last, below_bound, element_at}
+use Rattle.ts_name.proofs.Basics.{at_each, element_at}
+use Rattle.ts_laws.proofs.Lists.{Among, Among-from_Contains, Contains-from_Among, any_last, below_bound}
 use Rattle.ts_laws.proofs.Runs.{Allowed, IsRun-from_legal, all_released, preds_ascend}
 use Rattle.ts_laws.proofs.Cuts.{legal_append, any_in_longer, none_in_both}
 use Rattle.ts_laws.proofs.Plans.{decide_waits, finds_pieces}

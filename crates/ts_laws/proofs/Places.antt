@@ -6,10 +6,11 @@ use Rattle.std.proofs.lemmas.Option.{none-some}
 use Rattle.ts_name.specs.Paths.{Name, Path, IsBefore}
 use Rattle.ts_model.specs.Trees.{Tree}
 use Rattle.ts_model.specs.Sync.{Snapshot, IsSnapshot, AreReplicas, HasReason, AreBothDirs, IsBelowDirs}
-use Rattle.ts_model.specs.Plans.{EntryIs, Valid}
+use Rattle.ts_model.specs.Plans.{EntryIs, source, Valid}
 use Rattle.ts_model.specs.Runs.{marked}
 use Rattle.ts_model.specs.declared.row.Content.TheVariants.{Dir}
-use Rattle.ts_model.specs.declared.plan.Reason.{Reason}
+use Rattle.ts_model.specs.declared.plan.Side.{Side}
+use Rattle.ts_model.specs.declared.plan.Side.TheVariants as side
 use Rattle.ts_model.specs.declared.plan.Reason.TheVariants as reason
 use Rattle.ts_model.specs.declared.plan.Entry.{Entry}
 use Rattle.ts_model.specs.declared.plan.Plan.{Plan}
@@ -141,8 +142,9 @@ module _ (given : Begun) (before : List Entry) (entry : Entry) (after : List Ent
   at_parent = parent_dirs given.setting (length before) entry is_entry
 
   -- a copy leaves each directory of both
-  dirs_copied : (r : Reason) (source t : Tree) → r ≢ reason.Dir → (q : Path) → AreBothDirs s.first s.second q → copied r source t before q ≡ t q
-  dirs_copied r source t ne q dirs = copied_off r source t before q (λ j x is why more at. ne (sym why ∙ above_is_Dir given.setting q dirs (0 + j) x (front_from j x is) more at))
+  dirs_copied : (from : Side) (origin t : Tree) → (q : Path) → AreBothDirs s.first s.second q → copied from origin t before q ≡ t q
+  dirs_copied from origin t q dirs = copied_off from origin t before q (λ j x is why more at.
+      none-some from (ap source (sym (above_is_Dir given.setting q dirs (0 + j) x (front_from j x is) more at)) ∙ why))
 
   -- the parent is a directory in the archive, from the start or by its mark
   archive_dirs : (parent : Path) (name : Name) → entry.path ≡ parent ++ name ∷ [] → marked_all s s.archive before parent ≡ Dir
@@ -163,8 +165,8 @@ module _ (given : Begun) (before : List Entry) (entry : Entry) (after : List Ent
   in_place = record {
     not_root = not_root given.setting (length before) entry is_entry;
     parent = λ parent name at. dirs_trees s a b begin parent (at_parent parent name at);
-    in_first = λ parent name at. dirs_copied reason.Second b a (λ e. cc) parent (at_parent parent name at) ∙ (dirs_trees s a b begin parent (at_parent parent name at)).0;
-    in_second = λ parent name at. dirs_copied reason.First a b (λ e. cc) parent (at_parent parent name at) ∙ (dirs_trees s a b begin parent (at_parent parent name at)).1;
+    in_first = λ parent name at. dirs_copied side.Second b a parent (at_parent parent name at) ∙ (dirs_trees s a b begin parent (at_parent parent name at)).0;
+    in_second = λ parent name at. dirs_copied side.First a b parent (at_parent parent name at) ∙ (dirs_trees s a b begin parent (at_parent parent name at)).1;
     in_archive = archive_dirs;
     ascends = ascends_to given.setting (length before) entry is_entry (suc (length before)) after (omega arith) (rest_from plan (length before) entry after back_from);
     apart = λ ne rest. apart_from given.setting (length before) entry is_entry ne rest (suc (length before)) after (omega arith) (rest_from plan (length before) entry after back_from);

@@ -14,10 +14,11 @@ use Rattle.ts_laws.proofs.Basics.{Dec-both, Dec-not, same_list, same_names}
 use Rattle.ts_laws.proofs.Search.{decide_less, decide_each, decide_empty}
 use Rattle.ts_laws.proofs.Rules.{decide_some_reason, decide_limits}
 use Rattle.ts_name.proofs.Spelling.{cons_parts}
-use Rattle.ts_laws.proofs.Words.{Words, all_both}
+use Rattle.ts_laws.proofs.Words.{Words}
 use Rattle.ts_laws.proofs.PlanTexts.{ActionsFit, action_words, actions_words, end_words, entry_words, kind_words, one_entry, one_kind, one_pred, plan_words, pred_words}
 use Rattle.ts_laws.proofs.ReadWords.{BeginsWith, decide_begins, decide_keyed, decide_word, decide_decimal, decide_fit_path, decide_is_path}
 use Rattle.ts_laws.proofs.ReadTrees.{AreItems, decide_items}
+use Rattle.ts_name.proofs.Basics.{all_both}
 
 -- ---- words
 

@@ -17,7 +17,7 @@ use Rattle.ts_name.proofs.Prefixes.{last_name, same_parent, snoc_not_empty}
 use Rattle.ts_name.proofs.Order.{decide_before}
 use Rattle.ts_name.proofs.Basics.{weaker}
 use Rattle.ts_laws.proofs.Lists.{Among, all_among, all_from_among}
-use Rattle.ts_laws.proofs.Listings.{paths_of, decide_absent, listed_among, listed_here, listed_there}
+use Rattle.ts_laws.proofs.Listings.{paths_of, decide_absent, listed_among}
 use Rattle.ts_laws.proofs.Words.{Words}
 use Rattle.ts_name.proofs.Utf8.{all_append}
 use Rattle.ts_name.proofs.Spelling.{cons_parts}
@@ -25,6 +25,7 @@ use Rattle.ts_model.proofs.Spelling.{bytes_parts}
 use Rattle.ts_laws.proofs.TreeTexts.{data_words, tree_row_words, tree_words, RowFits, one_tree_row, print_row_words, print_words, MarkFits, one_print_row}
 use Rattle.ts_name.proofs.Basics.{weaker}
 use Rattle.ts_laws.proofs.ReadWords.{BeginsWith, decide_begins, decide_keyed, decide_word, decide_decimal, decide_bytes, decide_path, decide_is_path}
+use Rattle.ts_model.proofs.Rows.{listed_here, listed_there}
 
 -- ---- items one after another
 

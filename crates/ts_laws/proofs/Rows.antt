@@ -14,7 +14,8 @@ use Rattle.ts_name.proofs.Order.{before_flip}
 use Rattle.ts_name.proofs.Utf8.{all_parts}
 use Rattle.ts_name.proofs.Basics.{at_each, by_each, weaker}
 use Rattle.ts_laws.proofs.Lists.{Among, Among-from_Contains}
-use Rattle.ts_laws.proofs.Listings.{paths_of, decide_absent, listed_here, listed_there, listed_among}
+use Rattle.ts_laws.proofs.Listings.{paths_of, decide_absent, listed_among}
+use Rattle.ts_model.proofs.Rows.{listed_here, listed_there}
 
 -- ---- a row put in its place
 

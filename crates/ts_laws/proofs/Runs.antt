@@ -15,7 +15,8 @@ use Rattle.ts_model.specs.declared.step.Step.TheVariants.{Claim, Act, Done, Rele
 use Rattle.ts_model.specs.declared.plan.Action.{Action}
 use Rattle.ts_model.specs.declared.plan.Plan.{Plan}
 use Rattle.ts_laws.proofs.Basics.{stable}
-use Rattle.ts_laws.proofs.Lists.{any_earlier, any_last, any_cases, any_without_last, same_at, Among, Among-from_Contains, decide_ascend, count_same, count_drops, none_counted, counted_none, weight, count_cons, least_failing, element_at, below_bound, Contains-from_Among}
+use Rattle.ts_laws.proofs.Lists.{any_earlier, any_last, any_cases, any_without_last, Among, Among-from_Contains, decide_ascend, count_same, count_drops, none_counted, counted_none, weight, count_cons, least_failing, below_bound, Contains-from_Among}
+use Rattle.ts_name.proofs.Basics.{same_at, element_at}
 
 -- a step that the words allow, and that fits its action
 abbrev pub Allowed : Snapshot → Plan → Run → Step → Type 0

@@ -18,8 +18,8 @@ use Rattle.ts_model.specs.declared.plan.Kind.TheVariants.{Piece, Commit, Mark}
 use Rattle.ts_model.specs.declared.plan.Plan.{Plan}
 use Rattle.ts_laws.proofs.Runs.{Allowed, same_action}
 use Rattle.ts_laws.proofs.Basics.{stable}
-use Rattle.ts_laws.proofs.Lists.{same_at}
 use Rattle.ts_laws.proofs.Reasons.{other, decide_skipped}
+use Rattle.ts_name.proofs.Basics.{same_at}
 
 -- the tree of a side
 abbrev pub tree_on : State → Side → Tree

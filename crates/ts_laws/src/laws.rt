@@ -2,7 +2,8 @@
 
 ghost use Rattle.std.specs.Prelude.{◌≡◌, ◌⊎◌, ℕ, List, []};
 ghost use Rattle.ts_laws.specs.Carried.{AreInPlace, IsCarriedOut, LeavesCarried};
-ghost use Rattle.ts_laws.specs.Laws.{AreDecided, ArePrinted, CanFinish, CountsOpen, DirsAreParents, DirtIsDifference, EndsAlike, EntriesAreReasons, FindsPieces, HasAnswer, IsAnswered, IsDecided, IsReasonDecided, Keeps, OneToOne, ValidExample};
+ghost use Rattle.ts_laws.specs.Laws.{AreDecided, ArePrinted, CanFinish, CountsOpen, DirsAreParents, DirtIsDifference, EndsAlike, EntriesAreReasons};
+ghost use Rattle.ts_laws.specs.Laws.{FindsPieces, HasAnswer, IsAnswered, IsDecided, IsReasonDecided, Keeps, OneToOne, ValidExample};
 ghost use Rattle.ts_model.specs.Headline.{ArchiveAgrees, Completes, FinalArchive, HasOnePair, Meets, NotStuck, OnePair, OriginalOrFinal};
 ghost use Rattle.ts_model.specs.Plans.{Valid};
 ghost use Rattle.ts_model.specs.Resume.{ArchiveIsClosed, CanResume, CutsAreLegal};

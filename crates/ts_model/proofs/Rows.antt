@@ -7,12 +7,39 @@ use Rattle.std.specs.Int.{to_be_bytes, w32}
 use Rattle.sha2.specs.Sha256.{sha256, digest_bytes, final_hash, initial_hash_256}
 use Rattle.sha2.proofs.Facts256.{length-sha256}
 use Rattle.ts_name.specs.Paths.{Path, IsPath, same_path}
+use Rattle.ts_name.specs.Laws.{same_path_itself, same_path_differ}
 use Rattle.ts_name.proofs.Utf8.{all_append}
-use Rattle.ts_model.specs.Trees.{Listing, listed, at, stamped}
+use Rattle.ts_model.specs.Trees.{Ascend, Listing, listed, at, stamped}
 use Rattle.ts_model.specs.Texts.{IsBytes, FileFits, StampFits}
 use Rattle.ts_model.specs.declared.row.Content.{Content}
 use Rattle.ts_model.specs.declared.row.Content.TheVariants.{Absent, Dir, File}
 use Rattle.ts_model.specs.declared.row.Row.{Row}
+
+-- ---- what is listed
+
+-- the first row says what is at its path
+pub listed_here : {F : Type 0} (row : Row F) (rows : Listing F) → listed (row ∷ rows) row.path ≡ row.content
+listed_here row rows = rw (same_path_itself row.path)
+
+-- other paths have what the rest says
+pub listed_there : {F : Type 0} (row : Row F) (rows : Listing F) (p : Path) → row.path ≢ p → listed (row ∷ rows) p ≡ listed rows p
+listed_there row rows p differ = rw (same_path_differ row.path p differ)
+
+-- below the root, what is there is what is listed
+pub at_listed : {F : Type 0} (rows : Listing F) (p : Path) → p ≢ [] → at rows p ≡ listed rows p
+at_listed rows [] some = absurd (some refl)
+at_listed rows (n ∷ p) some = refl
+
+-- the rows after the first ascend
+pub ascend_rest : {F : Type 0} (row : Row F) (rows : Listing F) → Ascend (row ∷ rows) → Ascend rows
+ascend_rest row [] h = tt
+ascend_rest row (next ∷ rows) h = h.1
+
+-- where nothing is stamped nothing is
+pub stamped_absent : (x : Content (List ℕ)) → stamped x ≡ Absent → x ≡ Absent
+stamped_absent Absent e = refl
+stamped_absent Dir e = cc
+stamped_absent (File bytes) e = cc
 
 -- ---- contents
 

@@ -2,23 +2,27 @@
 --     Wrong s plan rule place     the rule is broken there. Entries and actions count from 0
 --     Broken s plan rule place    no earlier rule is broken, this one is, and this is the least place
 --     Valid s plan                no rule is broken anywhere
-use Rattle.std.specs.Prelude.{◌≡◌, ◌≢◌, ◌⊎◌, ℕ, ◌+◌, ◌-◌, ◌%◌, ◌<◌, ◌≤◌, min, List, [], ◌∷◌, length, Contains, Option, Some, None, slice_get, sum_by, count_by}
+use Rattle.std.specs.Prelude.{◌≡◌, ◌≢◌, ◌⊎◌, ℕ, ◌+◌, ◌-◌, ◌%◌, ◌<◌, ◌≤◌, min, sum_by, count_by}
+use Rattle.std.specs.Prelude.{Bool, true, false, List, [], ◌∷◌, length, Contains, Option, Some, None, slice_get}
 use Rattle.std.specs.Ordering.{is_lt}
 use Rattle.ts_name.specs.Paths.{Path, IsAbove, IsBefore, path_cmp}
 use Rattle.ts_model.specs.declared.row.Content.TheVariants.{File}
 use Rattle.ts_model.specs.declared.row.Stamp.{Stamp}
-use Rattle.ts_model.specs.Sync.{Snapshot, replica, HasReason, IsSkipped}
+use Rattle.ts_model.specs.Sync.{Snapshot, replica, HasReason, IsSkipped, treatment}
 use Rattle.ts_model.specs.declared.plan.Side.{Side}
 use Rattle.ts_model.specs.declared.plan.Side.TheVariants as side
 use Rattle.ts_model.specs.declared.plan.Reason.{Reason}
 use Rattle.ts_model.specs.declared.plan.Reason.TheVariants as reason
+use Rattle.ts_model.specs.declared.plan.Treatment.{Treatment}
+use Rattle.ts_model.specs.declared.plan.Treatment.TheVariants.{Copied, Agreed, NewDirectory, Skipped}
 use Rattle.ts_model.specs.declared.plan.Entry.{Entry}
 use Rattle.ts_model.specs.declared.plan.Kind.{Kind}
 use Rattle.ts_model.specs.declared.plan.Kind.TheVariants.{Piece, Commit, Mark}
 use Rattle.ts_model.specs.declared.plan.Action.{Action}
 use Rattle.ts_model.specs.declared.plan.Plan.{Plan}
 use Rattle.ts_model.specs.declared.plan.PlanRule.{PlanRule}
-use Rattle.ts_model.specs.declared.plan.PlanRule.TheVariants.{Limits, EntriesAscend, ReasonsHold, EntriesComplete, PredsAscend, OneCommit, PiecesLawful, PiecesComplete, OneMark, PiecesFirst, CommitFirst, DirFirst}
+use Rattle.ts_model.specs.declared.plan.PlanRule.TheVariants.{Limits, EntriesAscend, ReasonsHold, EntriesComplete, PredsAscend, OneCommit}
+use Rattle.ts_model.specs.declared.plan.PlanRule.TheVariants.{PiecesLawful, PiecesComplete, OneMark, PiecesFirst, CommitFirst, DirFirst}
 
 -- ---- what a plan says
 
@@ -35,14 +39,26 @@ KindIs plan i kind = (action : Action) × ActionIs plan i action × (action.kind
 abbrev pub Waits : Plan → ℕ → ℕ → Type 0
 Waits plan i j = (action : Action) × ActionIs plan i action × Contains action.preds j
 
+abbrev pub copied_side : Treatment → Option Side
+copied_side (Copied from) = Some from
+copied_side Agreed = None
+copied_side NewDirectory = None
+copied_side Skipped = None
+
 -- the side that an entry is copied from
 abbrev pub source : Reason → Option Side
-source reason.First = Some side.First
-source reason.Second = Some side.Second
-source reason.Same = None
-source reason.Conflict = None
-source reason.Held = None
-source reason.Dir = None
+source r = copied_side (treatment r)
+
+abbrev pub is_side : Side → Option Side → Bool
+is_side on None = false
+is_side side.First (Some side.First) = true
+is_side side.First (Some side.Second) = false
+is_side side.Second (Some side.First) = false
+is_side side.Second (Some side.Second) = true
+
+-- whether an entry is copied from this side
+abbrev pub is_from : Side → Reason → Bool
+is_from on r = is_side on (source r)
 
 -- the replica that isn't this one
 abbrev pub other : Side → Side

@@ -5,6 +5,7 @@
 --     IsRelevant a b p          the root, or a path whose parent is a directory in both
 --     Sync a b da db c d        the replicas a and b, dirty at these paths, may become c and d
 --     HasReason s p r           why p needs attention
+--     treatment r               what is done about an entry of this reason
 use Rattle.std.specs.Prelude.{◌≡◌, ◌≢◌, ◌⊎◌, Bool, true, false, List, [], ◌∷◌, ◌++◌}
 use Rattle.ts_name.specs.Paths.{Name, Path, IsAbove}
 use Rattle.ts_model.specs.declared.row.Content.{Content}
@@ -17,6 +18,8 @@ use Rattle.ts_model.specs.declared.plan.Side.{Side}
 use Rattle.ts_model.specs.declared.plan.Side.TheVariants as side
 use Rattle.ts_model.specs.declared.plan.Reason.{Reason}
 use Rattle.ts_model.specs.declared.plan.Reason.TheVariants as reason
+use Rattle.ts_model.specs.declared.plan.Treatment.{Treatment}
+use Rattle.ts_model.specs.declared.plan.Treatment.TheVariants.{Copied, Agreed, NewDirectory, Skipped}
 
 pub record Snapshot : Type 0 where
   pub archive : Print
@@ -103,14 +106,25 @@ Because s p reason.Held = (¬ AreBothDirs s.first s.second p) × (¬ Agree s p) 
 abbrev pub HasReason : Snapshot → Path → Reason → Type 0
 HasReason s p r = IsBelowDirs s.first s.second p × Because s p r
 
+-- ---- what is done about an entry
+
+abbrev pub treatment : Reason → Treatment
+treatment reason.Same = Agreed
+treatment reason.First = Copied side.First
+treatment reason.Second = Copied side.Second
+treatment reason.Conflict = Skipped
+treatment reason.Held = Skipped
+treatment reason.Dir = NewDirectory
+
+abbrev pub leaves_alone : Treatment → Bool
+leaves_alone (Copied from) = false
+leaves_alone Agreed = false
+leaves_alone NewDirectory = false
+leaves_alone Skipped = true
+
 -- nothing is done about it
 abbrev pub IsSkipped : Reason → Type 0
 IsSkipped r = (r ≡ reason.Conflict) ⊎ (r ≡ reason.Held)
 
 abbrev pub is_skipped : Reason → Bool
-is_skipped reason.Conflict = true
-is_skipped reason.Held = true
-is_skipped reason.Same = false
-is_skipped reason.First = false
-is_skipped reason.Second = false
-is_skipped reason.Dir = false
+is_skipped r = leaves_alone (treatment r)

@@ -1,10 +1,11 @@
 -- How each value is spelled. A text is lines, each ended by a line feed; a line is words parted by one space.
 --     tree_lines, print_lines       bodies
 --     archive_text                  the archive file
---     HasWrongEnd, IsBadLine        what is told of an archive's end line, and of a rule's line
+--     HasWrongEnd, IsBadLine        what is wrong with an archive's end line, and with a rule's line
 --     rule_lines, plan_lines        hold rules and plans
 --     IsTreeText bytes rows, IsPrintText, IsArchiveText, IsRulesText, IsPlanText, IsBundleText      the bytes spell the value, which is within the limits
-use Rattle.std.specs.Prelude.{◌≡◌, ◌≢◌, ◌⊎◌, ℕ, zero, suc, ◌+◌, ◌/◌, ◌<◌, ◌≤◌, ◌^◌, ◌==◌, if◌then◌else◌, List, [], ◌∷◌, ◌++◌, length, map, flat_map, take, drop, codes, decimal}
+use Rattle.std.specs.Prelude.{◌≡◌, ◌≢◌, ◌⊎◌, ℕ, zero, suc, ◌+◌, ◌/◌, ◌<◌, ◌≤◌, ◌^◌, ◌==◌, if◌then◌else◌, codes, decimal}
+use Rattle.std.specs.Prelude.{List, [], ◌∷◌, ◌++◌, length, map, flat_map, take, drop}
 use Rattle.std.specs.List.{AllByRecursion, join_with_byte}
 use Rattle.hex.specs.Hex.{encode_lower}
 use Rattle.sha2.specs.Sha256.{sha256}

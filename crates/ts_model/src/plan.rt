@@ -1,9 +1,21 @@
 ghost use Rattle.std.specs.Prelude.{◌≡◌};
-ghost use Rattle.ts_model.specs.Plans.{other, rule_number, source};
-ghost use Rattle.ts_model.specs.Sync.{is_skipped};
+ghost use Rattle.ts_model.specs.Plans.{is_from, other, rule_number, source};
+ghost use Rattle.ts_model.specs.Sync.{is_skipped, treatment};
 
 use crate::items::Items;
 use ts_name::Path;
+
+/// The most entries that a plan may have.
+pub const ENTRY_LIMIT: usize = 1_048_576;
+
+/// The most actions that a plan may have.
+pub const ACTION_LIMIT: usize = 1_048_576;
+
+/// The most predecessors that the actions of a plan may have, all together.
+pub const PRED_LIMIT: usize = 4_194_304;
+
+/// The bytes of each piece of a file but the last one.
+pub const PIECE_SIZE: u64 = 1_048_576;
 
 /// One of the two replicas.
 #[derive(Clone, Copy, Debug, PartialEq, Eq)]
@@ -41,15 +53,53 @@ pub enum Reason {
     Dir,
 }
 
+/// What is done about an entry. Whoever asks what a reason means asks this, so that each reason is sorted in one place.
+#[derive(Clone, Copy, Debug, PartialEq, Eq)]
+pub enum Treatment {
+    /// What this replica has at the path and below it is copied to the other one.
+    Copied(Side),
+    /// Nothing is copied, since both replicas agree: the archive gets what they have.
+    Agreed,
+    /// Nothing is copied: the archive gets the directory, with nothing in it.
+    NewDirectory,
+    /// Nothing is done.
+    Skipped,
+}
+
 impl Reason {
+    /// What is done about an entry of this reason.
+    pub fn treatment(self) -> Treatment
+        ensures { result ≡ treatment self }
+    {
+        match self {
+            Reason::Same => Treatment::Agreed,
+            Reason::First => Treatment::Copied(Side::First),
+            Reason::Second => Treatment::Copied(Side::Second),
+            Reason::Conflict | Reason::Held => Treatment::Skipped,
+            Reason::Dir => Treatment::NewDirectory,
+        }
+    }
+
     /// The replica that an entry of this reason is copied from; `None` for one that isn't copied.
     pub fn source(self) -> Option<Side>
         ensures { result ≡ source self }
     {
-        match self {
-            Reason::First => Some(Side::First),
-            Reason::Second => Some(Side::Second),
-            Reason::Same | Reason::Conflict | Reason::Held | Reason::Dir => None,
+        match self.treatment() {
+            Treatment::Copied(from) => Some(from),
+            Treatment::Agreed | Treatment::NewDirectory | Treatment::Skipped => None,
+        }
+    }
+
+    /// Whether an entry of this reason is copied from this replica.
+    pub fn is_from(self, side: Side) -> bool
+        ensures { result ≡ is_from side self }
+    {
+        match (self.source(), side) {
+            (None, _) => false,
+            (Some(Side::First), Side::First) => true,
+            (Some(Side::First), Side::Second) => false,
+            (Some(Side::Second), Side::First) => false,
+            (Some(Side::Second), Side::Second) => true,
         }
     }
 
@@ -57,9 +107,9 @@ impl Reason {
     pub fn is_skipped(self) -> bool
         ensures { result ≡ is_skipped self }
     {
-        match self {
-            Reason::Conflict | Reason::Held => true,
-            Reason::Same | Reason::First | Reason::Second | Reason::Dir => false,
+        match self.treatment() {
+            Treatment::Skipped => true,
+            Treatment::Copied(_) | Treatment::Agreed | Treatment::NewDirectory => false,
         }
     }
 }

@@ -1,5 +1,6 @@
--- Small facts on functions, and on what holds of each element of a list.
-use Rattle.std.proofs.Common.{◌≡◌, List, [], ◌∷◌, map, ap}
+-- Small facts on functions, and on lists: what is at a place, and what holds of each element.
+use Rattle.std.proofs.Common.{◌≡◌, ℕ, zero, suc, ◌<◌, List, [], ◌∷◌, ◌++◌, length, Some, slice_get, map, refl, sym, ap, ◌∙◌, subst, arith}
+use Rattle.std.proofs.lemmas.Option.{none-some, same_Some}
 use Rattle.std.specs.List.{AllByRecursion}
 
 -- ---- functions
@@ -28,3 +29,26 @@ all_both P Q (x ∷ xs) h k = ((h.0, k.0), all_both P Q xs h.1 k.1)
 pub all_map : {A B : Type 0} (P : B → Type 0) (f : A → B) (xs : List A) → AllByRecursion (λ x. P (f x)) xs → AllByRecursion P (map f xs)
 all_map P f [] h = tt
 all_map P f (x ∷ xs) h = (h.0, all_map P f xs h.1)
+
+-- what each element has, the one at a place has
+pub all_at : {A : Type 0} (P : A → Type 0) (xs : List A) → AllByRecursion P xs → (k : ℕ) (x : A) → slice_get xs k ≡ Some x → P x
+all_at P [] all k x e = absurd (none-some x e)
+all_at P (y ∷ ys) all zero x e = subst P (same_Some y x e) all.0
+all_at P (y ∷ ys) all (suc k) x e = all_at P ys all.1 k x e
+
+-- ---- places in a list
+
+-- one place holds one element
+pub same_at : {A : Type 0} (xs : List A) (k : ℕ) (x y : A) → slice_get xs k ≡ Some x → slice_get xs k ≡ Some y → x ≡ y
+same_at xs k x y e f = same_Some x y (sym e ∙ f)
+
+-- a place within the list holds one
+pub element_at : {A : Type 0} (xs : List A) (k : ℕ) → k < length xs → (x : A) × (slice_get xs k ≡ Some x)
+element_at [] k h = absurd (omega arith)
+element_at (x ∷ xs) zero h = (x, refl)
+element_at (x ∷ xs) (suc k) h = element_at xs k (omega arith)
+
+-- what is put at the end is the last element
+pub got_last : {A : Type 0} (xs : List A) (x : A) → slice_get (xs ++ x ∷ []) (length xs) ≡ Some x
+got_last [] x = refl
+got_last (y ∷ ys) x = got_last ys x

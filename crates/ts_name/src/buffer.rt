@@ -1,5 +1,6 @@
 //! Names in one buffer, each followed by a zero byte.
-ghost use Rattle.std.specs.Prelude.{◌≡◌, ◌==◌, ◌+◌, ◌^◌, IfOk, ◌++◌, ◌∷◌, ◌<◌, ◌≤◌, ◌↔◌, length, sum_by, count_by, map, position, if◌then◌else◌, MatchOption, IsTrue};
+ghost use Rattle.std.specs.Prelude.{◌≡◌, ◌==◌, ◌+◌, ◌^◌, IfOk, ◌++◌, ◌∷◌, ◌<◌, ◌≤◌, ◌↔◌, length, sum_by, count_by, map};
+ghost use Rattle.std.specs.Prelude.{position, if◌then◌else◌, MatchOption, IsTrue};
 ghost use Rattle.std.specs.List.{AllByRecursion};
 ghost use Rattle.ts_name.specs.Paths.{IsName};
 ghost use Rattle.ts_name.specs.Buffers.{pieces, IsWhole, HasNo};

@@ -3,7 +3,8 @@ ghost use Rattle.std.specs.Prelude.{◌≡◌, ◌↔◌, IsTrue, refl};
 ghost use Rattle.std.specs.Cmp.Lexicographic.{slice_cmp};
 ghost use Rattle.std.specs.Ordering.{as_partial_cmp, nat_cmp};
 ghost use Rattle.ts_name.specs.Paths.{path_cmp, same_name, same_path};
-ghost use Rattle.ts_name.specs.Laws.{name_equivalence, name_partial_equivalence, name_partial_order, name_ties, name_total, path_equivalence, path_partial_equivalence, path_partial_order, path_ties, path_total};
+ghost use Rattle.ts_name.specs.Laws.{name_equivalence, name_partial_equivalence, name_partial_order, name_ties, name_total, path_equivalence};
+ghost use Rattle.ts_name.specs.Laws.{path_partial_equivalence, path_partial_order, path_ties, path_total};
 
 use crate::names::Name;
 use crate::paths::Path;

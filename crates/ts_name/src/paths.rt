@@ -1,5 +1,6 @@
 //! Paths, as the names from the root down.
-ghost use Rattle.std.specs.Prelude.{◌≡◌, ◌⊎◌, ◌↔◌, ◌++◌, ◌∷◌, [], List, ℕ, length, sum_by, if◌then◌else◌, is_ok, take, IfOk, IfSome, OnOk, IsErrOf, IsOkUnless, IsTrue, MatchOption, MatchResult};
+ghost use Rattle.std.specs.Prelude.{◌≡◌, ◌⊎◌, ◌↔◌, ◌++◌, ◌∷◌, [], List, ℕ, length, sum_by, if◌then◌else◌, is_ok, take, IfOk};
+ghost use Rattle.std.specs.Prelude.{IfSome, OnOk, IsErrOf, IsOkUnless, IsTrue, MatchOption, MatchResult};
 ghost use Rattle.std.specs.String.{string_bytes};
 ghost use Rattle.ts_name.specs.Paths.{IsPath, IsAbove, IsPathText, HasNoNames, HasBadName, IsPastLimit, path_text, place_text, below};
 ghost use Rattle.ts_name.specs.Buffers.{HoldsParent};
@@ -186,8 +187,8 @@ impl Path {
     }
 
     /// The same path once more.
-    pub fn copy(&self, alloc: Global) -> Result<Path, PathFault>
-        ensures value { MatchResult result (λ p. p ≡ self.now) (λ e. e ≡ PathFault.OutOfMemory) }
+    pub fn copy(&self, alloc: Global) -> Result<Path, AllocError>
+        ensures value { IfOk result (λ p. p ≡ self.now) }
         ensures lawful { IfOk result IsPath }
     {
         Ok(Path {
@@ -196,8 +197,8 @@ impl Path {
     }
 
     /// The path without its last name. The root has no parent.
-    pub fn parent(&self, alloc: Global) -> Result<Option<Path>, PathFault>
-        ensures value { MatchResult result (λ p. MatchOption p (self.now ≡ []) (λ q. (name : List ℕ) × (self.now ≡ q ++ name ∷ []))) (λ e. e ≡ PathFault.OutOfMemory) }
+    pub fn parent(&self, alloc: Global) -> Result<Option<Path>, AllocError>
+        ensures value { IfOk result (λ p. MatchOption p (self.now ≡ []) (λ q. (name : List ℕ) × (self.now ≡ q ++ name ∷ []))) }
         ensures lawful { IfOk result (λ p. IfSome p IsPath) }
     {
         let Some(parent) = self.parent_bytes() else {
@@ -248,8 +249,8 @@ impl Path {
     }
 
     /// What is left of this path below `top`, or `None` where it isn't at or below it.
-    pub fn below(&self, alloc: Global, top: &Path) -> Result<Option<Path>, PathFault>
-        ensures value { MatchResult result (λ o. o ≡ below top.now self.now) (λ e. e ≡ PathFault.OutOfMemory) }
+    pub fn below(&self, alloc: Global, top: &Path) -> Result<Option<Path>, AllocError>
+        ensures value { IfOk result (λ o. o ≡ below top.now self.now) }
         ensures lawful { IfOk result (λ o. IfSome o IsPath) }
     {
         let Some(rest) = self.bytes.strip_prefix(top.bytes.as_slice()) else {

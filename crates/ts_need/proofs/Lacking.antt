@@ -22,11 +22,12 @@ use Rattle.ts_model.specs.declared.plan.Entry.{Entry}
 use Rattle.ts_model.specs.declared.row.Content.TheVariants.{Absent, Dir}
 use Rattle.ts_model.specs.declared.row.Row.{Row}
 use Rattle.ts_model.specs.declared.row.Stamp.{Stamp}
-use Rattle.ts_need.proofs.Listed.{listed_row, at_listed}
-use Rattle.ts_laws.proofs.Lists.{element_at}
+use Rattle.ts_need.proofs.Listed.{listed_row}
 use Rattle.ts_laws.proofs.Plans.{entries_in_order}
 use Rattle.ts_need.proofs.Touches.{listed_lawful}
 use Rattle.ts_need.specs.Needs.{IsFirst, LacksAt, LacksAmong, lesser_of}
+use Rattle.ts_model.proofs.Rows.{at_listed}
+use Rattle.ts_name.proofs.Basics.{element_at}
 
 -- ---- entries in order
 

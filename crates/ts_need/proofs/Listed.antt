@@ -11,6 +11,8 @@ use Rattle.ts_model.specs.declared.row.Stamp.{Stamp}
 use Rattle.ts_name.specs.Laws.{same_path_equal}
 use Rattle.ts_table.proofs.Listings.{listed_at, listed_below, is_above_gives}
 use Rattle.ts_table.specs.Tables.{rows_below, is_above}
+use Rattle.ts_name.proofs.Basics.{all_at}
+use Rattle.ts_model.proofs.Rows.{at_listed}
 
 -- what a loop reads of a list
 pub item_at : {A : Type 0} (xs : List A) (i : ℕ) (x : A) → i < length xs → x ≡ get_or xs i x → slice_get xs i ≡ Some x
@@ -26,16 +28,6 @@ same_lists (x ∷ xs) (y ∷ ys) size each = ap₂ ◌∷◌ (same_Some x y (eac
 -- some element
 pub Any-from : {A : Type 0} (P : A → Type 0) (xs : List A) (k : ℕ) (x : A) → slice_get xs k ≡ Some x → P x → Any P xs
 Any-from P xs k x is h = (k, x, slice_get_within xs k x is, get_or_from_slice_get xs k x x is, h)
-
--- each row has its fact
-pub all_at : {A : Type 0} (P : A → Type 0) (xs : List A) → AllByRecursion P xs → (k : ℕ) (x : A) → slice_get xs k ≡ Some x → P x
-all_at P [] all k x e = absurd (none-some x e)
-all_at P (y ∷ ys) all zero x e = subst P (same_Some y x e) all.0
-all_at P (y ∷ ys) all (suc k) x e = all_at P ys all.1 k x e
-
-pub at_listed : (rows : Listing Stamp) (p : Path) → p ≢ [] → at rows p ≡ listed rows p
-at_listed rows [] some = absurd (some refl)
-at_listed rows (n ∷ p) some = refl
 
 -- something is at a row's path
 pub row_there : (rows : Listing Stamp) → IsListing rows → (k : ℕ) (row : Row Stamp) → slice_get rows k ≡ Some row → at rows row.path ≢ Absent

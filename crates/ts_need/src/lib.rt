@@ -2,11 +2,9 @@
 #![tactic(auto)]
 
 pub mod broken;
-mod fault;
 mod reasons;
 mod rules;
 pub mod state;
 
 pub use broken::Broken;
-pub use fault::NeedFault;
 pub use rules::first_wrong;

@@ -7,9 +7,8 @@ ghost use Rattle.ts_model.specs.Trees.{IsListing, at, sub};
 ghost use Rattle.ts_model.specs.declared.row.Content.TheVariants.{Dir};
 ghost use Rattle.ts_need.specs.Needs.{AreListings, HasNamedBelow, IsNamedAbove, IsReasonOf, difference_reason, snapshot_of};
 
-use crate::fault::NeedFault;
 use crate::state::State;
-use std::alloc::Global;
+use std::alloc::{AllocError, Global};
 use ts_hold::Holds;
 use ts_model::plan::Reason;
 use ts_model::row::{Content, Row, Stamp};
@@ -43,7 +42,7 @@ fn has_named(holds: &Holds, rows: &[Row<Stamp>]) -> bool
 }
 
 /// Whether a rule names a path strictly above this one.
-fn is_named_above(alloc: Global, holds: &Holds, path: &Path) -> Result<bool, NeedFault>
+fn is_named_above(alloc: Global, holds: &Holds, path: &Path) -> Result<bool, AllocError>
     ensures { IfOk result (λ named. IsTrue named ↔ IsNamedAbove holds.now path.now) }
 {
     let mut above = path.parent(alloc)?;
@@ -66,7 +65,7 @@ fn has_named_below(state: &State, path: &Path) -> bool
 }
 
 /// Whether a held path is above a path whose parent is a directory in both replicas, below it, or the path itself.
-fn touches_held(alloc: Global, state: &State, path: &Path) -> Result<bool, NeedFault>
+fn touches_held(alloc: Global, state: &State, path: &Path) -> Result<bool, AllocError>
     requires listing { AreListings state.now }
     requires below { IsBelowDirs (at state.now.first.now) (at state.now.second.now) path.now }
     ensures { IfOk result (λ held. IsTrue held ↔ TouchesHeld (snapshot_of state.now) path.now) }
@@ -85,7 +84,7 @@ fn are_dirs(state: &State, path: &Path) -> bool
 }
 
 /// Whether the parent is a directory in both replicas.
-fn is_below_dirs(alloc: Global, state: &State, path: &Path) -> Result<bool, NeedFault>
+fn is_below_dirs(alloc: Global, state: &State, path: &Path) -> Result<bool, AllocError>
     ensures { IfOk result (λ below. IsTrue below ↔ IsBelowDirs (at state.now.first.now) (at state.now.second.now) path.now) }
 {
     match path.parent(alloc)? {
@@ -110,7 +109,7 @@ fn reason_of_difference(first_changed: bool, second_changed: bool, held: bool) -
 }
 
 /// The reason of a path that isn't a directory in both replicas, though its parent is.
-fn reason_of_edge(alloc: Global, state: &State, path: &Path) -> Result<Option<Reason>, NeedFault>
+fn reason_of_edge(alloc: Global, state: &State, path: &Path) -> Result<Option<Reason>, AllocError>
     requires listing { AreListings state.now }
     requires below { IsBelowDirs (at state.now.first.now) (at state.now.second.now) path.now }
     requires edge { ¬ AreBothDirs (at state.now.first.now) (at state.now.second.now) path.now }
@@ -130,7 +129,7 @@ fn reason_of_edge(alloc: Global, state: &State, path: &Path) -> Result<Option<Re
 }
 
 /// The reason of a path, if it has one.
-pub fn reason_of(alloc: Global, state: &State, path: &Path) -> Result<Option<Reason>, NeedFault>
+pub fn reason_of(alloc: Global, state: &State, path: &Path) -> Result<Option<Reason>, AllocError>
     requires { AreListings state.now }
     ensures { IfOk result (λ found. IsReasonOf (snapshot_of state.now) path.now found) }
 {

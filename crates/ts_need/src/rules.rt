@@ -9,10 +9,9 @@ ghost use Rattle.ts_model.specs.declared.plan.Entry.{Entry};
 ghost use Rattle.ts_name.specs.Paths.{path_cmp};
 
 use crate::broken::Broken;
-use crate::fault::NeedFault;
 use crate::reasons::reason_of;
 use crate::state::State;
-use std::alloc::Global;
+use std::alloc::{AllocError, Global};
 use ts_hold::Holds;
 use ts_model::plan::{Entry, PlanRule, Reason};
 use ts_model::row::{Row, Stamp};
@@ -34,7 +33,7 @@ fn first_wrong_reason(
     alloc: Global,
     state: &State,
     entries: &[Entry],
-) -> Result<Option<usize>, NeedFault>
+) -> Result<Option<usize>, AllocError>
     requires { AreListings state.now }
     ensures { IfOk result (λ found. IsFirst (HasWrongReason (snapshot_of state.now) entries.now) found) }
 {
@@ -63,7 +62,7 @@ fn lacking_place(
     state: &State,
     entries: &[Entry],
     path: &Path,
-) -> Result<Option<usize>, NeedFault>
+) -> Result<Option<usize>, AllocError>
     requires listing { AreListings state.now }
     requires order { Never (IsOutOfOrder entries.now) }
     ensures { IfOk result (λ found. MatchOption found ((place : ℕ) → ¬ LacksAt (snapshot_of state.now) entries.now path.now place) (LacksAt (snapshot_of state.now) entries.now path.now)) }
@@ -94,7 +93,7 @@ fn least_lacking(
     state: &State,
     entries: &[Entry],
     rows: &[Row<Stamp>],
-) -> Result<Option<usize>, NeedFault>
+) -> Result<Option<usize>, AllocError>
     requires listing { AreListings state.now }
     requires order { Never (IsOutOfOrder entries.now) }
     ensures { IfOk result (λ found. IsFirst (LacksAmong (snapshot_of state.now) entries.now rows.now (length rows.now)) found) }
@@ -112,7 +111,7 @@ fn first_lacking(
     alloc: Global,
     state: &State,
     entries: &[Entry],
-) -> Result<Option<usize>, NeedFault>
+) -> Result<Option<usize>, AllocError>
     requires listing { AreListings state.now }
     requires order { Never (IsOutOfOrder entries.now) }
     ensures { IfOk result (λ found. IsFirst (Lacks (snapshot_of state.now) entries.now) found) }
@@ -124,6 +123,10 @@ fn first_lacking(
 }
 
 /// The lesser of the two rules about reasons that is broken, with its least place; none where both hold.
+///
+/// # Errors
+///
+/// `AllocError` where memory ran out.
 pub fn first_wrong<'a>(
     alloc: Global,
     entries: &[Entry],
@@ -131,7 +134,7 @@ pub fn first_wrong<'a>(
     first: &'a Print,
     second: &'a Print,
     holds: &'a Holds,
-) -> Result<Option<Broken>, NeedFault>
+) -> Result<Option<Broken>, AllocError>
     requires { Never (IsOutOfOrder entries.now) }
     ensures { IfOk result (λ found. IsNeedAnswer (listed_snapshot archive.now first.now second.now holds.now) entries.now found) }
 {

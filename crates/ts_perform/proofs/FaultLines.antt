@@ -1,4 +1,4 @@
--- The lines that tell faults.
+-- The lines that report faults.
 use Rattle.std.proofs.Common.{◌≡◌, ℕ, List, [], ◌∷◌, ◌++◌, Some, codes, decimal, refl, sym, ap, subst, ◌∙◌, append_assoc}
 use Rattle.ts_name.specs.Paths.{Path, path_text}
 use Rattle.ts_perform.specs.Faults.{fault_line}

@@ -1,4 +1,4 @@
--- The faults of commands: their numbers, the lines that tell them, and what becomes of the faults of the crates below.
+-- The faults of commands: their numbers, the lines that report them, and what becomes of the faults of the crates below.
 use Rattle.std.specs.Prelude.{ℕ, List, [], ◌∷◌, ◌++◌, Option, Some, None, codes, decimal}
 use Rattle.ts_name.specs.Paths.{Path, path_text}
 use Rattle.ts_archive.specs.declared.fault.ArchiveFault.{ArchiveFault}
@@ -15,8 +15,8 @@ use Rattle.ts_print.specs.declared.fault.PrintFault.{PrintFault}
 use Rattle.ts_print.specs.declared.fault.PrintFault.TheVariants as print
 use Rattle.ts_report.specs.declared.fault.ReportFault.{ReportFault}
 use Rattle.ts_report.specs.declared.fault.ReportFault.TheVariants as report
-use Rattle.ts_resume.specs.declared.fault.ResumeFault.{ResumeFault}
-use Rattle.ts_resume.specs.declared.fault.ResumeFault.TheVariants as resume
+use Rattle.ts_plan_build.specs.declared.fault.BuildFault.{BuildFault}
+use Rattle.ts_plan_build.specs.declared.fault.BuildFault.TheVariants as build
 use Rattle.ts_scan.specs.Faults.{fault_number as scan_number, place_of as scan_place}
 use Rattle.ts_text.specs.declared.fault.TextFault.{TextFault}
 use Rattle.ts_text.specs.declared.fault.TextFault.TheVariants as text
@@ -94,9 +94,9 @@ fault_of_plan plan.Failed = fault.Failed
 fault_of_plan plan.NotCanonical = fault.NotCanonical
 fault_of_plan plan.PastLimit = fault.PastLimit
 
-abbrev pub fault_of_resume : ResumeFault → PerformFault
-fault_of_resume resume.OutOfMemory = fault.OutOfMemory
-fault_of_resume resume.PastLimit = fault.PastLimit
+abbrev pub fault_of_build : BuildFault → PerformFault
+fault_of_build build.OutOfMemory = fault.OutOfMemory
+fault_of_build build.PastLimit = fault.PastLimit
 
 abbrev pub fault_of_check : CheckFault → PerformFault
 fault_of_check check.OutOfMemory = fault.OutOfMemory

@@ -8,7 +8,7 @@ use Rattle.ts_name.specs.Paths.{Path}
 use Rattle.ts_board.specs.Terms.{placed, terms_with}
 use Rattle.ts_board.specs.declared.law.Slot.{Slot}
 use Rattle.ts_check.specs.Checkup.{Checkup}
-use Rattle.ts_exec.specs.Failures.{of_side, setting_of}
+use Rattle.ts_exec.specs.Failures.{of_side, setting_with}
 use Rattle.ts_exec.specs.Outcomes.{IsOutcome}
 use Rattle.ts_exec.specs.declared.outcome.ActionResult.{ActionResult}
 use Rattle.ts_folder.specs.declared.fault.Trouble.{Trouble}
@@ -58,9 +58,13 @@ stands_of first second entries (action ∷ actions) = elim action.kind [
 ]
 
 -- the sites with which the run began, each at its stand, and the folders that it read
-pub record IsRunOf {S F : Type 0} (stand : S → Stand) (content : S → Option (Listing (List ℕ))) (failures : S → ℕ) (tells : F → Option (Listing (List ℕ))) (lets : F → Call → Path → Trouble → Type 0) (first second : List ℕ) (checkup : Checkup) (results : List ActionResult) (words : List ℕ) (slots : List (Slot S)) : Type 0 where
+pub record IsRunOf {S F : Type 0} (stand : S → Stand) (content : S → Option (Listing (List ℕ))) (failures : S → ℕ)
+    (tells : F → Option (Listing (List ℕ))) (lets : F → Call → Path → Trouble → Type 0) (first second : List ℕ) (checkup : Checkup)
+    (results : List ActionResult) (words : List ℕ) (slots : List (Slot S)) : Type 0 where
   pub sites : List S
   pub stands : map (λ s. Some (stand s)) sites ≡ stands_of first second checkup.plan.entries checkup.plan.actions
   pub from_first : F
   pub from_second : F
-  pub outcome : let t = terms_with content checkup.plan checkup.first checkup.second (placed checkup.plan.actions sites) in IsOutcome content (setting_of failures tells lets checkup from_first from_second t.told) t results words slots
+  pub outcome :
+      let t = terms_with content checkup.plan checkup.first checkup.second (placed checkup.plan.actions sites) in
+      IsOutcome content (setting_with failures tells lets checkup from_first from_second t.told) t results words slots

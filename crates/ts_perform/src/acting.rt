@@ -2,6 +2,7 @@
 ghost use Rattle.std.specs.Prelude.{◌≡◌, ◌≤◌, length, map, Some, IfOk};
 ghost use Rattle.std.specs.Mem.Slots.{slots_items, slots_len};
 ghost use Rattle.ts_board.specs.Archives.{HasEnded};
+ghost use Rattle.ts_board.specs.Calls.{slots_of, words_of};
 ghost use Rattle.ts_board.specs.Terms.{commit_count};
 ghost use Rattle.ts_exec.specs.Failures.{of_side};
 ghost use Rattle.ts_perform.specs.Stands.{IsRunOf, source_root, stands_of, target_root};
@@ -26,8 +27,9 @@ pub(crate) fn act<R: Machine>(
 ) -> Result<Outcome<R::Site>, PerformFault>
     ensures count { IfOk result (λ o. length o.results.items ≡ length checked.now.plan.actions) }
     ensures words { IfOk result (λ o. length checked.now.plan.actions ≤ slots_len o.closed.row.words) }
-    ensures ended { IfOk result (λ o. HasEnded checked.now (slots_items o.closed.row.words)) }
-    ensures stands { IfOk result (λ o. IsRunOf R.stand R.Site.content R.Site.failures R.Folder.tells R.Folder.lets task.now.pair.now.first.now task.now.pair.now.second.now checked.now o.results.items (slots_items o.closed.row.words) (slots_items o.closed.row.slots)) }
+    ensures ended { IfOk result (λ o. HasEnded checked.now (words_of o.closed)) }
+    ensures stands { IfOk result (λ o. IsRunOf R.stand R.Site.content R.Site.failures R.Folder.tells R.Folder.lets
+        task.now.pair.now.first.now task.now.pair.now.second.now checked.now o.results.items (words_of o.closed) (slots_of o.closed)) }
 {
     let Task { rt, pair, workers } = task;
     let alloc = rt.alloc();

@@ -1,4 +1,4 @@
-//! The lines that tell faults and verdicts.
+//! The lines that report faults and verdicts.
 ghost use Rattle.std.specs.Prelude.{◌≡◌, ◌∷◌, ◌++◌, [], codes, decimal, OnOk};
 ghost use Rattle.std.specs.Option.{option_copied};
 ghost use Rattle.ts_model.specs.Texts.{text};

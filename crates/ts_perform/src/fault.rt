@@ -1,7 +1,8 @@
 //! Why a command ends without its answer.
 ghost use Rattle.std.specs.Option.{option_copied};
 ghost use Rattle.std.specs.Prelude.{◌≡◌};
-ghost use Rattle.ts_perform.specs.Faults.{fault_number, fault_of_archive, fault_of_check, fault_of_disk, fault_of_hold, fault_of_plan, fault_of_print, fault_of_report, fault_of_resume, fault_of_text, fault_of_trial, place_of};
+ghost use Rattle.ts_perform.specs.Faults.{fault_number, fault_of_archive, fault_of_check, fault_of_disk, fault_of_hold, fault_of_plan, fault_of_print};
+ghost use Rattle.ts_perform.specs.Faults.{fault_of_report, fault_of_build, fault_of_text, fault_of_trial, place_of};
 ghost use Rattle.ts_perform.specs.declared.fault.PerformFault.TheVariants as fault;
 
 use std::alloc::{AllocError, AllocFailed};
@@ -14,9 +15,9 @@ use ts_hold::HoldFault;
 use ts_model::plan::PlanRule;
 use ts_name::Path;
 use ts_plan::PlanFault;
+use ts_plan_build::BuildFault;
 use ts_print::PrintFault;
 use ts_report::ReportFault;
-use ts_resume::ResumeFault;
 use ts_scan::ScanFault;
 use ts_text::TextFault;
 use ts_trial::TrialFault;
@@ -154,13 +155,13 @@ impl From<PlanFault> for PerformFault {
     }
 }
 
-impl From<ResumeFault> for PerformFault {
-    ghost from_gives = { λ r e. e ≡ fault_of_resume r };
+impl From<BuildFault> for PerformFault {
+    ghost from_gives = { λ r e. e ≡ fault_of_build r };
 
-    fn from(fault: ResumeFault) -> PerformFault {
+    fn from(fault: BuildFault) -> PerformFault {
         match fault {
-            ResumeFault::OutOfMemory => PerformFault::OutOfMemory,
-            ResumeFault::PastLimit => PerformFault::PastLimit,
+            BuildFault::OutOfMemory => PerformFault::OutOfMemory,
+            BuildFault::PastLimit => PerformFault::PastLimit,
         }
     }
 }
@@ -195,7 +196,7 @@ impl From<TrialFault> for PerformFault {
     }
 }
 
-/// A writer's fault, and want of memory.
+/// A writer's fault, or memory ran out.
 impl From<PrintFault> for PerformFault {
     ghost from_gives = { λ p e. e ≡ fault_of_print p };
 

@@ -16,12 +16,12 @@ use ts_command::Pair;
 use ts_hold::{Holds, RuleReader};
 use ts_model::plan::Plan;
 use ts_name::Path;
+use ts_plan_build::resume;
 use ts_print::Print;
-use ts_resume::resume;
 use ts_scan::{Refusal, ScanFault, scan};
 use ts_text::{Counted, Lines, TextFault};
 
-/// Opens a file to be read. None where nothing is there. What is no file, as a directory, a device or a pipe, is never opened:
+/// Opens a file to be read. None where nothing is there. A directory, a device or a pipe is never opened:
 /// it might be waited for.
 fn open<R: Files>(rt: &R, name: &str) -> Result<Option<R::File>, PerformFault> {
     if let Ok(metadata) = fs::metadata(rt, name)

@@ -8,12 +8,12 @@ pub mod fault;
 mod inputs;
 mod lengths;
 pub mod performing;
+mod reporting;
 mod room;
 mod running;
 mod task;
-mod telling;
 
 pub use disk::{Disk, Machine};
 pub use fault::PerformFault;
 pub use performing::{REFUSED, perform};
-pub use telling::FAILED;
+pub use reporting::FAILED;

@@ -107,7 +107,7 @@ fn answer_bundle<R: AllocGlobal + Threads + Sync, I: Source + Drop, O: Sink>(
     let alloc = rt.alloc();
     match Lines::new(alloc, input) {
         Ok(mut lines) => Ok(trial(rt, alloc, &mut lines, out, workers)?),
-        // nothing was read yet, so it is want of memory
+        // nothing was read yet, so memory ran out
         Err(_) => Err(PerformFault::OutOfMemory),
     }
 }

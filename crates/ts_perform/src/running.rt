@@ -7,8 +7,8 @@ use crate::acting::{act, keep_archive, replica};
 use crate::disk::{Disk, Machine};
 use crate::fault::PerformFault;
 use crate::inputs::Snapshot;
+use crate::reporting::{FAILED, report_all, report_notices};
 use crate::task::Task;
-use crate::telling::{FAILED, tell_all, tell_notices};
 use std::alloc::Global;
 use ts_disk::{
     Notice, check_leftovers, clear_leftovers, mount_above, recover_replica, remove_plan, save_plan,
@@ -40,7 +40,7 @@ impl<R: Machine> Task<'_, R> {
         let mut notices = Vec::new(self.rt.alloc());
         let status = self.run_claimed(&mut claims, plan, &mut notices, out, err);
         self.give_up(claims, status.is_err());
-        self.tell_refused(status, notices.as_slice(), err)
+        self.report_refused(status, notices.as_slice(), err)
     }
 
     /// Makes a plan, and carries it out, while both replicas and the archive are locked.
@@ -55,11 +55,11 @@ impl<R: Machine> Task<'_, R> {
         let mut notices = Vec::new(self.rt.alloc());
         let status = self.sync_claimed(&mut claims, &mut notices, out, err);
         self.give_up(claims, status.is_err());
-        self.tell_refused(status, notices.as_slice(), err)
+        self.report_refused(status, notices.as_slice(), err)
     }
 
     /// Reports what recovery has to say, where nothing else was reported since nothing was run.
-    fn tell_refused<E: Sink>(
+    fn report_refused<E: Sink>(
         &self,
         status: Result<u8, PerformFault>,
         notices: &[Notice],
@@ -70,7 +70,7 @@ impl<R: Machine> Task<'_, R> {
         ensures told { IfErr status (λ _. BeginsNotices (E.holds err.old) (E.holds err.new)) }
     {
         if status.is_err() {
-            let _ = tell_notices(self.rt.alloc(), notices, err);
+            let _ = report_notices(self.rt.alloc(), notices, err);
         }
         status
     }
@@ -237,7 +237,7 @@ impl<R: Machine> Task<'_, R> {
                 // what can't be found out of mounts is no reason to end
                 let _ = self.add_mounts(alloc, plan, outcome.results(), notices);
                 let notices = notices.as_slice();
-                let told = tell_all(alloc, &checked, &outcome, kept, notices, out, err);
+                let told = report_all(alloc, &checked, &outcome, kept, notices, out, err);
                 Ok(told.unwrap_or(FAILED))
             }
             Err(fault) => {

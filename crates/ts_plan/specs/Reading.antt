@@ -46,7 +46,8 @@ ReadsNext old line (Ok x) new = fed new ≡ fed old ++ line ∷ []
 ReadsNext old line (Err OutOfMemory) new = new ≡ old
 ReadsNext old line (Err Failed) new = ⊥
 ReadsNext old line (Err NotCanonical) new = (new ≡ old) × ((plan : Plan) → IsLarge plan → ¬ Begins plan (fed old ++ line ∷ []))
-ReadsNext old line (Err PastLimit) new = (new ≡ old) × ((plan : Plan) → IsPlan plan → ¬ Begins plan (fed old ++ line ∷ [])) × ((plan : Plan) × IsLarge plan × Begins plan (fed old ++ line ∷ []))
+ReadsNext old line (Err PastLimit) new =
+    (new ≡ old) × ((plan : Plan) → IsPlan plan → ¬ Begins plan (fed old ++ line ∷ [])) × ((plan : Plan) × IsLarge plan × Begins plan (fed old ++ line ∷ []))
 
 -- the plan whose lines are those that were read, or that there is none
 abbrev pub Finishes : Progress → Result Plan PlanFault → Type 0

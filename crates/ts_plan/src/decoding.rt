@@ -9,7 +9,7 @@ use ts_text::{Lines, Source};
 
 /// The plan whose text is all that the lines' source has left.
 ///
-/// What stands first in the text is told: a line that no plan has there, or one past a limit.
+/// The fault is what stands first in the text: a line that no plan has there, or one past a limit.
 pub fn decode<S: Source>(alloc: Global, lines: &mut Lines<S>) -> Result<Plan, PlanFault>
     ensures { Decodes lines.old result lines.new }
 {

@@ -13,14 +13,7 @@ use crate::progress::Part;
 use std::alloc::Global;
 use std::marker::Model;
 use ts_model::items::Items;
-use ts_model::plan::{Action, Entry, Kind, Plan};
-
-/// How many entries a plan may have.
-const MOST_ENTRIES: usize = 1_048_576;
-/// How many actions a plan may have.
-const MOST_ACTIONS: usize = 1_048_576;
-/// How many predecessors the actions of a plan may have, all together.
-const MOST_PREDS: usize = 4_194_304;
+use ts_model::plan::{ACTION_LIMIT, Action, ENTRY_LIMIT, Entry, Kind, PRED_LIMIT, Plan};
 
 /// An action whose predecessors are being read.
 #[derive(Drop)]
@@ -135,7 +128,7 @@ impl PlanReader {
         if self.last.is_some() {
             return Err(PlanFault::NotCanonical);
         }
-        if self.entries.len() >= MOST_ENTRIES {
+        if self.entries.len() >= ENTRY_LIMIT {
             return Err(PlanFault::PastLimit);
         }
         self.entries.push(entry)?;
@@ -147,7 +140,7 @@ impl PlanReader {
         requires fits { KindFits kind }
         ensures { Takes self.old (line.Action kind) result self.new }
     {
-        if self.action_count() >= MOST_ACTIONS {
+        if self.action_count() >= ACTION_LIMIT {
             return Err(PlanFault::PastLimit);
         }
         let opened = OpenAction {
@@ -170,7 +163,7 @@ impl PlanReader {
         if self.last.is_none() {
             return Err(PlanFault::NotCanonical);
         }
-        if self.pred_count >= MOST_PREDS {
+        if self.pred_count >= PRED_LIMIT {
             return Err(PlanFault::PastLimit);
         }
         match self.last.take() {

@@ -8,9 +8,10 @@ use Rattle.ts_model.specs.declared.plan.Entry.{Entry}
 use Rattle.ts_model.specs.declared.plan.Action.{Action}
 use Rattle.ts_plan_build.specs.Blocks.{block}
 use Rattle.ts_plan_build.specs.Built.{entry_of, NoneOf, IsAboveMark, IsLocated, IsBuilt}
-use Rattle.ts_plan_build.proofs.Places.{same_at, get_cases}
+use Rattle.ts_plan_build.proofs.Places.{get_cases}
 use Rattle.std.proofs.lemmas.List.Sums.{sum_by-append}
 use Rattle.ts_plan_build.proofs.Inside.{block_entry, block_preds}
+use Rattle.ts_name.proofs.Basics.{same_at}
 
 -- one more block
 pub built_more : (F S : Listing Stamp) (entries : List Entry) (old new : List Action) (k : ℕ) (entry : Entry) (above : Option ℕ) → IsBuilt F S entries old k → slice_get entries k ≡ Some entry

@@ -16,17 +16,10 @@ use Rattle.ts_dirty.proofs.Order.{above_upto, above_between}
 use Rattle.ts_plan_build.specs.declared.builder.NewDir.{NewDir}
 use Rattle.ts_plan_build.specs.Blocks.{block, mark_of}
 use Rattle.ts_plan_build.specs.Built.{IsAboveMark, IsBuilt, AreOff, AreLeft, IsKept, AreOrdered}
-use Rattle.ts_plan_build.proofs.Places.{same_at, get_left, get_right, get_cases, get_one, element_at}
+use Rattle.ts_plan_build.proofs.Places.{get_left, get_right, get_cases, get_one}
 use Rattle.ts_plan_build.proofs.Building.{built_more}
-
--- whether a reason is that of a new directory
-decide_dir : (r : Reason) → Dec (r ≡ reason.Dir)
-decide_dir reason.Dir = yes refl
-decide_dir reason.Same = no (λ e. cc)
-decide_dir reason.First = no (λ e. cc)
-decide_dir reason.Second = no (λ e. cc)
-decide_dir reason.Conflict = no (λ e. cc)
-decide_dir reason.Held = no (λ e. cc)
+use Rattle.ts_name.proofs.Basics.{same_at, element_at}
+use Rattle.ts_laws.proofs.Reasons.{decide_reason}
 
 -- ---- leaving
 
@@ -162,7 +155,7 @@ module _ (entries : List Entry) (ordered : AreOrdered entries) where
 
     -- after the k-th entry
     pub dirs_more : (more : List Action) (next : List NewDir) (m : ℕ) (added : List Action) → more ≡ acts ++ added → IsKept entry m now next → (entry.reason ≡ reason.Dir → (a : Action) × (slice_get more m ≡ Some a) × (a.kind ≡ Mark k)) → AreDirs entries more (k + 1) next
-    dirs_more more next m added e kept marked = go (decide_dir entry.reason)
+    dirs_more more next m added e kept marked = go (decide_reason entry.reason reason.Dir)
       where
         grown : (i : ℕ) (a : Action) → slice_get acts i ≡ Some a → slice_get more i ≡ Some a
         grown i a h = subst (λ (z : List Action). slice_get z i ≡ Some a) (sym e) (get_left acts added i a h)

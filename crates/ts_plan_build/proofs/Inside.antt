@@ -11,11 +11,14 @@ use Rattle.ts_model.specs.declared.row.Row.{Row}
 use Rattle.ts_model.specs.declared.row.Stamp.{Stamp}
 use Rattle.ts_model.specs.declared.plan.Action.{Action}
 use Rattle.ts_model.specs.declared.plan.Reason.{Reason}
-use Rattle.ts_model.specs.declared.plan.Reason.TheVariants as reason
+use Rattle.ts_model.specs.declared.plan.Side.TheVariants as side
 use Rattle.ts_table.specs.Tables.{rows_below}
-use Rattle.ts_plan_build.specs.Blocks.{each_below, piece_count, piece_of, row_pieces, pieces_of, commit_of, mark_of, some_of, copy_block, block}
+use Rattle.ts_plan_build.specs.Blocks.{each_below, piece_count, piece_of, row_pieces, pieces_of, commit_of, mark_of, some_of, copy_block, block, block_by}
 use Rattle.ts_plan_build.specs.Built.{entry_of}
 use Rattle.ts_plan_build.proofs.Places.{get_right, get_cases, get_one, length-each_below, at_each_below}
+use Rattle.ts_model.specs.Sync.{treatment}
+use Rattle.ts_model.specs.declared.plan.Treatment.{Treatment}
+use Rattle.ts_model.specs.declared.plan.Treatment.TheVariants.{Copied, Agreed, NewDirectory, Skipped}
 
 -- an action of a file's pieces
 pub record IsPieceAt (e : ℕ) (rows : List (Row Stamp)) (a : Action) : Type 0 where
@@ -75,12 +78,14 @@ copy_entry e rows above base j a (commit f g) = ap (λ (x : Action). entry_of x.
 copy_entry e rows above base j a (mark f g) = ap (λ (x : Action). entry_of x.kind) g
 
 pub block_entry : (F S : Listing Stamp) (e : ℕ) (p : Path) (r : Reason) (above : Option ℕ) (base j : ℕ) (a : Action) → slice_get (block F S e p r above base) j ≡ Some a → entry_of a.kind ≡ e
-block_entry F S e p reason.Same above base j a h = ap (λ (x : Action). entry_of x.kind) ((get_one (mark_of e above None) j a h).1)
-block_entry F S e p reason.Dir above base j a h = ap (λ (x : Action). entry_of x.kind) ((get_one (mark_of e above None) j a h).1)
-block_entry F S e p reason.First above base j a h = copy_entry e (rows_below p F) above base j a (copy_at e (rows_below p F) above base j a h)
-block_entry F S e p reason.Second above base j a h = copy_entry e (rows_below p S) above base j a (copy_at e (rows_below p S) above base j a h)
-block_entry F S e p reason.Conflict above base j a h = absurd (none-some a h)
-block_entry F S e p reason.Held above base j a h = absurd (none-some a h)
+block_entry F S e p r above base j a h = go (treatment r) h
+  where
+    go : (how : Treatment) → slice_get (block_by F S e p how above base) j ≡ Some a → entry_of a.kind ≡ e
+    go (Copied side.First) h = copy_entry e (rows_below p F) above base j a (copy_at e (rows_below p F) above base j a h)
+    go (Copied side.Second) h = copy_entry e (rows_below p S) above base j a (copy_at e (rows_below p S) above base j a h)
+    go Agreed h = ap (λ (x : Action). entry_of x.kind) ((get_one (mark_of e above None) j a h).1)
+    go NewDirectory h = ap (λ (x : Action). entry_of x.kind) ((get_one (mark_of e above None) j a h).1)
+    go Skipped h = absurd (none-some a h)
 
 -- ---- how many predecessors
 
@@ -133,9 +138,11 @@ alone_preds e above = let d : length (some_of above ++ some_of None) ≤ 2 = few
 
 -- a block has at most two predecessors for each of its actions
 pub block_preds : (F S : Listing Stamp) (e : ℕ) (p : Path) (r : Reason) (above : Option ℕ) (base : ℕ) → waited (block F S e p r above base) ≤ 2 * length (block F S e p r above base)
-block_preds F S e p reason.Same above base = alone_preds e above
-block_preds F S e p reason.Dir above base = alone_preds e above
-block_preds F S e p reason.First above base = copy_preds e (rows_below p F) above base
-block_preds F S e p reason.Second above base = copy_preds e (rows_below p S) above base
-block_preds F S e p reason.Conflict above base = omega arith
-block_preds F S e p reason.Held above base = omega arith
+block_preds F S e p r above base = go (treatment r)
+  where
+    go : (how : Treatment) → waited (block_by F S e p how above base) ≤ 2 * length (block_by F S e p how above base)
+    go (Copied side.First) = copy_preds e (rows_below p F) above base
+    go (Copied side.Second) = copy_preds e (rows_below p S) above base
+    go Agreed = alone_preds e above
+    go NewDirectory = alone_preds e above
+    go Skipped = omega arith

@@ -11,11 +11,14 @@ use Rattle.ts_model.specs.declared.row.Stamp.{Stamp}
 use Rattle.ts_model.specs.declared.plan.Action.{Action}
 use Rattle.ts_model.specs.declared.plan.Entry.{Entry}
 use Rattle.ts_model.specs.declared.plan.Reason.{Reason}
-use Rattle.ts_model.specs.declared.plan.Reason.TheVariants as reason
+use Rattle.ts_model.specs.declared.plan.Side.TheVariants as side
 use Rattle.ts_table.specs.Tables.{rows_below}
-use Rattle.ts_plan_build.specs.Blocks.{each_below, piece_count, piece_of, row_pieces, pieces_of, commit_of, mark_of, copy_block, block}
-use Rattle.ts_plan_build.specs.Planned.{row_count, action_count, entry_actions, planned_actions}
+use Rattle.ts_plan_build.specs.Blocks.{each_below, piece_count, piece_of, row_pieces, pieces_of, commit_of, mark_of, copy_block, block, block_by}
+use Rattle.ts_plan_build.specs.Planned.{row_count, action_count, entry_actions, planned_actions, count_by_treatment}
 use Rattle.ts_plan_build.proofs.Places.{length-each_below}
+use Rattle.ts_model.specs.Sync.{treatment}
+use Rattle.ts_model.specs.declared.plan.Treatment.{Treatment}
+use Rattle.ts_model.specs.declared.plan.Treatment.TheVariants.{Copied, Agreed, NewDirectory, Skipped}
 
 length-row_pieces : (e : ℕ) (p : Path) (c : Content Stamp) → length (row_pieces e (record { path = p; content = c })) ≡ row_count (record { path = p; content = c })
 length-row_pieces e p Absent = refl
@@ -40,12 +43,14 @@ length-copy_block e rows above base =
 
 -- the actions of an entry
 pub length-block : (F S : Listing Stamp) (e : ℕ) (p : Path) (r : Reason) (above : Option ℕ) (base : ℕ) → length (block F S e p r above base) ≡ action_count F S p r
-length-block F S e p reason.Same above base = refl
-length-block F S e p reason.Dir above base = refl
-length-block F S e p reason.First above base = length-copy_block e (rows_below p F) above base
-length-block F S e p reason.Second above base = length-copy_block e (rows_below p S) above base
-length-block F S e p reason.Conflict above base = refl
-length-block F S e p reason.Held above base = refl
+length-block F S e p r above base = go (treatment r)
+  where
+    go : (how : Treatment) → length (block_by F S e p how above base) ≡ count_by_treatment F S p how
+    go (Copied side.First) = length-copy_block e (rows_below p F) above base
+    go (Copied side.Second) = length-copy_block e (rows_below p S) above base
+    go Agreed = refl
+    go NewDirectory = refl
+    go Skipped = refl
 
 -- ---- a limit that is met on the way is passed in the end
 

@@ -3,10 +3,7 @@ use Rattle.std.proofs.Common.{◌≡◌, ◌⊎◌, ℕ, zero, suc, ◌+◌, ◌
 use Rattle.std.proofs.lemmas.Bool.{cases_lt}
 use Rattle.std.proofs.lemmas.Option.{none-some, slice_get_within}
 use Rattle.ts_plan_build.specs.Blocks.{each_below}
-
--- one place holds one element
-pub same_at : {A : Type 0} (xs : List A) (k : ℕ) (x y : A) → slice_get xs k ≡ Some x → slice_get xs k ≡ Some y → x ≡ y
-same_at {A} xs k x y e f = let g : Some x ≡ Some y = sym e ∙ f in cc
+use Rattle.ts_name.proofs.Basics.{same_at}
 
 -- in the first part
 pub get_left : {A : Type 0} (xs ys : List A) (i : ℕ) (x : A) → slice_get xs i ≡ Some x → slice_get (xs ++ ys) i ≡ Some x
@@ -54,9 +51,3 @@ at_each_below f n i x e =
     let within : i < length (each_below f n) = slice_get_within (each_below f n) i x e in
     let less : i < n = omega (arith, length-each_below f n) in
     (less, same_at (each_below f n) i x (f i) e (each_below_at f n i less))
-
--- a place within the list holds one
-pub element_at : {A : Type 0} (xs : List A) (k : ℕ) → k < length xs → (x : A) × (slice_get xs k ≡ Some x)
-element_at [] k h = absurd (omega arith)
-element_at (x ∷ xs) zero h = (x, refl)
-element_at (x ∷ xs) (suc k) h = element_at xs k (omega arith)

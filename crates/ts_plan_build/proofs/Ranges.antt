@@ -16,12 +16,13 @@ use Rattle.ts_model.specs.declared.plan.Action.{Action}
 use Rattle.ts_model.specs.declared.plan.Kind.TheVariants.{Piece}
 use Rattle.ts_name.proofs.Order.{before_itself, before_trans}
 use Rattle.ts_name.specs.Laws.{same_path_equal}
-use Rattle.ts_dirty.proofs.Rows.{listed_here, listed_there}
 use Rattle.ts_table.specs.Tables.{is_above, rows_below}
 use Rattle.ts_plan_build.specs.Blocks.{each_below, piece_count, piece_of, row_pieces, pieces_of}
 use Rattle.ts_plan_build.proofs.Places.{get_left, get_right, get_cases, each_below_at, at_each_below}
 use Rattle.ts_plan_build.proofs.Counting.{count_some, piece_within}
 use Rattle.ts_plan_build.proofs.Inside.{IsPieceAt, pieces_at}
+use Rattle.ts_model.proofs.Rows.{listed_here, listed_there}
+use Rattle.ts_table.proofs.Listings.{is_above_gives, is_above_yes}
 
 -- ---- rows
 
@@ -103,16 +104,6 @@ at_row rows lists k row h = go row.path refl
     go [] e = absurd (not_root rows lists.rows_are k h e)
     go (n ∷ p) e = ap (at rows) e ∙ ap (listed rows) (sym e) ∙ listed_row rows k row (in_order_from rows lists.ascending) h
 
-above_test : (p q : Path) → is_above p q ≡ true → IsAbove p q
-above_test p q h = go (below p q) refl h
-  where
-    go : (o : Option Path) → below p q ≡ o → elim o [ None ↦ false | Some rest ↦ true ] ≡ true → IsAbove p q
-    go None e f = cc
-    go (Some rest) e f = (rest, below_gives p q rest e)
-
-test_above : (p q : Path) → IsAbove p q → is_above p q ≡ true
-test_above p q h = let e : below p q ≡ Some h.0 = ap (below p) h.1 ∙ below_append p h.0 in subst (λ (o : Option Path). elim o [ None ↦ false | Some rest ↦ true ] ≡ true) (sym e) refl
-
 -- ---- lawful pieces
 
 range_of : (size j : ℕ) → j < piece_count size → IsRange size (j * 1048576) (min 1048576 (size - j * 1048576))
@@ -134,7 +125,7 @@ lawful_from rows lists top x e offset len p a one k =
     let kept = in_filter (λ row. is_above top row.path) rows one.place one.row one.among in
     record {
       stamp = one.stamp;
-      above = subst (λ (z : Path). IsAbove top z) (sym same.2) (above_test top one.row.path kept.passes);
+      above = subst (λ (z : Path). IsAbove top z) (sym same.2) (is_above_gives top one.row.path kept.passes);
       file = ap (at rows) same.2 ∙ at_row rows lists kept.place one.row kept.there ∙ one.file;
       range = subst (λ (o : ℕ). IsRange one.stamp.size o len) (sym same.0) (subst (λ (n : ℕ). IsRange one.stamp.size (one.number * 1048576) n) (sym same.1) (range_of one.stamp.size one.number one.within));
     }
@@ -172,7 +163,7 @@ piece_there rows lists top e offset len p stamp above file range = go p refl
         no_file g = cc
     go (n ∷ q) f =
         let row = row_listed rows p stamp (subst (λ (z : Path). at rows z ≡ File stamp → listed rows z ≡ File stamp) (sym f) (λ h. h) file) in
-        let kept = filter_has (λ r. is_above top r.path) rows row.0 row.1 row.2 (test_above top row.1.path (subst (λ (z : Path). IsAbove top z) (sym row.3) above)) in
+        let kept = filter_has (λ r. is_above top r.path) rows row.0 row.1 row.2 (is_above_yes top row.1.path (subst (λ (z : Path). IsAbove top z) (sym row.3) above)) in
         let found = flat_has e (rows_below top rows) kept.0 (offset / 1048576) row.1 (piece_of e row.1.path stamp.size (offset / 1048576)) kept.1 (row_has e row.1 stamp (offset / 1048576) row.4 number_within) in (
           found.0,
           piece_of e row.1.path stamp.size (offset / 1048576),

@@ -4,8 +4,8 @@ use Rattle.std.proofs.lemmas.Bool.{cases_order}
 use Rattle.std.proofs.lemmas.Option.{none-some, slice_get_within, slice_get-get_or, get_or_from_slice_get}
 use Rattle.ts_name.specs.Paths.{Path, IsAbove, IsBefore}
 use Rattle.ts_model.specs.Trees.{Listing, at, IsListing}
-use Rattle.ts_model.specs.Sync.{Snapshot, listed_snapshot, replica, IsSkipped}
-use Rattle.ts_model.specs.Plans.{EntryIs, ActionIs, KindIs, source, AscendBelow, Wrong, Valid}
+use Rattle.ts_model.specs.Sync.{Snapshot, listed_snapshot, replica, IsSkipped, treatment}
+use Rattle.ts_model.specs.Plans.{EntryIs, ActionIs, KindIs, source, AscendBelow, Wrong, Valid, copied_side}
 use Rattle.ts_model.specs.declared.plan.PlanRule.TheVariants as rule
 use Rattle.ts_model.specs.declared.hold.Rule.{Rule}
 use Rattle.ts_model.specs.declared.row.Content.TheVariants.{File}
@@ -23,12 +23,16 @@ use Rattle.ts_name.proofs.Order.{before_itself}
 use Rattle.ts_name.proofs.Prefixes.{above_turned}
 use Rattle.ts_recon.specs.Reasons.{AreReasons}
 use Rattle.ts_table.specs.Tables.{rows_below}
-use Rattle.ts_plan_build.specs.Blocks.{each_below, pieces_of, commit_of, mark_of, some_of, copy_block, block}
+use Rattle.ts_plan_build.specs.Blocks.{each_below, pieces_of, commit_of, mark_of, some_of, copy_block, block, block_by}
 use Rattle.ts_plan_build.specs.Built.{entry_of, IsNearestMark, IsAboveMark, IsLocated, IsBuilt, AreOrdered}
-use Rattle.ts_plan_build.proofs.Places.{same_at, get_left, get_right, get_cases, get_one, element_at, each_below_at}
+use Rattle.ts_plan_build.proofs.Places.{get_left, get_right, get_cases, get_one, each_below_at}
 use Rattle.ts_plan_build.proofs.Inside.{pieces_at, CopyAt, piece, commit, mark, copy_at, commit_there, mark_there}
 use Rattle.ts_plan_build.proofs.Dirs.{in_order}
 use Rattle.ts_plan_build.proofs.Ranges.{IsLawful, lawful_from, piece_there, pieces_once, below_order}
+use Rattle.ts_name.proofs.Basics.{same_at, element_at}
+use Rattle.ts_model.specs.declared.plan.Treatment.{Treatment}
+use Rattle.ts_model.specs.declared.plan.Treatment.TheVariants.{Copied, Agreed, NewDirectory, Skipped}
+use Rattle.ts_model.proofs.Reasons.{left_from_skipped, skipped_from_left}
 
 -- ---- kinds are apart
 
@@ -113,13 +117,9 @@ module _ (F S : Listing Stamp) (plan : Plan) (w : IsBuilt F S plan.entries plan.
   from_block : (e : ℕ) (entry : Entry) (l : IsLocated F S plan.entries plan.actions e entry) (j : ℕ) (a : Action) → slice_get (block F S e entry.path entry.reason l.above (length l.before)) j ≡ Some a → ActionIs plan (length l.before + j) a
   from_block e entry l j a h = subst (λ (z : List Action). slice_get z (length l.before + j) ≡ Some a) (sym l.here) (get_right l.before _ (length l.before + j) j a refl (get_left _ l.after j a h))
 
-  not_skipped : (r : Reason) → r ≢ reason.Conflict → r ≢ reason.Held → ¬ IsSkipped r
-  not_skipped r m n (inl e) = m e
-  not_skipped r m n (inr e) = n e
-
   -- each action of an entry is one of these
   pub view : (e : ℕ) (entry : Entry) (l : IsLocated F S plan.entries plan.actions e entry) (i : ℕ) (a : Action) → ActionIs plan i a → entry_of a.kind ≡ e → View e entry l i a
-  view e entry l i a h of = go entry.reason refl (in_block e entry l i a h of)
+  view e entry l i a h of = go (treatment entry.reason) refl (in_block e entry l i a h of)
     where
       copied : (from : Side) → source entry.reason ≡ Some from → (j : ℕ) → i ≡ length l.before + j → CopyAt e (rows_below entry.path (side_rows F S from)) l.above (length l.before) j a → View e entry l i a
       copied from is j at (piece here) = is_piece from j is at here
@@ -129,27 +129,24 @@ module _ (F S : Listing Stamp) (plan : Plan) (w : IsBuilt F S plan.entries plan.
       alone : source entry.reason ≡ None → ¬ IsSkipped entry.reason → (j : ℕ) → i ≡ length l.before + j → slice_get (mark_of e l.above None ∷ []) j ≡ Some a → View e entry l i a
       alone none plain j at here = let one = get_one (mark_of e l.above None) j a here in is_mark none plain (let z : j ≡ 0 = one.0 in omega arith) one.1
 
-      go : (r : Reason) → entry.reason ≡ r → (j : ℕ) × (i ≡ length l.before + j) × (slice_get (block F S e entry.path r l.above (length l.before)) j ≡ Some a) → View e entry l i a
-      go reason.First is found = copied side.First (ap source is) found.0 found.1 (copy_at e (rows_below entry.path F) l.above (length l.before) found.0 a found.2)
-      go reason.Second is found = copied side.Second (ap source is) found.0 found.1 (copy_at e (rows_below entry.path S) l.above (length l.before) found.0 a found.2)
-      go reason.Same is found = alone (ap source is) (λ skipped. not_same (subst IsSkipped is skipped)) found.0 found.1 found.2
-        where
-          not_same : ¬ IsSkipped reason.Same
-          not_same skipped = elim skipped [ inl f ↦ cc | inr f ↦ cc ]
-      go reason.Dir is found = alone (ap source is) (λ skipped. not_dir (subst IsSkipped is skipped)) found.0 found.1 found.2
-        where
-          not_dir : ¬ IsSkipped reason.Dir
-          not_dir skipped = elim skipped [ inl f ↦ cc | inr f ↦ cc ]
-      go reason.Conflict is found = absurd (none-some a found.2)
-      go reason.Held is found = absurd (none-some a found.2)
+      plain_by : (how : Treatment) → treatment entry.reason ≡ how → how ≢ Skipped → ¬ IsSkipped entry.reason
+      plain_by how is plain skipped = plain (sym is ∙ left_from_skipped entry.reason skipped)
+
+      go : (how : Treatment) → treatment entry.reason ≡ how → (j : ℕ) × (i ≡ length l.before + j) × (slice_get (block_by F S e entry.path how l.above (length l.before)) j ≡ Some a)
+          → View e entry l i a
+      go (Copied side.First) is found = copied side.First (ap copied_side is) found.0 found.1 (copy_at e (rows_below entry.path F) l.above (length l.before) found.0 a found.2)
+      go (Copied side.Second) is found = copied side.Second (ap copied_side is) found.0 found.1 (copy_at e (rows_below entry.path S) l.above (length l.before) found.0 a found.2)
+      go Agreed is found = alone (ap copied_side is) (plain_by Agreed is (λ e. cc)) found.0 found.1 found.2
+      go NewDirectory is found = alone (ap copied_side is) (plain_by NewDirectory is (λ e. cc)) found.0 found.1 found.2
+      go Skipped is found = absurd (none-some a found.2)
 
   -- a copied entry's block
   copied_block : (e : ℕ) (entry : Entry) (from : Side) (above : Option ℕ) (at : ℕ) → source entry.reason ≡ Some from → block F S e entry.path entry.reason above at ≡ copy_block e (rows_below entry.path (side_rows F S from)) above at
-  copied_block e entry from above at is = go entry.reason from is
+  copied_block e entry from above at is = go (treatment entry.reason) from is
     where
-      go : (r : Reason) (from : Side) → source r ≡ Some from → block F S e entry.path r above at ≡ copy_block e (rows_below entry.path (side_rows F S from)) above at
-      go reason.First side.First h = refl
-      go reason.Second side.Second h = refl
+      go : (how : Treatment) (from : Side) → copied_side how ≡ Some from → block_by F S e entry.path how above at ≡ copy_block e (rows_below entry.path (side_rows F S from)) above at
+      go (Copied side.First) side.First h = refl
+      go (Copied side.Second) side.Second h = refl
       go _ _ h = cc
 
   commit_here : (e : ℕ) (entry : Entry) (l : IsLocated F S plan.entries plan.actions e entry) (from : Side) → source entry.reason ≡ Some from
@@ -243,9 +240,13 @@ module _ (F S : Listing Stamp) (plan : Plan) (w : IsBuilt F S plan.entries plan.
       (found.0, (found.1, mark_at e found.0 l i a k (view e found.0 l i a h (of_kind a (Mark e) e k refl))))
 
   source_cases : (r : Reason) → (source r ≡ None) ⊎ ((from : Side) × (source r ≡ Some from))
-  source_cases reason.First = inr (side.First, refl)
-  source_cases reason.Second = inr (side.Second, refl)
-  source_cases _ = inl refl
+  source_cases r = go (treatment r)
+    where
+      go : (how : Treatment) → (copied_side how ≡ None) ⊎ ((from : Side) × (copied_side how ≡ Some from))
+      go (Copied from) = inr (from, refl)
+      go Agreed = inl refl
+      go NewDirectory = inl refl
+      go Skipped = inl refl
 
   one_mark_place : (e i j : ℕ) (a b : Action) (entry : Entry) (is : EntryIs plan e entry) → ActionIs plan j b → b.kind ≡ Mark e → MarkAt e entry (located e entry is) i a → i ≡ j
   one_mark_place e i j a b entry is h k first =
@@ -269,16 +270,15 @@ module _ (F S : Listing Stamp) (plan : Plan) (w : IsBuilt F S plan.entries plan.
   marked_here : (e : ℕ) (entry : Entry) (is : EntryIs plan e entry) → ¬ IsSkipped entry.reason → (i : ℕ) × KindIs plan i (Mark e)
   marked_here e entry is plain = elim (source_cases entry.reason) [
     | inr copied ↦ (_, (_, mark_here e entry (located e entry is) copied.0 copied.1, refl))
-    | inl none ↦ (_, (_, from_block e entry (located e entry is) 0 (mark_of e ((located e entry is).above) None) (alone_block entry.reason none plain), refl))
+    | inl none ↦ (_, (_, from_block e entry (located e entry is) 0 (mark_of e ((located e entry is).above) None) (alone_block (treatment entry.reason) none (λ e. plain (skipped_from_left entry.reason e))), refl))
   ]
     where
-      alone_block : (r : Reason) → source r ≡ None → ¬ IsSkipped r → slice_get (block F S e entry.path r ((located e entry is).above) (length ((located e entry is).before))) 0 ≡ Some (mark_of e ((located e entry is).above) None)
-      alone_block reason.Same none plain = refl
-      alone_block reason.Dir none plain = refl
-      alone_block reason.First none plain = cc
-      alone_block reason.Second none plain = cc
-      alone_block reason.Conflict none plain = absurd (plain (inl refl))
-      alone_block reason.Held none plain = absurd (plain (inr refl))
+      alone_block : (how : Treatment) → copied_side how ≡ None → how ≢ Skipped
+          → slice_get (block_by F S e entry.path how ((located e entry is).above) (length ((located e entry is).before))) 0 ≡ Some (mark_of e ((located e entry is).above) None)
+      alone_block Agreed none plain = refl
+      alone_block NewDirectory none plain = refl
+      alone_block (Copied from) none plain = cc
+      alone_block Skipped none plain = absurd (plain refl)
 
   -- each entry that isn't skipped has one mark
   pub one_mark : (s : Snapshot) (place : ℕ) → ¬ Wrong s plan rule.OneMark place

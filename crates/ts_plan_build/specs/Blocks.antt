@@ -4,11 +4,14 @@ use Rattle.std.specs.Prelude.{ℕ, zero, suc, ◌+◌, ◌-◌, ◌*◌, ◌/◌
 use Rattle.ts_name.specs.Paths.{Path}
 use Rattle.ts_model.specs.Trees.{Listing}
 use Rattle.ts_model.specs.Plans.{piece_size}
+use Rattle.ts_model.specs.Sync.{treatment}
 use Rattle.ts_model.specs.declared.row.Content.TheVariants.{Absent, Dir, File}
 use Rattle.ts_model.specs.declared.row.Row.{Row}
 use Rattle.ts_model.specs.declared.row.Stamp.{Stamp}
 use Rattle.ts_model.specs.declared.plan.Reason.{Reason}
-use Rattle.ts_model.specs.declared.plan.Reason.TheVariants as reason
+use Rattle.ts_model.specs.declared.plan.Side.TheVariants as side
+use Rattle.ts_model.specs.declared.plan.Treatment.{Treatment}
+use Rattle.ts_model.specs.declared.plan.Treatment.TheVariants.{Copied, Agreed, NewDirectory, Skipped}
 use Rattle.ts_model.specs.declared.plan.Action.{Action}
 use Rattle.ts_model.specs.declared.plan.Kind.TheVariants.{Piece, Commit, Mark}
 use Rattle.ts_table.specs.Tables.{rows_below}
@@ -47,10 +50,12 @@ mark_of e above commit = record { kind = Mark e; preds = some_of above ++ some_o
 abbrev pub copy_block : ℕ → Listing Stamp → Option ℕ → ℕ → List Action
 copy_block e rows above base = pieces_of e rows ++ commit_of e base (length (pieces_of e rows)) ∷ mark_of e above (Some (base + length (pieces_of e rows))) ∷ []
 
+abbrev pub block_by : Listing Stamp → Listing Stamp → ℕ → Path → Treatment → Option ℕ → ℕ → List Action
+block_by F S e p (Copied side.First) above base = copy_block e (rows_below p F) above base
+block_by F S e p (Copied side.Second) above base = copy_block e (rows_below p S) above base
+block_by F S e p Agreed above base = mark_of e above None ∷ []
+block_by F S e p NewDirectory above base = mark_of e above None ∷ []
+block_by F S e p Skipped above base = []
+
 abbrev pub block : Listing Stamp → Listing Stamp → ℕ → Path → Reason → Option ℕ → ℕ → List Action
-block F S e p reason.Same above base = mark_of e above None ∷ []
-block F S e p reason.First above base = copy_block e (rows_below p F) above base
-block F S e p reason.Second above base = copy_block e (rows_below p S) above base
-block F S e p reason.Conflict above base = []
-block F S e p reason.Held above base = []
-block F S e p reason.Dir above base = mark_of e above None ∷ []
+block F S e p r above base = block_by F S e p (treatment r) above base

@@ -2,3 +2,4 @@ pub mod Blocks
 pub mod Planned
 pub mod Faults
 pub mod Built
+pub mod Resumed

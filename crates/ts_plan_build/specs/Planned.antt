@@ -6,12 +6,15 @@ use Rattle.std.specs.Prelude.{◌⊎◌, ℕ, ◌+◌, ◌<◌, List, length, su
 use Rattle.ts_name.specs.Paths.{Path}
 use Rattle.ts_model.specs.Trees.{Listing}
 use Rattle.ts_model.specs.Plans.{action_limit, entry_limit}
+use Rattle.ts_model.specs.Sync.{treatment}
 use Rattle.ts_model.specs.declared.row.Content.TheVariants.{Absent, Dir, File}
 use Rattle.ts_model.specs.declared.row.Row.{Row}
 use Rattle.ts_model.specs.declared.row.Stamp.{Stamp}
 use Rattle.ts_model.specs.declared.plan.Entry.{Entry}
 use Rattle.ts_model.specs.declared.plan.Reason.{Reason}
-use Rattle.ts_model.specs.declared.plan.Reason.TheVariants as reason
+use Rattle.ts_model.specs.declared.plan.Side.TheVariants as side
+use Rattle.ts_model.specs.declared.plan.Treatment.{Treatment}
+use Rattle.ts_model.specs.declared.plan.Treatment.TheVariants.{Copied, Agreed, NewDirectory, Skipped}
 use Rattle.ts_table.specs.Tables.{rows_below}
 use Rattle.ts_plan_build.specs.Blocks.{piece_count}
 
@@ -23,14 +26,16 @@ row_count row = elim row.content [ Absent ↦ 0 | Dir ↦ 0 | File stamp ↦ pie
 abbrev pub pieces_below : Path → Listing Stamp → ℕ
 pieces_below p rows = sum_by row_count (rows_below p rows)
 
+abbrev pub count_by_treatment : Listing Stamp → Listing Stamp → Path → Treatment → ℕ
+count_by_treatment F S p (Copied side.First) = pieces_below p F + 2
+count_by_treatment F S p (Copied side.Second) = pieces_below p S + 2
+count_by_treatment F S p Agreed = 1
+count_by_treatment F S p NewDirectory = 1
+count_by_treatment F S p Skipped = 0
+
 -- how many actions a path with this reason has
 abbrev pub action_count : Listing Stamp → Listing Stamp → Path → Reason → ℕ
-action_count F S p reason.Same = 1
-action_count F S p reason.First = pieces_below p F + 2
-action_count F S p reason.Second = pieces_below p S + 2
-action_count F S p reason.Conflict = 0
-action_count F S p reason.Held = 0
-action_count F S p reason.Dir = 1
+action_count F S p r = count_by_treatment F S p (treatment r)
 
 abbrev pub entry_actions : Listing Stamp → Listing Stamp → Entry → ℕ
 entry_actions F S e = action_count F S e.path e.reason

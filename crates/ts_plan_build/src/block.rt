@@ -3,19 +3,13 @@ ghost use Rattle.ts_model.specs.Plans.{action_limit};
 ghost use Rattle.ts_plan_build.specs.Blocks.{block, commit_of, copy_block, each_below, mark_of, piece_count, piece_of, pieces_of, some_of};
 ghost use Rattle.ts_plan_build.specs.Planned.{action_count, row_count};
 
-use crate::fault::PlanFault;
+use crate::fault::BuildFault;
 use std::alloc::{AllocError, Global};
 use ts_model::items::Items;
-use ts_model::plan::{Action, Entry, Kind, Reason};
+use ts_model::plan::{ACTION_LIMIT, Action, Entry, Kind, PIECE_SIZE, Side, Treatment};
 use ts_model::row::{Content, Row, Stamp};
 use ts_name::Path;
 use ts_print::Print;
-
-/// The most actions that a plan may have.
-const ACTION_LIMIT: usize = 1_048_576;
-
-/// The most bytes of a piece.
-const PIECE_SIZE: u64 = 1_048_576;
 
 /// Adds the actions of an entry: its pieces, its commit and its mark, as far as it has them. `above` is the mark of the
 /// nearest new directory above its path.
@@ -27,17 +21,23 @@ pub(crate) fn add_entry(
     above: Option<u32>,
     first: &Print,
     second: &Print,
-) -> Result<(), PlanFault>
+) -> Result<(), BuildFault>
     requires { length actions.old.items ≤ action_limit }
     ensures added { OnOk result (actions.new.items ≡ actions.old.items ++ block first.now second.now number entry.now.path entry.now.reason above (length actions.old.items)) }
     ensures limit { OnOk result (length actions.new.items ≤ action_limit) }
-    ensures past { IfErr result (λ fault. fault ≡ PlanFault.PastLimit → action_limit < length actions.old.items + action_count first.now second.now entry.now.path entry.now.reason) }
+    ensures past { IfErr result (λ fault. fault ≡ BuildFault.PastLimit → action_limit < length actions.old.items + action_count first.now second.now entry.now.path entry.now.reason) }
 {
-    match entry.reason {
-        Reason::Same | Reason::Dir => add_mark(alloc, actions, number, above, None),
-        Reason::First => add_copy(alloc, actions, number, first.sub(&entry.path), above),
-        Reason::Second => add_copy(alloc, actions, number, second.sub(&entry.path), above),
-        Reason::Conflict | Reason::Held => Ok(()),
+    match entry.reason.treatment() {
+        Treatment::Agreed | Treatment::NewDirectory => {
+            add_mark(alloc, actions, number, above, None)
+        }
+        Treatment::Copied(Side::First) => {
+            add_copy(alloc, actions, number, first.sub(&entry.path), above)
+        }
+        Treatment::Copied(Side::Second) => {
+            add_copy(alloc, actions, number, second.sub(&entry.path), above)
+        }
+        Treatment::Skipped => Ok(()),
     }
 }
 
@@ -48,11 +48,11 @@ fn add_copy(
     entry: u32,
     rows: &[Row<Stamp>],
     above: Option<u32>,
-) -> Result<(), PlanFault>
+) -> Result<(), BuildFault>
     requires { length actions.old.items ≤ action_limit }
     ensures added { OnOk result (actions.new.items ≡ actions.old.items ++ copy_block entry rows.now above (length actions.old.items)) }
     ensures limit { OnOk result (length actions.new.items ≤ action_limit) }
-    ensures past { IfErr result (λ fault. fault ≡ PlanFault.PastLimit → action_limit < length actions.old.items + (sum_by row_count rows.now + 2)) }
+    ensures past { IfErr result (λ fault. fault ≡ BuildFault.PastLimit → action_limit < length actions.old.items + (sum_by row_count rows.now + 2)) }
 {
     let from = actions.len() as u32;
     for row in rows {
@@ -73,18 +73,16 @@ fn add_file(
     entry: u32,
     path: &Path,
     size: u64,
-) -> Result<(), PlanFault>
+) -> Result<(), BuildFault>
     requires { length actions.old.items ≤ action_limit }
     ensures added { OnOk result (actions.new.items ≡ actions.old.items ++ each_below (piece_of entry path.now size) (piece_count size)) }
     ensures limit { OnOk result (length actions.new.items ≤ action_limit) }
-    ensures past { IfErr result (λ fault. fault ≡ PlanFault.PastLimit → action_limit < length actions.old.items + piece_count size) }
+    ensures past { IfErr result (λ fault. fault ≡ BuildFault.PastLimit → action_limit < length actions.old.items + piece_count size) }
 {
     let count = count_pieces(size);
     for piece in 0..count {
         let offset = piece * PIECE_SIZE;
-        let Ok(path) = path.copy(alloc) else {
-            return Err(PlanFault::OutOfMemory);
-        };
+        let path = path.copy(alloc)?;
         let kind = Kind::Piece {
             entry,
             offset,
@@ -114,11 +112,11 @@ fn add_mark(
     entry: u32,
     above: Option<u32>,
     commit: Option<u32>,
-) -> Result<(), PlanFault>
+) -> Result<(), BuildFault>
     requires { length actions.old.items ≤ action_limit }
     ensures added { OnOk result (actions.new.items ≡ actions.old.items ++ mark_of entry above commit ∷ []) }
     ensures limit { OnOk result (length actions.new.items ≤ action_limit) }
-    ensures past { IfErr result (λ fault. fault ≡ PlanFault.PastLimit → action_limit < length actions.old.items + 1) }
+    ensures past { IfErr result (λ fault. fault ≡ BuildFault.PastLimit → action_limit < length actions.old.items + 1) }
 {
     let mut preds = Vec::new(alloc);
     if let Some(mark) = above {
@@ -131,14 +129,14 @@ fn add_mark(
 }
 
 /// Adds an action, where there is room for one more.
-fn push(actions: &mut Vec<Action>, kind: Kind, preds: Vec<u32>) -> Result<(), PlanFault>
+fn push(actions: &mut Vec<Action>, kind: Kind, preds: Vec<u32>) -> Result<(), BuildFault>
     requires { length actions.old.items ≤ action_limit }
     ensures added { OnOk result (actions.new.items ≡ actions.old.items ++ record { kind = kind; preds = preds.items } ∷ []) }
     ensures limit { OnOk result (length actions.new.items ≤ action_limit) }
-    ensures past { IfErr result (λ fault. fault ≡ PlanFault.PastLimit → action_limit < length actions.old.items + 1) }
+    ensures past { IfErr result (λ fault. fault ≡ BuildFault.PastLimit → action_limit < length actions.old.items + 1) }
 {
     if actions.len() >= ACTION_LIMIT {
-        return Err(PlanFault::PastLimit);
+        return Err(BuildFault::PastLimit);
     }
     let preds = Items::new(preds);
     actions.push(Action { kind, preds })?;

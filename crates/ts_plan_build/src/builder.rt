@@ -10,15 +10,12 @@ ghost use Rattle.ts_plan_build.specs.Planned.{IsPastLimit, planned_actions};
 ghost use Rattle.ts_plan_build.specs.declared.builder.NewDir.{NewDir};
 
 use crate::block::add_entry;
-use crate::fault::PlanFault;
+use crate::fault::BuildFault;
 use std::alloc::{AllocError, Global};
 use ts_model::items::Items;
-use ts_model::plan::{Action, Entry, Plan, Reason};
+use ts_model::plan::{Action, ENTRY_LIMIT, Entry, Plan, Reason};
 use ts_name::Path;
 use ts_print::Print;
-
-/// The most entries that a plan may have.
-const ENTRY_LIMIT: usize = 1_048_576;
 
 /// A new directory above the path that the builder is at, and the number of its mark.
 #[derive(Clone, Copy)]
@@ -33,14 +30,14 @@ struct NewDir<'a> {
 /// # Errors
 ///
 /// `PastLimit` exactly where there are more than 1,048,576 entries, or their plan would have more than 1,048,576 actions;
-/// it then has no more predecessors than a plan may have. And want of memory.
+/// it then has no more predecessors than a plan may have. Or memory ran out.
 pub fn build(
     alloc: Global,
     archive: &Print,
     first: &Print,
     second: &Print,
     entries: Vec<Entry>,
-) -> Result<Plan, PlanFault>
+) -> Result<Plan, BuildFault>
     requires { AreOrdered entries.items }
     ensures entries { IfOk result (λ plan. plan.entries ≡ entries.items) }
     ensures valid { (rules : List Rule) → AreReasons (listed_snapshot archive.now first.now second.now rules) entries.items
@@ -48,12 +45,12 @@ pub fn build(
     ensures fits { (rules : List Rule) → AreReasons (listed_snapshot archive.now first.now second.now rules) entries.items
         → IfOk result (λ plan. IsPlan plan) }
     ensures within { OnOk result (¬ IsPastLimit first.now second.now entries.items) }
-    ensures past { IfErr result (λ fault. fault ≡ PlanFault.PastLimit → IsPastLimit first.now second.now entries.items) }
+    ensures past { IfErr result (λ fault. fault ≡ BuildFault.PastLimit → IsPastLimit first.now second.now entries.items) }
 {
     // the entries and the replicas tell the actions; with the archive they tell that paths are lawful
     let _archive = archive.rows();
     if entries.len() > ENTRY_LIMIT {
-        return Err(PlanFault::PastLimit);
+        return Err(BuildFault::PastLimit);
     }
     let _first = first.rows();
     let _second = second.rows();
@@ -70,13 +67,13 @@ fn actions_of(
     first: &Print,
     second: &Print,
     entries: &[Entry],
-) -> Result<Vec<Action>, PlanFault>
+) -> Result<Vec<Action>, BuildFault>
     requires limit { length entries.now ≤ entry_limit }
     requires ascending { AreOrdered entries.now }
     ensures built { IfOk result (λ actions. IsBuilt first.now second.now entries.now actions.items (length entries.now)) }
     ensures limit { IfOk result (λ actions. length actions.items ≤ action_limit) }
     ensures count { IfOk result (λ actions. length actions.items ≡ planned_actions first.now second.now entries.now) }
-    ensures past { IfErr result (λ fault. fault ≡ PlanFault.PastLimit → action_limit < planned_actions first.now second.now entries.now) }
+    ensures past { IfErr result (λ fault. fault ≡ BuildFault.PastLimit → action_limit < planned_actions first.now second.now entries.now) }
 {
     let mut actions = Vec::new(alloc);
     // the new directories above the path, the nearest one last

@@ -19,7 +19,8 @@ use Rattle.ts_name.specs.Laws.{same_path_differ, same_path_equal, same_path_itse
 use Rattle.ts_name.proofs.Prefixes.{below_append, below_gives}
 use Rattle.ts_name.proofs.Order.{before_itself}
 use Rattle.ts_name.proofs.Basics.{by_each, weaker}
-use Rattle.ts_table.proofs.Rows.{ascend_first, ascend_pair, ascend_rest}
+use Rattle.ts_table.proofs.Rows.{ascend_first, ascend_pair}
+use Rattle.ts_model.proofs.Rows.{ascend_rest}
 
 -- ---- rows whose contents change
 

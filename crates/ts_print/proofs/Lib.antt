@@ -1,4 +1,5 @@
 pub mod Assembling
+pub mod Lent
 pub mod NextRows
 pub mod NoPrint
 pub mod PrintTexts

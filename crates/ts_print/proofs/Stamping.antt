@@ -6,12 +6,7 @@ use Rattle.ts_model.specs.declared.row.Content.{Content}
 use Rattle.ts_model.specs.declared.row.Content.TheVariants.{Absent, Dir, File}
 use Rattle.ts_model.specs.Trees.{Listing, Ascend, IsListing, at, listed, print_of, stamped}
 use Rattle.ts_print.specs.Prints.{stamped_rows}
-
--- a stamp stands exactly where a file does
-pub stamped_absent : (x : Content (List ℕ)) → stamped x ≡ Absent → x ≡ Absent
-stamped_absent Absent e = refl
-stamped_absent Dir e = cc
-stamped_absent (File bytes) e = cc
+use Rattle.ts_model.proofs.Rows.{stamped_absent}
 
 there_stamped : (x : Content (List ℕ)) → stamped x ≢ Absent → x ≢ Absent
 there_stamped x there e = there (ap stamped e)

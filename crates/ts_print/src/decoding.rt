@@ -10,7 +10,7 @@ use ts_text::{Lines, Source};
 
 /// The print that the lines spell, all of them.
 ///
-/// More than 2^64 - 2 lines are answered as want of memory, since no memory holds their print.
+/// More than 2^64 - 2 lines are answered as out of memory, since no memory holds their print.
 pub fn decode<S: Source>(alloc: Global, lines: &mut Lines<S>) -> Result<Print, PrintFault>
     ensures found { IfOk result (DecodesPrint lines.old) }
     ensures refused { IfErr result (FindsNoPrint lines.old lines.new) }

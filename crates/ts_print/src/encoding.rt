@@ -16,7 +16,7 @@ use ts_text::write::write_line;
 use ts_tree::encoding::write_dir;
 
 /// Writes the text of the print. After a fault a beginning of it was written; `Failed` comes only where the sink failed, and
-/// want of memory only where it didn't.
+/// memory ran out only where it didn't.
 pub fn encode<W: Sink>(alloc: Global, print: &Print, sink: &mut W) -> Result<(), PrintFault>
     ensures written { Writes (W.holds sink.old) (W.holds sink.new) (text (print_lines print.now)) result }
     ensures failures { FailuresFit (W.failures sink.old) (W.failures sink.new) result }

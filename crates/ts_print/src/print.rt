@@ -1,5 +1,6 @@
 ghost use Rattle.std.specs.List.{AllByRecursion};
-ghost use Rattle.std.specs.Prelude.{◌≡◌, ◌≢◌, ◌⊎◌, true, false, ◌++◌, ◌∷◌, ◌↔◌, [], IfErr, IfOk, IsErrOf, IsTrue, MatchResult, OnErr, OnOk, is_ok, if◌then◌else◌, map};
+ghost use Rattle.std.specs.Prelude.{◌≡◌, ◌≢◌, ◌⊎◌, true, false, ◌++◌, ◌∷◌, ◌↔◌, [], IfErr, IfOk, IsErrOf, IsTrue, MatchResult, OnErr};
+ghost use Rattle.std.specs.Prelude.{OnOk, is_ok, if◌then◌else◌, map};
 ghost use Rattle.ts_model.specs.Runs.{bare_directory, graft};
 ghost use Rattle.ts_model.specs.Texts.{IsPrintBody};
 ghost use Rattle.ts_model.specs.Trees.{IsListing, at, listed, print_of, sub};
@@ -14,7 +15,7 @@ ghost use Rattle.ts_table.specs.Tables.{IsPlace, placed, rows_below};
 use crate::fault::PrintFault;
 use crate::stamps::{content_fits, stamped, stamps_fit};
 use crate::walk::Walk;
-use std::alloc::Global;
+use std::alloc::{AllocError, Global};
 use std::marker::Model;
 use ts_model::items::Items;
 use ts_model::row::{Content, Row, Stamp};
@@ -97,24 +98,22 @@ impl Print {
         self.table.sub(path)
     }
 
-    /// Adds a row after all that are there. A refusal changes nothing.
-    pub fn push(&mut self, row: Row<Stamp>) -> Result<(), PrintFault>
+    /// Adds a row after all that are there. Where memory runs out nothing changes.
+    pub fn push(&mut self, row: Row<Stamp>) -> Result<(), AllocError>
         requires { IsListing (self.old ++ row ∷ []) }
         ensures rows { self.new ≡ (if is_ok result then self.old ++ row ∷ [] else self.old) }
-        ensures fault { IfErr result (λ e. e ≡ PrintFault.OutOfMemory) }
     {
         content_fits(&row.content);
         self.table.push(row)?;
         Ok(())
     }
 
-    /// Puts a directory or a file after all that are there. A refusal changes nothing.
-    pub fn add(&mut self, path: Path, seen: Seen) -> Result<(), PrintFault>
+    /// Puts a directory or a file after all that are there. Where memory runs out nothing changes.
+    pub fn add(&mut self, path: Path, seen: Seen) -> Result<(), AllocError>
         requires present { seen ≢ Absent }
         requires after { AllByRecursion (λ row. IsBefore row.path path) self.old }
         requires place { IsPlace (at self.old) path }
         ensures rows { self.new ≡ (if is_ok result then self.old ++ record { path = path; content = seen } ∷ [] else self.old) }
-        ensures fault { IfErr result (λ e. e ≡ PrintFault.OutOfMemory) }
     {
         let _rows = self.rows();
         let _depth = path.depth();
@@ -146,18 +145,18 @@ impl Print {
         self.table.sub_eq(&other.table, path)
     }
 
-    pub fn copy(&self, alloc: Global) -> Result<Print, PrintFault>
-        ensures { MatchResult result (λ print. print ≡ self.now) (λ e. e ≡ PrintFault.OutOfMemory) }
+    /// The same print once more.
+    pub fn copy(&self, alloc: Global) -> Result<Print, AllocError>
+        ensures { IfOk result (λ print. print ≡ self.now) }
     {
         let table = self.table.copy(alloc)?;
         Ok(Print::from_table(table))
     }
 
     /// What is at a path and below it, by paths relative to it.
-    pub fn sub_table(&self, alloc: Global, path: &Path) -> Result<SubTable<Stamp>, PrintFault>
+    pub fn sub_table(&self, alloc: Global, path: &Path) -> Result<SubTable<Stamp>, AllocError>
         ensures part { IfOk result (λ part. listed part ≡ sub (at self.now) path.now) }
         ensures paths { IfOk result (λ part. AllByRecursion (λ row. IsPath row.path) (placed path.now part)) }
-        ensures fault { IfErr result (λ e. e ≡ PrintFault.OutOfMemory) }
     {
         let part = self.table.sub_table(alloc, path)?;
         let _rows = self.table.rows();
@@ -165,8 +164,8 @@ impl Print {
         Ok(part)
     }
 
-    /// Puts a part in place of what is at a path and below it. A refusal changes nothing: a path would be past a
-    /// limit, or memory is wanting.
+    /// Puts a part in place of what is at a path and below it. `TooLong` where a path would be past the limits. After a
+    /// fault nothing has changed.
     pub fn replace(
         &mut self,
         alloc: Global,
@@ -185,11 +184,10 @@ impl Print {
         Ok(())
     }
 
-    /// Leaves a directory without children at a path. A refusal changes nothing.
-    pub fn make_dir(&mut self, alloc: Global, path: &Path) -> Result<(), PrintFault>
+    /// Leaves a directory without children at a path. Where memory runs out nothing changes.
+    pub fn make_dir(&mut self, alloc: Global, path: &Path) -> Result<(), AllocError>
         requires { IsPlace (at self.old) path.now }
         ensures ok { OnOk result (at self.new ≡ graft (at self.old) path.now bare_directory) }
-        ensures fault { IfErr result (λ e. e ≡ PrintFault.OutOfMemory) }
         ensures err { OnErr result (self.new ≡ self.old) }
     {
         self.table.make_dir(alloc, path)?;
@@ -216,16 +214,13 @@ impl Print {
     }
 
     /// The print of a tree, given by its rows.
-    pub fn of_rows(alloc: Global, rows: &[Row<Items<u8>>]) -> Result<Print, PrintFault>
+    pub fn of_rows(alloc: Global, rows: &[Row<Items<u8>>]) -> Result<Print, AllocError>
         requires { IsListing rows.now }
         ensures rows { IfOk result (λ print. print ≡ stamped_rows rows.now) }
-        ensures fault { IfErr result (λ e. e ≡ PrintFault.OutOfMemory) }
     {
         let mut made = Vec::with_capacity(alloc, rows.len())?;
         for row in rows {
-            let Ok(path) = row.path.copy(alloc) else {
-                return Err(PrintFault::OutOfMemory);
-            };
+            let path = row.path.copy(alloc)?;
             let content = stamped(&row.content);
             made.push(Row { path, content })?;
         }
@@ -233,9 +228,8 @@ impl Print {
     }
 
     /// The print of a tree: its directories, and a stamp for each file.
-    pub fn of_tree(alloc: Global, tree: &Tree) -> Result<Print, PrintFault>
+    pub fn of_tree(alloc: Global, tree: &Tree) -> Result<Print, AllocError>
         ensures print { IfOk result (λ print. at print ≡ print_of (at tree.now)) }
-        ensures fault { IfErr result (λ e. e ≡ PrintFault.OutOfMemory) }
     {
         Print::of_rows(alloc, tree.rows())
     }

@@ -6,7 +6,6 @@ ghost use Rattle.ts_model.specs.declared.row.Content.TheVariants.{Absent, File};
 ghost use Rattle.ts_model.specs.declared.row.Row.{Row};
 ghost use Rattle.ts_print.specs.Assemblies.{HasSoFar, IsComplete, assembly_of, begun_rows, more, with_more};
 
-use crate::fault::PrintFault;
 use crate::stamps::{are_bytes, have_stamps};
 use crate::sub_print::SubPrint;
 use std::alloc::{AllocError, Global};
@@ -42,27 +41,20 @@ impl Model for Staged {
 
 impl Staged {
     /// All directories and files of the source's part, each file without bytes yet.
-    pub fn begin(alloc: Global, after: &SubPrint<'_>) -> Result<Staged, PrintFault>
+    pub fn begin(alloc: Global, after: &SubPrint<'_>) -> Result<Staged, AllocError>
         ensures begun { IfOk result (λ staged. staged ≡ assembly_of after.now) }
-        ensures fault { IfErr result (λ e. e ≡ PrintFault.OutOfMemory) }
     {
         let wanted = after.to_table(alloc)?;
         let made = without_bytes(alloc, wanted.rows())?;
-        let Ok(top) = after.top().copy(alloc) else {
-            return Err(PrintFault::OutOfMemory);
-        };
+        let top = after.top().copy(alloc)?;
         Ok(Staged { top, wanted, made })
     }
 
     /// Whether a file of the assembly has this whole path, and `offset` bytes so far.
-    pub fn has_so_far(&self, alloc: Global, path: &Path, offset: u64) -> Result<bool, PrintFault>
+    pub fn has_so_far(&self, alloc: Global, path: &Path, offset: u64) -> Result<bool, AllocError>
         ensures answer { IfOk result (λ answer. IsTrue answer ↔ HasSoFar self.now path.now offset) }
-        ensures fault { IfErr result (λ e. e ≡ PrintFault.OutOfMemory) }
     {
-        let Ok(rest) = path.below(alloc, &self.top) else {
-            return Err(PrintFault::OutOfMemory);
-        };
-        let Some(rest) = rest else {
+        let Some(rest) = path.below(alloc, &self.top)? else {
             return Ok(false);
         };
         match size_at(&self.made, &rest) {
@@ -72,7 +64,7 @@ impl Staged {
     }
 
     /// Puts bytes at the end of a file, which is named by its whole path, as in a piece, and has `offset` bytes so far.
-    /// Where memory is wanting, nothing changes, and the bytes come back.
+    /// Where memory runs out nothing changes, and the bytes come back.
     pub fn put(
         &mut self,
         alloc: Global,
@@ -142,15 +134,12 @@ impl Staged {
 }
 
 /// The directories and files, each file without bytes.
-fn without_bytes(alloc: Global, rows: &[Row<Stamp>]) -> Result<Vec<Row<Items<u8>>>, PrintFault>
+fn without_bytes(alloc: Global, rows: &[Row<Stamp>]) -> Result<Vec<Row<Items<u8>>>, AllocError>
     ensures rows { IfOk result (λ made. made.items ≡ begun_rows rows.now) }
-    ensures fault { IfErr result (λ e. e ≡ PrintFault.OutOfMemory) }
 {
     let mut made = Vec::with_capacity(alloc, rows.len())?;
     for row in rows {
-        let Ok(path) = row.path.copy(alloc) else {
-            return Err(PrintFault::OutOfMemory);
-        };
+        let path = row.path.copy(alloc)?;
         let content = match &row.content {
             Content::Absent => Content::Absent,
             Content::Dir => Content::Dir,

@@ -1,13 +1,15 @@
 //! Parts of a print, lent without memory.
-ghost use Rattle.std.specs.Prelude.{◌≡◌, ◌++◌, ◌↔◌, IfErr, IfOk, IsTrue};
-ghost use Rattle.ts_model.specs.Trees.{IsSubListing, at, listed, sub};
+ghost use Rattle.std.specs.List.{AllByRecursion};
+ghost use Rattle.std.specs.Prelude.{◌≡◌, ◌≢◌, ◌++◌, ◌↔◌, [], IfErr, IfOk, IsTrue};
+ghost use Rattle.ts_model.specs.Trees.{Ascend, IsSubListing, at, listed, sub};
+ghost use Rattle.ts_model.specs.declared.row.Content.TheVariants.{Absent};
+ghost use Rattle.ts_name.specs.Paths.{IsAbove};
 ghost use Rattle.ts_print.specs.Prints.{stamped_rows};
 ghost use Rattle.ts_table.specs.Tables.{relative, root_row};
 
-use crate::fault::PrintFault;
 use crate::print::Print;
 use crate::stamps::have_stamps;
-use std::alloc::Global;
+use std::alloc::{AllocError, Global};
 use std::marker::Model;
 use ts_model::items::Items;
 use ts_model::row::{Row, Stamp};
@@ -53,17 +55,20 @@ impl SubPrint<'_> {
         self.top
     }
 
-    /// The rows with their whole paths, without one for the root. It takes no memory.
+    /// The rows with their whole paths, in path order and without one for the root. It takes no memory.
     pub fn rows(&self) -> &[Row<Stamp>]
-        ensures { self.now.rows ≡ root_row self.now.top ++ relative self.now.top result.now }
+        ensures rows { self.now.rows ≡ root_row self.now.top ++ relative self.now.top result.now }
+        ensures order { Ascend result.now }
+        ensures each { AllByRecursion (λ row. IsAbove self.now.top row.path × (row.path ≢ []) × (row.content ≢ Absent)) result.now }
+        ensures lawful { IsSubListing self.now.rows }
     {
+        let _rows = self.print.rows();
         self.print.sub(self.top)
     }
 
     /// The rows, by paths relative to the top.
-    pub fn to_table(&self, alloc: Global) -> Result<SubTable<Stamp>, PrintFault>
+    pub fn to_table(&self, alloc: Global) -> Result<SubTable<Stamp>, AllocError>
         ensures part { IfOk result (λ part. part ≡ self.now.rows) }
-        ensures fault { IfErr result (λ e. e ≡ PrintFault.OutOfMemory) }
     {
         let _rows = self.print.rows();
         let part = self.print.sub_table(alloc, self.top)?;
@@ -72,10 +77,9 @@ impl SubPrint<'_> {
     }
 
     /// Whether this is the print of a tree, which is given by its rows, relative to where it stands.
-    pub fn is_print_of(&self, alloc: Global, rows: &[Row<Items<u8>>]) -> Result<bool, PrintFault>
+    pub fn is_print_of(&self, alloc: Global, rows: &[Row<Items<u8>>]) -> Result<bool, AllocError>
         ensures answer { IfOk result (λ answer. IsTrue answer ↔ (stamped_rows rows.now ≡ self.now.rows)) }
         ensures lawful { IfOk result (λ _. IsSubListing self.now.rows) }
-        ensures fault { IfErr result (λ e. e ≡ PrintFault.OutOfMemory) }
     {
         let stamps = self.to_table(alloc)?;
         Ok(have_stamps(rows, stamps.rows()))

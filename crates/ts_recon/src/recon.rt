@@ -5,7 +5,6 @@ ghost use Rattle.ts_model.specs.Trees.{IsListing};
 ghost use Rattle.ts_model.specs.declared.hold.Rule.{Rule};
 ghost use Rattle.ts_recon.specs.Reasons.{AreReasons, with_reason};
 
-use crate::fault::ReconFault;
 use crate::reason::{is_shared, reason_at};
 use std::alloc::{AllocError, Global};
 use ts_dirty::{Marks, Walk};
@@ -18,14 +17,14 @@ use ts_print::Print;
 ///
 /// # Errors
 ///
-/// Want of memory.
+/// `AllocError` where memory ran out.
 pub fn reasons(
     alloc: Global,
     archive: &Print,
     first: &Print,
     second: &Print,
     marks: &Marks,
-) -> Result<Vec<Entry>, ReconFault>
+) -> Result<Vec<Entry>, AllocError>
     ensures { (rules : List Rule) → IsFoundOf (listed_snapshot archive.now first.now second.now rules) marks.now
         → IfOk result (λ entries. AreReasons (listed_snapshot archive.now first.now second.now rules) entries.items) }
 {
@@ -39,7 +38,7 @@ fn gather(
     first: &[Row<Stamp>],
     second: &[Row<Stamp>],
     marks: &Marks,
-) -> Result<Vec<Entry>, ReconFault>
+) -> Result<Vec<Entry>, AllocError>
     requires archive { IsListing archive.now }
     requires first { IsListing first.now }
     requires second { IsListing second.now }
@@ -72,9 +71,7 @@ fn add(
     ensures { IfOk result (λ _. entries.new.items ≡ with_reason entries.old.items path.now reason) }
 {
     if let Some(reason) = reason {
-        let Ok(path) = path.copy(alloc) else {
-            return Err(AllocError);
-        };
+        let path = path.copy(alloc)?;
         entries.push(Entry { path, reason })?;
     }
     Ok(())

@@ -15,10 +15,11 @@ use Rattle.ts_name.proofs.Prefixes.{above_trans, same_parent, decide_above}
 use Rattle.ts_name.proofs.Order.{cmp_below, before_below, before_itself}
 use Rattle.ts_name.proofs.Utf8.{all_append, all_parts}
 use Rattle.ts_name.proofs.Basics.{weaker}
-use Rattle.ts_table.proofs.Rows.{ascend_cons, ascend_join, listed_after, listed_here, listed_holds, AllBefore}
+use Rattle.ts_table.proofs.Rows.{ascend_cons, ascend_join, listed_after, listed_holds, AllBefore}
 use Rattle.ts_folder.specs.Folders.{InOrder}
 use Rattle.ts_folder.specs.declared.folder.Kind.{Kind}
 use Rattle.ts_scan.specs.Scans.{Children, IsUnder, AreBelow}
+use Rattle.ts_model.proofs.Rows.{listed_here}
 
 -- ---- children in order
 

@@ -1,5 +1,5 @@
 -- The faults of a scan: their numbers, and where each may come.
---     Tells p fault told     a folder's fault at p is told so
+--     Tells p fault told     a folder's fault at p is reported so
 --     MayFail lets told e    the fault may come over a folder with these troubles that tells this tree, or none
 use Rattle.std.specs.Prelude.{◌≡◌, ◌⊎◌, ℕ, Option, Some, None}
 use Rattle.ts_name.specs.Paths.{Path}

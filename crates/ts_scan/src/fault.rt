@@ -63,7 +63,7 @@ impl ScanFault {
         }
     }
 
-    /// Where the fault is. Want of memory is nowhere.
+    /// Where the fault is. Where memory runs out there is no path.
     pub fn path(&self) -> Option<&Path>
         ensures { option_copied result ≡ place_of self.now }
     {
@@ -100,7 +100,7 @@ pub(crate) fn refused(alloc: Global, path: &Path, fault: Refusal) -> ScanFault
     }
 }
 
-/// What a folder's fault at a path is told as.
+/// What a folder's fault at a path is reported as.
 pub(crate) fn told(alloc: Global, path: &Path, fault: FolderFault) -> ScanFault
     ensures { Tells path.now fault result }
 {

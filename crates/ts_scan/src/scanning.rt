@@ -17,7 +17,7 @@ use ts_table::Table;
 /// unless what was listed is gone or of another kind when it is opened: then its directory is listed again, up to ten times.
 /// A file is read through one buffer a worker. A thread that can't be started is done without.
 ///
-/// Of faults the first in path order is told, want of memory aside.
+/// Of faults the first in path order is reported, out of memory aside.
 pub fn scan<R: Threads + Sync, F: Folder + Sync>(
     rt: &R,
     alloc: Global,

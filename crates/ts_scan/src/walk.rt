@@ -130,7 +130,8 @@ where
     let theirs = || -> Result<Work, ScanFault>
         requires { IsSync R.row × IsSync F.row × IsSend F.File.row × InOrder second.now × IfSome (F.tells folder.now) IsTreeBody }
         ensures found { IfOk result (λ done. Found (F.tells folder.entry.now) path.entry.now second.entry.now done.rows.items) }
-        ensures fault { IfSome (F.tells folder.entry.now) (λ tree. AreThere (at tree) path.entry.now second.entry.now) → IfErr result (MayFail (F.lets folder.entry.now) (F.tells folder.entry.now)) }
+        ensures fault { IfSome (F.tells folder.entry.now) (λ tree. AreThere (at tree) path.entry.now second.entry.now)
+            → IfErr result (MayFail (F.lets folder.entry.now) (F.tells folder.entry.now)) }
     {
         let work = Work::new(alloc)?;
         let found = scan_children(rt, folder, idle, alloc, path, second, work);

@@ -4,8 +4,8 @@ use Rattle.ts_model.specs.Trees.{IsSubListing, Listing, listed, print_of, stampe
 use Rattle.ts_model.specs.declared.row.Stamp.{Stamp}
 use Rattle.ts_print.specs.Prints.{stamped_rows}
 use Rattle.ts_print.proofs.Assembling.{IsSubListing-changed, print-listed}
-use Rattle.ts_print.proofs.Stamping.{stamped_absent}
 use Rattle.ts_table.proofs.Uses.{one_sub_listing}
+use Rattle.ts_model.proofs.Rows.{stamped_absent}
 
 IsSubListing-stamped : (rows : Listing (List ℕ)) → IsSubListing rows → IsSubListing (stamped_rows rows)
 IsSubListing-stamped rows is =

@@ -20,7 +20,7 @@ pub trait Site: Send + Drop {
     /// Replaces what is there, which must have the print `before`, by what was staged, in one change.
     ///
     /// `Misfit` comes first, exactly where a staged file doesn't fit its stamp; then `Changed` where what is there hasn't
-    /// the print, and `Device` where the device failed in this call. After each of these, and after want of memory, what
+    /// the print, and `Device` where the device failed in this call. After each of these, and where memory runs out, what
     /// is there is what it was.
     fn commit(
         &mut self,

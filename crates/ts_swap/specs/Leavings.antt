@@ -1,5 +1,5 @@
 -- What calls on the spots of a swap leave, and what replacing and recovery leave.
---     Leaves call old new r           what a single call leaves, where the spots are told
+--     Leaves call old new r           what a single call leaves, where the spots are known
 --     Counts old new r                the count of failures grows by one at a failure, and only there
 --     Replaces tree old new r         what replacing leaves
 --     Recovers old new r              what recovery leaves
@@ -16,7 +16,7 @@ spot_of Target = model.Target
 spot_of New = model.New
 spot_of Old = model.Old
 
--- where the spots are told before, they are told after, and this is said of both
+-- where the spots are known before, they are known after, and this is said of both
 abbrev pub OnSpots : (Spots → Spots → Type 0) → Option Spots → Option Spots → Type 0
 OnSpots Says None new = new ≡ None
 OnSpots Says (Some s) new = (left : Spots) × (new ≡ Some left) × Says s left
@@ -46,9 +46,9 @@ Counts old new r = MatchResult r (λ _. new ≡ old) (λ _. Grows old new)
 abbrev pub HasFailed : ℕ → ℕ → Type 0
 HasFailed before after = (before < after) ⊎ (last ≤ before)
 
--- one call alone failed
-abbrev pub FailedOnce : ℕ → ℕ → Type 0
-FailedOnce before after = (after ≡ before + 1) × (after < last)
+-- one call alone failed, or none
+abbrev pub FailedAtMostOnce : ℕ → ℕ → Type 0
+FailedAtMostOnce before after = (after ≤ before + 1) × (after < last)
 
 -- ---- replacing
 

@@ -12,8 +12,8 @@ use ts_model::items::Items;
 use ts_model::row::{Content, Row};
 use ts_table::{CopyFile, SubTable};
 
-/// The spots of a swap in memory, which tell what lies there. Calls that change something fail when told; want of memory
-/// is such a failure too.
+/// The spots of a swap in memory, so what lies there is known. Calls that change something fail where they are set to;
+/// out of memory is such a failure too.
 #[derive(Drop)]
 pub struct MemPlaces {
     alloc: Global,

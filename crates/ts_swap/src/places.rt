@@ -21,13 +21,13 @@ pub enum Spot {
     Old,
 }
 
-/// The device failed in this call, and the count of failures tells so.
+/// The device failed in this call. Unless it was a look, the failure is counted.
 #[derive(Clone, Copy, Debug, PartialEq, Eq, Drop, Error)]
 #[error("device failed")]
 pub struct Failed;
 
 impl Failed {
-    /// The fault's number, as the program tells it.
+    /// The number that the fault is reported by.
     pub fn number(&self) -> u8
         ensures { result ≡ 8 }
     {
@@ -39,7 +39,7 @@ impl Failed {
 ///
 /// What is said of the spots is said of places that tell them, as those in memory do.
 pub trait Places {
-    // What lies at the spots, where they are told.
+    // What lies at the spots, where they are known.
     ghost spots: { Self → Option Spots };
 
     // How often a call failed that changes something, up to 2^64 - 1.

@@ -4,7 +4,8 @@ ghost use Rattle.ts_model.specs.Swap.{recovery, with_spot};
 ghost use Rattle.ts_model.specs.Swap as model;
 ghost use Rattle.ts_model.specs.Trees.{IsSubListing};
 ghost use Rattle.ts_model.specs.declared.row.Row.{Row};
-ghost use Rattle.ts_swap.specs.Leavings.{Does, FailedOnce, Grows, HasFailed, IsBack, IsInSwap, IsOriginal, IsPut, IsSetAside, IsSettled, KeepsOthers, Looks, OnSpots, Recovers, Replaces, Stumbles, Tells};
+ghost use Rattle.ts_swap.specs.Leavings.{Does, FailedAtMostOnce, Grows, HasFailed, IsBack, IsInSwap, IsOriginal, IsPut};
+ghost use Rattle.ts_swap.specs.Leavings.{IsSetAside, IsSettled, KeepsOthers, Looks, OnSpots, Recovers, Replaces, Stumbles, Tells};
 ghost use Rattle.ts_swap.specs.declared.places.Spot.{Spot};
 ghost use Rattle.ts_swap.specs.declared.places.Spot.TheVariants as spot;
 
@@ -15,8 +16,9 @@ use ts_model::row::Row;
 /// Replaces what lies at the target by a tree, by at most two renames. Between them nothing lies there.
 ///
 /// After a failure the original lies at the target; or, where more than one call failed, it may lie at the old spot,
-/// whole, with the new tree whole at the new spot and nothing at the target. That the old content couldn't be removed
-/// at the end is not told.
+/// whole, with the new tree whole at the new spot and nothing at the target. A look that fails does so before anything
+/// is moved, so after it the original lies at the target. That the old content couldn't be removed at the end is not
+/// reported.
 #[tactic(auto, using(crate::proofs::Counting::grown, crate::proofs::Counting::still_grown))]
 pub fn replace<P: Places>(places: &mut P, tree: &[Row<Items<u8>>]) -> Result<(), Failed>
     requires tree { IsSubListing tree.now }
@@ -24,7 +26,7 @@ pub fn replace<P: Places>(places: &mut P, tree: &[Row<Items<u8>>]) -> Result<(),
     requires old { IfSome (P.spots places.old) (λ s. s.old ≡ []) }
     ensures replaced { Replaces tree.now (P.spots places.old) (P.spots places.new) result }
     ensures fault { IsErr result → (P.hides places.old spot.Target) ⊎ HasFailed (P.failures places.old) (P.failures places.new) }
-    ensures once { IsErr result → FailedOnce (P.failures places.old) (P.failures places.new) → OnSpots IsOriginal (P.spots places.old) (P.spots places.new) }
+    ensures once { IsErr result → FailedAtMostOnce (P.failures places.old) (P.failures places.new) → OnSpots IsOriginal (P.spots places.old) (P.spots places.new) }
     ensures recoverable { OnSpots (λ s left. IsInSwap s.target tree.now left) (P.spots places.old) (P.spots places.new) }
 {
     write_new(places, tree)?;
@@ -86,6 +88,7 @@ fn set_aside<P: Places>(places: &mut P) -> Result<bool, Failed>
     ensures err { IsErr result → P.spots places.new ≡ P.spots places.old }
     ensures counted { IfOk result (λ _. P.failures places.new ≡ P.failures places.old) }
     ensures fault { IsErr result → (P.hides places.old spot.Target) ⊎ HasFailed (P.failures places.old) (P.failures places.new) }
+    ensures looks { P.hides places.new spot.Target → P.hides places.old spot.Target }
 {
     if !places.present(Spot::Target)? {
         return Ok(false);
@@ -104,7 +107,7 @@ fn put_in_place<P: Places>(places: &mut P, wanted: bool, had: bool) -> Result<()
     ensures ok { IfOk result (λ _. OnSpots IsPut (P.spots places.old) (P.spots places.new)) }
     ensures err { IsErr result → IsTrue wanted }
     ensures back { IsErr result → OnSpots (λ s left. IsBack s left ⊎ (left ≡ s)) (P.spots places.old) (P.spots places.new) }
-    ensures once { IsErr result → FailedOnce (P.failures places.old) (P.failures places.new) → OnSpots IsBack (P.spots places.old) (P.spots places.new) }
+    ensures once { IsErr result → FailedAtMostOnce (P.failures places.old) (P.failures places.new) → OnSpots IsBack (P.spots places.old) (P.spots places.new) }
     ensures counted { MatchResult result (λ _. P.failures places.new ≡ P.failures places.old) (λ _. HasFailed (P.failures places.old) (P.failures places.new)) }
 {
     if !wanted {
@@ -131,7 +134,8 @@ pub fn recover<P: Places>(places: &mut P) -> Result<(), Failed>
     ensures counted { IfOk result (λ _. P.failures places.new ≡ P.failures places.old) }
     ensures fault { IsErr result → ((at : Spot) × P.hides places.old at) ⊎ HasFailed (P.failures places.old) (P.failures places.new) }
     ensures recovered { Recovers (P.spots places.old) (P.spots places.new) result }
-    ensures settled { IsOk result → (original tree : List (Row (List ℕ))) → OnSpots (λ s left. IsInSwap original tree s → IsSettled original tree left) (P.spots places.old) (P.spots places.new) }
+    ensures settled { IsOk result → (original tree : List (Row (List ℕ)))
+        → OnSpots (λ s left. IsInSwap original tree s → IsSettled original tree left) (P.spots places.old) (P.spots places.new) }
     ensures again { (original tree : List (Row (List ℕ))) → OnSpots (λ s left. IsInSwap original tree s → IsInSwap original tree left) (P.spots places.old) (P.spots places.new) }
 {
     let target = places.present(Spot::Target)?;
@@ -145,7 +149,8 @@ pub fn recover<P: Places>(places: &mut P) -> Result<(), Failed>
 fn tidy<P: Places>(places: &mut P, target: bool, new: bool, old: bool) -> Result<(), Failed>
     requires { IfSome (P.spots places.old) (Looks target new old) }
     ensures counted { MatchResult result (λ _. P.failures places.new ≡ P.failures places.old) (λ _. HasFailed (P.failures places.old) (P.failures places.new)) }
-    ensures done { MatchResult result (λ _. OnSpots (Does (recovery target new old)) (P.spots places.old) (P.spots places.new)) (λ _. OnSpots (Stumbles (recovery target new old)) (P.spots places.old) (P.spots places.new)) }
+    ensures done { MatchResult result (λ _. OnSpots (Does (recovery target new old)) (P.spots places.old) (P.spots places.new))
+        (λ _. OnSpots (Stumbles (recovery target new old)) (P.spots places.old) (P.spots places.new)) }
 {
     if !target && new && old {
         places.rename(Spot::Old, Spot::Target)?;

@@ -11,11 +11,12 @@ use Rattle.ts_model.specs.declared.row.Content.TheVariants.{Absent}
 use Rattle.ts_model.specs.declared.row.Row.{Row}
 use Rattle.ts_table.specs.Tables.{is_above, rows_below, IsCut}
 use Rattle.ts_name.specs.Laws.{tied_paths}
-use Rattle.ts_name.proofs.Order.{before_cases, before_trans, before_itself, before_flip, late_between, before_not_below}
+use Rattle.ts_name.proofs.Order.{before_cases, before_trans, before_itself, before_flip, late_between, before_not_below, is_lt_Less}
 use Rattle.ts_name.proofs.Basics.{weaker, all_both}
 use Rattle.ts_table.proofs.Rows.{all_before, all_from, ascend_pair}
 use Rattle.ts_table.proofs.Looked.{listed_found, not_listed}
 use Rattle.ts_table.proofs.Listings.{is_above_yes, is_above_gives, is_above_no, not_above_gives, rows_below_mid}
+use Rattle.ts_model.proofs.Rows.{at_listed}
 
 -- ---- a path that is sought
 
@@ -39,11 +40,6 @@ rises {F} rows p up i j d le under = elim (same_or_less i j le) [
     go Greater e Equal f before = absurd (before_itself p (before_trans p (get_or rows i d).path p (before_flip (get_or rows i d).path p e) (subst (λ z. IsBefore (get_or rows i d).path z) (tied_paths (get_or rows j d).path p f) before)))
     go Greater e Greater f before = omega arith
 
--- below the root, what is there is what is listed
-at_listed : {F : Type 0} (rows : Listing F) (p : Path) → p ≢ [] → at rows p ≡ listed rows p
-at_listed rows [] some = absurd (some refl)
-at_listed rows (n ∷ p) some = refl
-
 -- a row of the path says what is there
 pub found : {F : Type 0} (rows : Listing F) (p : Path) (i : ℕ) (row : Row F) → Ascend rows → p ≢ [] → i < length rows → row ≡ get_or rows i row → path_cmp (get_or rows i row).path p ≡ Equal → row.content ≡ at rows p
 found rows p i row up some under is tied = listed_found rows p i row up under is tied ∙ sym (at_listed rows p some)
@@ -53,12 +49,6 @@ pub not_found : {F : Type 0} (rows : Listing F) (p : Path) (i : ℕ) → p ≢ [
 not_found rows p i some under parted = not_listed rows p i under parted ∙ sym (at_listed rows p some)
 
 -- ---- the rows at or below a path
-
--- the test for `Less`
-pub is_lt_Less : (o : Ordering) → is_lt o ≡ true → o ≡ Less
-is_lt_Less Less e = refl
-is_lt_Less Equal e = cc
-is_lt_Less Greater e = cc
 
 -- those before it come first
 pub before_parts : {F : Type 0} (rows : Listing F) (p : Path) → Ascend rows → IsPartitionedBy (λ row. is_lt (path_cmp row.path p)) rows

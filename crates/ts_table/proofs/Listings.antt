@@ -11,7 +11,8 @@ use Rattle.ts_name.specs.Laws.{same_path_equal, same_path_differ}
 use Rattle.ts_name.proofs.Prefixes.{below_append, below_gives, decide_above}
 use Rattle.ts_name.proofs.Order.{before_cases, before_trans, before_itself}
 use Rattle.ts_name.proofs.Basics.{by_each, at_each, weaker}
-use Rattle.ts_table.proofs.Rows.{ascend_rest, ascend_first, ascend_cons, ascend_pair, listed_none, listed_here}
+use Rattle.ts_table.proofs.Rows.{ascend_first, ascend_cons, ascend_pair, listed_none}
+use Rattle.ts_model.proofs.Rows.{listed_here, ascend_rest}
 
 -- ---- one listing
 

@@ -13,12 +13,12 @@ use Rattle.ts_model.specs.declared.row.Row.{Row}
 use Rattle.ts_table.specs.Tables.{IsPlace}
 use Rattle.ts_name.specs.Laws.{same_path_differ}
 use Rattle.ts_name.proofs.Prefixes.{same_parent, snoc_not_empty, last_name}
-use Rattle.ts_name.proofs.Order.{late_between, before_itself, before_below}
+use Rattle.ts_name.proofs.Order.{late_between, before_itself, before_below, is_lt_Less}
 use Rattle.ts_name.proofs.Basics.{weaker}
-use Rattle.ts_table.proofs.Rows.{all_before, all_from, ascend_rest, ascend_first, listed_none, listed_here, listed_before}
-use Rattle.ts_table.proofs.Found.{is_lt_Less}
+use Rattle.ts_table.proofs.Rows.{all_before, all_from, ascend_first, listed_none, listed_before}
 use Rattle.ts_table.proofs.Cuts.{HasParents, IsListing-front}
 use Rattle.ts_table.proofs.Last.{all_get, all_until}
+use Rattle.ts_model.proofs.Rows.{at_listed, listed_here, ascend_rest}
 
 -- above whatever is there stands a directory
 pub above_dir : {F : Type 0} (t : Path → Content F) → HasParents t → (p : Path) (name : Name) (rest : Path) → t (p ++ name ∷ rest) ≢ Absent → t p ≡ Dir
@@ -34,11 +34,6 @@ listed_got {F} (x ∷ rows) (suc n) row e up =
     let before : IsBefore x.path row.path = all_get (λ (other : Row F). IsBefore x.path other.path) rows n row e (ascend_first x rows up) in
     cond-false _ _ _ (same_path_differ x.path row.path (λ same. before_itself x.path (subst (λ z. IsBefore x.path z) (sym same) before)))
     ∙ listed_got rows n row e (ascend_rest x rows up)
-
--- below the root, what is there is what is listed
-at_is_listed : {F : Type 0} (rows : Listing F) (p : Path) → p ≢ [] → at rows p ≡ listed rows p
-at_is_listed rows [] some = absurd (some refl)
-at_is_listed rows (n ∷ p) some = refl
 
 -- p has a parent, which is q or above it
 abbrev pub HasParentAbove : Path → Path → Type 0
@@ -59,7 +54,7 @@ place_from_last {F} rows p n row lists got h may = record {
     is_row = all_get (λ (other : Row F). IsPath other.path × (other.path ≢ []) × (other.content ≢ Absent)) rows n row got lists.rows_are
 
     here : at rows row.path ≡ row.content
-    here = at_is_listed rows row.path is_row.1 ∙ listed_got rows n row got lists.ascending
+    here = at_listed rows row.path is_row.1 ∙ listed_got rows n row got lists.ascending
 
     dir : (rest : Path) → row.path ≡ h.0 ++ rest → at rows h.0 ≡ Dir
     dir [] e =
@@ -79,7 +74,7 @@ last_from_place {F} rows p n row lists long count got before q name is dir = ((q
     named = parent_named p q name long is
 
     there : listed rows q ≡ Dir
-    there = sym (at_is_listed rows q named) ∙ dir
+    there = sym (at_listed rows q named) ∙ dir
 
     row_before : IsBefore row.path p
     row_before = all_get (λ (other : Row F). IsBefore other.path p) rows n row got before

@@ -16,9 +16,10 @@ use Rattle.ts_name.proofs.Prefixes.{below_gives, not_above}
 use Rattle.ts_name.proofs.Order.{cmp_below}
 use Rattle.ts_name.proofs.Utf8.{all_append, all_parts}
 use Rattle.ts_name.proofs.Basics.{by_each, weaker}
-use Rattle.ts_table.proofs.Rows.{ascend_rest, ascend_first, ascend_cons}
+use Rattle.ts_table.proofs.Rows.{ascend_first, ascend_cons}
 use Rattle.ts_table.proofs.Listings.{filter_ascend, filter_all, listed_below}
 use Rattle.ts_table.proofs.Cuts.{HasParents, IsPath-root}
+use Rattle.ts_model.proofs.Rows.{ascend_rest}
 
 -- rows are seen from a path part by part
 pub relative_append : {F : Type 0} (p : Path) (xs ys : Listing F) → relative p (xs ++ ys) ≡ relative p xs ++ relative p ys

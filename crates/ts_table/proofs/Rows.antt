@@ -14,6 +14,7 @@ use Rattle.ts_name.proofs.Basics.{by_each, weaker}
 use Rattle.ts_name.specs.Laws.{same_path_equal, same_path_itself, same_path_differ}
 use Rattle.ts_name.proofs.Prefixes.{below_gives, not_above}
 use Rattle.ts_name.proofs.Order.{before_trans, cmp_below, before_not_below}
+use Rattle.ts_model.proofs.Rows.{ascend_rest}
 
 -- ---- the two parts of a search
 
@@ -26,11 +27,6 @@ pub all_from : {A : Type 0} (P : A → Type 0) (xs : List A) (n : ℕ) → n ≤
 all_from P xs n short h = recursion_from_All P (drop n xs) (λ k d below. let cut = length-drop n xs in rw get_or-drop (h (n + k) d (omega arith) (omega arith)))
 
 -- ---- what ascends
-
--- the rows after the first ascend
-pub ascend_rest : {F : Type 0} (row : Row F) (rows : Listing F) → Ascend (row ∷ rows) → Ascend rows
-ascend_rest row [] h = tt
-ascend_rest row (next ∷ rows) h = h.1
 
 -- the first comes before each other
 pub ascend_first : {F : Type 0} (row : Row F) (rows : Listing F) → Ascend (row ∷ rows) → AllByRecursion (λ other. IsBefore row.path other.path) rows
@@ -114,10 +110,6 @@ append_none (x ∷ xs) = ap (λ z. x ∷ z) (append_none xs)
 -- rows of other paths at the end do not count
 pub listed_before : {F : Type 0} (xs ys : Listing F) (p : Path) → AllByRecursion (λ row. row.path ≢ p) ys → listed (xs ++ ys) p ≡ listed xs p
 listed_before xs ys p all = listed_append xs ys [] p (listed_none ys p all) ∙ ap (λ z. listed z p) (append_none xs)
-
--- the first row says what is at its path
-pub listed_here : {F : Type 0} (row : Row F) (rows : Listing F) → listed (row ∷ rows) row.path ≡ row.content
-listed_here row rows = rw (same_path_itself row.path)
 
 -- rows that are placed at a path list there what they list by themselves
 pub listed_placed : {F : Type 0} (p : Path) (rows : Listing F) (rest : Path) → listed (placed p rows) (p ++ rest) ≡ listed rows rest

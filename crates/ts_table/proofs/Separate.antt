@@ -4,9 +4,8 @@ use Rattle.std.specs.List.{AllByRecursion}
 use Rattle.std.specs.Ordering.{is_lt}
 use Rattle.ts_name.specs.Paths.{Path, IsAbove, IsBefore, path_cmp}
 use Rattle.ts_table.specs.Splits.{AreSeparate}
-use Rattle.ts_name.proofs.Order.{late_between, before_itself, before_trans}
+use Rattle.ts_name.proofs.Order.{late_between, before_itself, before_trans, is_lt_Less}
 use Rattle.ts_name.proofs.Basics.{weaker}
-use Rattle.ts_table.proofs.Found.{is_lt_Less}
 
 -- what comes after a path doesn't come before it
 not_early : (p q : Path) → IsBefore p q → is_lt (path_cmp q p) ≡ false

@@ -61,7 +61,9 @@ pub record RoomFits {F : Type 0} (rows : Listing F) (room : Room F) : Type 0 whe
 -- each slot has a path for each of the rows that go with its own, when its turn comes
 abbrev pub SlotsFit : {F : Type 0} → Listing F → List (Slot F) → Type 0
 SlotsFit rows [] = Unit {0}
-SlotsFit rows (slot ∷ slots) = (slot.names.items ≡ paths_of (relative slot.path (taken slot.path rows))) × IsSubListing (relative slot.path (taken slot.path rows)) × HasRoom slot × SlotsFit (passed slot.path rows) slots
+SlotsFit rows (slot ∷ slots) =
+    (slot.names.items ≡ paths_of (relative slot.path (taken slot.path rows))) × IsSubListing (relative slot.path (taken slot.path rows))
+    × HasRoom slot × SlotsFit (passed slot.path rows) slots
 
 -- ---- into a table
 

@@ -1,8 +1,7 @@
 //! What a table's files are copied by.
-ghost use Rattle.std.specs.Prelude.{◌≡◌, IfErr, IfOk, MatchResult};
+ghost use Rattle.std.specs.Prelude.{◌≡◌, IfOk};
 ghost use Rattle.ts_model.specs.Trees.{at, listed, sub};
 
-use crate::fault::TableFault;
 use crate::subtable::SubTable;
 use crate::table::Table;
 use std::alloc::{AllocError, Global};
@@ -50,8 +49,8 @@ pub(crate) fn copy_content<F: CopyFile>(
 }
 
 /// The same rows once more.
-fn copy_rows<F: CopyFile + Drop>(alloc: Global, rows: &[Row<F>]) -> Result<Vec<Row<F>>, TableFault>
-    ensures { MatchResult result (λ copy. copy.items ≡ rows.now) (λ e. e ≡ TableFault.OutOfMemory) }
+fn copy_rows<F: CopyFile + Drop>(alloc: Global, rows: &[Row<F>]) -> Result<Vec<Row<F>>, AllocError>
+    ensures { IfOk result (λ copy. copy.items ≡ rows.now) }
 {
     let mut copies = Vec::new(alloc);
     for row in rows {
@@ -64,8 +63,8 @@ fn copy_rows<F: CopyFile + Drop>(alloc: Global, rows: &[Row<F>]) -> Result<Vec<R
 
 impl<F: CopyFile + Drop> SubTable<F> {
     /// The same part once more.
-    pub fn copy(&self, alloc: Global) -> Result<SubTable<F>, TableFault>
-        ensures { MatchResult result (λ part. part ≡ self.now) (λ e. e ≡ TableFault.OutOfMemory) }
+    pub fn copy(&self, alloc: Global) -> Result<SubTable<F>, AllocError>
+        ensures { IfOk result (λ part. part ≡ self.now) }
     {
         let rows = copy_rows(alloc, self.rows())?;
         Ok(SubTable { rows })
@@ -74,17 +73,16 @@ impl<F: CopyFile + Drop> SubTable<F> {
 
 impl<F: CopyFile + Drop> Table<F> {
     /// The same table once more.
-    pub fn copy(&self, alloc: Global) -> Result<Table<F>, TableFault>
-        ensures { MatchResult result (λ table. table ≡ self.now) (λ e. e ≡ TableFault.OutOfMemory) }
+    pub fn copy(&self, alloc: Global) -> Result<Table<F>, AllocError>
+        ensures { IfOk result (λ table. table ≡ self.now) }
     {
         let rows = copy_rows(alloc, self.rows())?;
         Ok(Table { rows })
     }
 
     /// What is at a path and below it, by the rest of the path.
-    pub fn sub_table(&self, alloc: Global, path: &Path) -> Result<SubTable<F>, TableFault>
+    pub fn sub_table(&self, alloc: Global, path: &Path) -> Result<SubTable<F>, AllocError>
         ensures part { IfOk result (λ part. listed part ≡ sub (at self.now) path.now) }
-        ensures fault { IfErr result (λ e. e ≡ TableFault.OutOfMemory) }
     {
         let mut rows = Vec::new(alloc);
         if path.is_root() {

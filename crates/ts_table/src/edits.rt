@@ -9,7 +9,7 @@ ghost use Rattle.ts_table.specs.Tables.{IsPlace, placed};
 use crate::fault::TableFault;
 use crate::subtable::SubTable;
 use crate::table::{Table, bounds};
-use std::alloc::Global;
+use std::alloc::{AllocError, Global};
 use ts_name::Path;
 
 impl<F: Drop> Table<F> {
@@ -34,15 +34,18 @@ impl<F: Drop> Table<F> {
         Ok(())
     }
 
-    /// Makes a path a directory with nothing below it. After an error nothing has changed.
-    pub fn make_dir(&mut self, alloc: Global, path: &Path) -> Result<(), TableFault>
+    /// Makes a path a directory with nothing below it. Where memory runs out nothing changes.
+    pub fn make_dir(&mut self, alloc: Global, path: &Path) -> Result<(), AllocError>
         requires { IsPlace (at self.old) path.now }
         ensures ok { OnOk result (at self.new ≡ graft (at self.old) path.now bare_directory) }
-        ensures fault { IfErr result (λ e. e ≡ TableFault.OutOfMemory) }
         ensures err { OnErr result (self.new ≡ self.old) }
     {
         prove!(path.depth() <= 64);
         let bare = SubTable::dir(alloc)?;
-        self.replace(alloc, path, bare)
+        match self.replace(alloc, path, bare) {
+            Ok(()) => Ok(()),
+            Err(TableFault::OutOfMemory) => Err(AllocError),
+            Err(TableFault::TooLong) => unreachable!(),
+        }
     }
 }

@@ -1,11 +1,10 @@
 //! Why a table can't be changed.
 ghost use Rattle.std.specs.Prelude.{◌≡◌};
-ghost use Rattle.ts_table.specs.Faults.{fault_number, fault_of_path};
+ghost use Rattle.ts_table.specs.Faults.{fault_number};
 ghost use Rattle.ts_table.specs.declared.fault.TableFault.TheVariants as fault;
 
 use std::alloc::{AllocError, AllocFailed};
 use thiserror::Error;
-use ts_name::PathFault;
 
 /// Why a table can't be changed.
 #[derive(Debug, Drop, Error)]
@@ -43,17 +42,5 @@ impl<T: Drop> From<AllocFailed<T>> for TableFault {
 
     fn from(_e: AllocFailed<T>) -> TableFault {
         TableFault::OutOfMemory
-    }
-}
-
-impl From<PathFault> for TableFault {
-    ghost from_gives = { λ p e. e ≡ fault_of_path p };
-
-    fn from(e: PathFault) -> TableFault {
-        match e {
-            PathFault::TooLong => TableFault::TooLong,
-            PathFault::OutOfMemory | PathFault::BadName | PathFault::BadText =>
-                TableFault::OutOfMemory,
-        }
     }
 }

@@ -9,11 +9,10 @@ ghost use Rattle.ts_table.specs.Splices.{spliced};
 ghost use Rattle.ts_table.specs.Splits.{ArePartsAt, AreSeparate, IsFrame, MaySplit, without};
 ghost use Rattle.ts_table.specs.Tables.{IsPlace, relative};
 
-use crate::fault::TableFault;
 use crate::splice::move_before;
 use crate::subtable::SubTable;
 use crate::table::Table;
-use std::alloc::Global;
+use std::alloc::{AllocError, Global};
 use std::collections::VecDeque;
 use std::marker::Model;
 use ts_model::row::Row;
@@ -131,17 +130,17 @@ impl<F: Drop> Table<F> {
     /// Takes the parts at the paths out of the table. What is left is the frame; `join` puts parts back.
     ///
     /// The paths ascend, none is above another, none is the root, and the parent of each is a directory. At some of them
-    /// there may be nothing. After want of memory, the only fault, the table comes back as it was.
+    /// there may be nothing. Where memory runs out the table comes back as it was.
     pub fn split(
         self,
         alloc: Global,
         paths: &[Path],
-    ) -> Result<(Frame<F>, Vec<SubTable<F>>), (Table<F>, TableFault)>
+    ) -> Result<(Frame<F>, Vec<SubTable<F>>), (Table<F>, AllocError)>
         requires { MaySplit (at self) paths.now }
         ensures paths { IfOk result (λ r. r.0.paths ≡ paths.now) }
         ensures parts { IfOk result (λ r. ArePartsAt (at self) paths.now r.1.items) }
         ensures frame { IfOk result (λ r. at r.0.rows ≡ without (at self) paths.now) }
-        ensures err { IfErr result (λ r. (r.0 ≡ self) × (r.1 ≡ TableFault.OutOfMemory)) }
+        ensures err { IfErr result (λ r. r.0 ≡ self) }
     {
         match self.room_to_split(alloc, paths) {
             Ok(room) => {
@@ -152,10 +151,9 @@ impl<F: Drop> Table<F> {
         }
     }
 
-    fn room_to_split(&self, alloc: Global, paths: &[Path]) -> Result<Room<F>, TableFault>
+    fn room_to_split(&self, alloc: Global, paths: &[Path]) -> Result<Room<F>, AllocError>
         ensures room { IfOk result (λ room. RoomFits self.now room) }
         ensures paths { IfOk result (λ room. slot_paths room.slots.items ≡ paths.now) }
-        ensures fault { IfErr result (λ e. e ≡ TableFault.OutOfMemory) }
     {
         let mut slots = Vec::new(alloc);
         for path in paths {
@@ -170,10 +168,9 @@ impl<F: Drop> Table<F> {
     }
 
     /// The slot for what is at a path and below it.
-    fn slot(&self, alloc: Global, path: &Path) -> Result<Slot<F>, TableFault>
+    fn slot(&self, alloc: Global, path: &Path) -> Result<Slot<F>, AllocError>
         ensures path { IfOk result (λ slot. slot.path ≡ path.now) }
         ensures fits { IfOk result (λ slot. SlotFits self.now slot) }
-        ensures fault { IfErr result (λ e. e ≡ TableFault.OutOfMemory) }
     {
         let names = paths_below(alloc, path, self.sub(path))?;
         let room = Vec::with_capacity(alloc, names.len())?;
@@ -183,9 +180,8 @@ impl<F: Drop> Table<F> {
 }
 
 /// The paths of rows, seen from a path above them.
-fn paths_below<F>(alloc: Global, top: &Path, rows: &[Row<F>]) -> Result<Vec<Path>, TableFault>
+fn paths_below<F>(alloc: Global, top: &Path, rows: &[Row<F>]) -> Result<Vec<Path>, AllocError>
     ensures paths { IfOk result (λ paths. paths.items ≡ paths_of (relative top.now rows.now)) }
-    ensures fault { IfErr result (λ e. e ≡ TableFault.OutOfMemory) }
 {
     let mut paths = Vec::new(alloc);
     for row in rows {

@@ -100,17 +100,8 @@ fn slot_at<F: Drop>(alloc: Global, path: &Path, part: &SubTable<F>) -> Result<Sl
 {
     let names = paths_at(alloc, path, part.rows())?;
     let room = Vec::with_capacity(alloc, names.len())?;
-    let path = copied(alloc, path)?;
-    Ok(Slot { path, names, room })
-}
-
-/// The path once more. It is no longer than it was.
-fn copied(alloc: Global, path: &Path) -> Result<Path, TableFault>
-    ensures ok { IfOk result (λ p. p ≡ path.now) }
-    ensures fault { IfErr result (λ e. e ≡ TableFault.OutOfMemory) }
-{
     let path = path.copy(alloc)?;
-    Ok(path)
+    Ok(Slot { path, names, room })
 }
 
 /// The paths of rows, as they stand below a path.

@@ -8,10 +8,10 @@ ghost use Rattle.ts_table.specs.Tables.{placed, seen};
 
 use crate::fault::TableFault;
 use crate::table::content_of;
-use std::alloc::Global;
+use std::alloc::{AllocError, Global};
 use std::marker::Model;
 use ts_model::row::{Content, Row};
-use ts_name::Path;
+use ts_name::{Path, PathFault};
 
 /// What is at a path and below it, as rows whose paths are relative to it: the path itself first. No rows where nothing is.
 #[derive(Drop)]
@@ -79,25 +79,22 @@ impl<F> SubTable<F> {
 
 impl<F: Drop> SubTable<F> {
     /// A directory with nothing below.
-    pub fn dir(alloc: Global) -> Result<Self, TableFault>
+    pub fn dir(alloc: Global) -> Result<Self, AllocError>
         ensures ok { IfOk result (λ part. part ≡ record { path = []; content = Content.Dir } ∷ []) }
-        ensures fault { IfErr result (λ e. e ≡ TableFault.OutOfMemory) }
     {
         SubTable::single(alloc, Content::Dir)
     }
 
     /// A file.
-    pub fn file(alloc: Global, file: F) -> Result<Self, TableFault>
+    pub fn file(alloc: Global, file: F) -> Result<Self, AllocError>
         ensures ok { IfOk result (λ part. part ≡ record { path = []; content = Content.File file } ∷ []) }
-        ensures fault { IfErr result (λ e. e ≡ TableFault.OutOfMemory) }
     {
         SubTable::single(alloc, Content::File(file))
     }
 
-    fn single(alloc: Global, content: Content<F>) -> Result<Self, TableFault>
+    fn single(alloc: Global, content: Content<F>) -> Result<Self, AllocError>
         requires { content ≢ Content.Absent }
         ensures ok { IfOk result (λ part. part ≡ record { path = []; content = content } ∷ []) }
-        ensures fault { IfErr result (λ e. e ≡ TableFault.OutOfMemory) }
     {
         let mut rows = Vec::new(alloc);
         rows.push(Row {
@@ -125,11 +122,16 @@ impl<F: Drop> SubTable<F> {
     }
 }
 
-/// A path that goes on from another.
+/// A path that goes on from another, or `TooLong` exactly where it would be past the limits.
 pub(crate) fn joined(alloc: Global, top: &Path, rest: &Path) -> Result<Path, TableFault>
     ensures ok { IfOk result (λ p. (p ≡ top.now ++ rest.now) × IsPath p) }
     ensures too_long { IsErrOf result TableFault.TooLong → ¬ IsPath (top.now ++ rest.now) }
+    ensures past { (¬ IsPath (top.now ++ rest.now)) → IsErrOf result TableFault.TooLong }
 {
-    let path = top.join(alloc, rest)?;
-    Ok(path)
+    match top.join(alloc, rest) {
+        Ok(path) => Ok(path),
+        Err(PathFault::OutOfMemory) => Err(TableFault::OutOfMemory),
+        Err(PathFault::TooLong) => Err(TableFault::TooLong),
+        Err(PathFault::BadName | PathFault::BadText) => unreachable!(),
+    }
 }

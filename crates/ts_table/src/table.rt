@@ -6,8 +6,7 @@ ghost use Rattle.ts_model.specs.declared.row.Content.{Content};
 ghost use Rattle.ts_model.specs.Trees.{Ascend, IsListing, at, sub};
 ghost use Rattle.ts_table.specs.Tables.{rows_below, seen, IsCut, IsPlace};
 
-use crate::fault::TableFault;
-use std::alloc::Global;
+use std::alloc::{AllocError, Global};
 use std::marker::Model;
 use ts_model::row::{Content, Row};
 use ts_name::Path;
@@ -129,13 +128,12 @@ impl<F> Table<F> {
         is_after(path, self.rows()) && is_place_after(self.rows(), path)
     }
 
-    /// Puts a row at the end. After an error nothing has changed, and the row is dropped.
-    pub fn push(&mut self, row: Row<F>) -> Result<(), TableFault>
+    /// Puts a row at the end. Where memory runs out nothing changes, and the row is dropped.
+    pub fn push(&mut self, row: Row<F>) -> Result<(), AllocError>
     where
         F: Drop,
         requires { IsListing (self.old ++ row ∷ []) }
         ensures rows { self.new ≡ (if is_ok result then self.old ++ row ∷ [] else self.old) }
-        ensures fault { IfErr result (λ e. e ≡ TableFault.OutOfMemory) }
     {
         self.rows.push(row)?;
         Ok(())

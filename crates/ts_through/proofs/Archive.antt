@@ -10,20 +10,19 @@ use Rattle.ts_model.specs.Runs.{Run, graft, marked}
 use Rattle.ts_model.specs.Sync.{IsSkipped, Snapshot, is_skipped}
 use Rattle.ts_model.specs.declared.plan.Entry.{Entry}
 use Rattle.ts_model.specs.declared.plan.Reason.{Reason}
-use Rattle.ts_model.specs.declared.plan.Reason.TheVariants as reason
 use Rattle.ts_model.specs.declared.row.Content.TheVariants.{Absent}
 use Rattle.ts_model.specs.declared.row.Stamp.{Stamp}
 use Rattle.ts_laws.specs.Carried.{marked_all}
 use Rattle.ts_laws.proofs.Carried.{skipped_from_test, test_from_skipped}
 use Rattle.ts_laws.proofs.Plans.{mark_exists}
 use Rattle.ts_laws.proofs.Steps.{mark_is_marked}
-use Rattle.ts_carry.specs.Edits.{left_by, marks, with_put}
+use Rattle.ts_board.specs.Edits.{left_by, marks, with_put}
 use Rattle.ts_check.specs.Checkup.{Checkup, snapshot_of}
 use Rattle.ts_board.specs.Archives.{AreMarked, LeftArchive, picked}
 use Rattle.ts_board.specs.Checks.{IsFromCheck}
 use Rattle.ts_board.specs.Kept.{HasLeft}
 use Rattle.ts_board.specs.declared.law.Terms.{Terms}
-use Rattle.ts_board.proofs.Archives.{marks_leave}
+use Rattle.ts_board.proofs.Archives.{marks_leave, put_mark}
 
 -- ---- flags for the entries that have a mark
 
@@ -56,15 +55,7 @@ mark_flag (x ∷ entries) (suc e) entry is unskipped = mark_flag entries e entry
 -- what an entry with a mark puts
 put_is : (s : Snapshot) (t : Print) (entry : Entry) → is_skipped entry.reason ≡ false
     → with_put t entry.path (marks s.first s.second entry.reason entry.path) ≡ graft t entry.path (marked s entry.reason entry.path)
-put_is s t entry unskipped = go entry.reason unskipped
-  where
-    go : (r : Reason) → is_skipped r ≡ false → with_put t entry.path (marks s.first s.second r entry.path) ≡ graft t entry.path (marked s r entry.path)
-    go reason.Same h = refl
-    go reason.First h = refl
-    go reason.Second h = refl
-    go reason.Dir h = refl
-    go reason.Conflict h = absurd (true≢false h)
-    go reason.Held h = absurd (true≢false h)
+put_is s t entry unskipped = put_mark s t entry.path entry.reason (test_from_skipped entry.reason unskipped)
 
 -- the flagged entries leave what all do
 flagged_leave : (s : Snapshot) (entries : List Entry) (t : Print) → left_by (marks s.first s.second) t (picked entries (map has_mark entries)) ≡ marked_all s t entries

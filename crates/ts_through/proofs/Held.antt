@@ -12,7 +12,6 @@ use Rattle.ts_model.specs.declared.row.Content.TheVariants.{Absent}
 use Rattle.ts_model.specs.declared.plan.Entry.{Entry}
 use Rattle.ts_model.specs.declared.plan.Kind.TheVariants.{Piece, Commit}
 use Rattle.ts_model.specs.declared.plan.Plan.{Plan}
-use Rattle.ts_model.specs.declared.plan.Reason.{Reason}
 use Rattle.ts_model.specs.declared.plan.Side.{Side}
 use Rattle.ts_model.specs.declared.plan.Side.TheVariants as side
 use Rattle.ts_model.specs.declared.step.Step.{Step}
@@ -30,7 +29,7 @@ use Rattle.ts_folder.specs.declared.folder.Call.{Call}
 use Rattle.ts_board.specs.Terms.{IsToldIn, site_in, terms_with, told_after, told_in, work_in}
 use Rattle.ts_board.specs.declared.law.Slot.{Slot}
 use Rattle.ts_board.specs.declared.law.Slot.TheVariants.{Empty, Place, Committed, Bytes}
-use Rattle.ts_exec.specs.Failures.{of_side, setting_of}
+use Rattle.ts_exec.specs.Failures.{of_side, setting_with}
 use Rattle.ts_exec.specs.Outcomes.{IsOutcome}
 use Rattle.ts_exec.specs.declared.outcome.ActionResult.{ActionResult}
 use Rattle.ts_exec.specs.declared.outcome.ActionResult.TheVariants.{Done}
@@ -115,7 +114,7 @@ is_worked s plan r legal =
 module _ (k : Checkup) (valid : Valid (snapshot_of k) k.plan) (failures : Listing (List ℕ) → ℕ) (lets : Listing (List ℕ) → Call → Path → Trouble → Type 0)
     (first second : Listing (List ℕ)) (first_is : at k.first ≡ print_of (at first)) (second_is : at k.second ≡ print_of (at second))
     (opening slots : List (Slot (Listing (List ℕ)))) (words : List ℕ) (results : List ActionResult)
-    (o : IsOutcome all_told (setting_of failures all_told lets k first second (map (told_in all_told) opening)) (terms_with all_told k.plan k.first k.second opening) results words slots)
+    (o : IsOutcome all_told (setting_with failures all_told lets k first second (map (told_in all_told) opening)) (terms_with all_told k.plan k.first k.second opening) results words slots)
     (all : (i : ℕ) → i < length results → slice_get results i ≡ Some Done) where
   print_is : (from : Side) → print_of (at (of_side first second from)) ≡ replica (snapshot_of k) from
   print_is side.First = sym first_is
@@ -162,15 +161,15 @@ module _ (k : Checkup) (valid : Valid (snapshot_of k) k.plan) (failures : Listin
 module _ (s : Snapshot) (plan : Plan) (valid : Valid s plan) (first second : Listing (List ℕ)) (slots : List (Slot (Listing (List ℕ)))) (parts : List (Listing (List ℕ)))
     (all_held : AreHeld plan first second slots) (taken : AreTaken plan slots parts) where
   -- each entry that is copied has its part
-  pub laid : (r : Reason) (from : Side) → source r ≡ Some from → AreLaid r (at (of_side first second from)) plan.entries parts
-  laid r from is e entry there why =
-      let copied : source entry.reason ≡ Some from = ap source why ∙ is in
+  pub laid : (from : Side) → AreLaid from (at (of_side first second from)) plan.entries parts
+  laid from e entry there copied =
       let commit = commit_exists s plan valid e entry from there copied in
       let has = all_held commit.0 e entry from commit.1 (there, copied) in
       (has.0, taken commit.0 e has.0 commit.1 has.1, has.2)
 
--- also after parts of entries of another reason were taken out
-pub still_laid : (r other : Reason) → r ≢ other → (tree : Tree) (entries : List Entry) (old new : List (Listing (List ℕ))) → AreLaid r tree entries old → KeepsOthers other entries old new → AreLaid r tree entries new
-still_laid r other differ tree entries old new are keeps e entry there why =
+-- also after parts of entries that are copied from the other side were taken out
+pub still_laid : (on other : Side) → on ≢ other → (tree : Tree) (entries : List Entry) (old new : List (Listing (List ℕ)))
+    → AreLaid on tree entries old → KeepsOthers other entries old new → AreLaid on tree entries new
+still_laid on other differ tree entries old new are keeps e entry there why =
     let part = are e entry there why in
-    (part.0, keeps e entry there (λ same. differ (sym why ∙ same)) ∙ part.1, part.2)
+    (part.0, keeps e entry there (λ same. differ (same_Some on other (sym why ∙ same))) ∙ part.1, part.2)

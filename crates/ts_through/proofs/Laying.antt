@@ -4,21 +4,21 @@ use Rattle.std.proofs.lemmas.Bool.{cases_eq}
 use Rattle.std.proofs.lemmas.Option.{same_Some, slice_get-get_or, slice_get_within}
 use Rattle.ts_model.specs.Trees.{Listing, Tree, sub}
 use Rattle.ts_model.specs.declared.plan.Entry.{Entry}
-use Rattle.ts_model.specs.declared.plan.Reason.{Reason}
+use Rattle.ts_model.specs.declared.plan.Side.{Side}
 use Rattle.ts_table.specs.Splits.{ArePartsAt}
-use Rattle.ts_laws.specs.Carried.{same_reason}
-use Rattle.ts_laws.proofs.Carried.{same_reason_itself}
+use Rattle.ts_model.proofs.Reasons.{test_from_source}
 use Rattle.ts_check.proofs.Scans.{got_beside, got_set}
-use Rattle.ts_through.specs.Parts.{AreLaid, IsLaid, paths_with}
-use Rattle.ts_through.proofs.Parts.{from_here, other_reason}
+use Rattle.ts_through.specs.Parts.{AreLaid, IsLaid, paths_from}
+use Rattle.ts_through.proofs.Parts.{from_here, from_elsewhere}
+use Rattle.ts_model.specs.Plans.{is_from, source}
 
 -- the parts of the entries below n are laid
-abbrev pub AreLaidBelow : ℕ → Reason → Tree → List Entry → List (Listing (List ℕ)) → Type 0
-AreLaidBelow n r t entries parts = (e : ℕ) (entry : Entry) → e < n → slice_get entries e ≡ Some entry → entry.reason ≡ r → IsLaid t entry.path parts e
+abbrev pub AreLaidBelow : ℕ → Side → Tree → List Entry → List (Listing (List ℕ)) → Type 0
+AreLaidBelow n on t entries parts = (e : ℕ) (entry : Entry) → e < n → slice_get entries e ≡ Some entry → source entry.reason ≡ Some on → IsLaid t entry.path parts e
 
 -- and what is left is for the entries from n on
-abbrev pub AreLaying : ℕ → Reason → Tree → List Entry → List (Listing (List ℕ)) → List (Listing (List ℕ)) → Type 0
-AreLaying n r t entries left parts = ArePartsAt t (paths_with r (drop n entries)) left × AreLaidBelow n r t entries parts
+abbrev pub AreLaying : ℕ → Side → Tree → List Entry → List (Listing (List ℕ)) → List (Listing (List ℕ)) → Type 0
+AreLaying n on t entries left parts = ArePartsAt t (paths_from on (drop n entries)) left × AreLaidBelow n on t entries parts
 
 -- the entry at place n
 pub this_one : (entries : List Entry) (n : ℕ) (entry : Entry) → n < length entries → entry ≡ get_or entries n entry → (e : ℕ) (other : Entry) → e ≡ n → slice_get entries e ≡ Some other → entry ≡ other
@@ -28,23 +28,23 @@ pub nothing_left : {A : Type 0} (xs : List A) → length xs ≡ 0 → xs ≡ []
 nothing_left [] e = refl
 nothing_left (x ∷ xs) e = absurd (omega arith)
 
-module _ (r : Reason) (t : Tree) (entries : List Entry) (n : ℕ) (entry : Entry) (within : n < length entries) (is : entry ≡ get_or entries n entry) where
+module _ (on : Side) (t : Tree) (entries : List Entry) (n : ℕ) (entry : Entry) (within : n < length entries) (is : entry ≡ get_or entries n entry) where
   -- what is left is for this entry and those after it
-  from_this : (left : List (Listing (List ℕ))) → ArePartsAt t (paths_with r (drop n entries)) left
-      → ArePartsAt t (cond (same_reason entry.reason r) (entry.path ∷ paths_with r (drop (n + 1) entries)) (paths_with r (drop (n + 1) entries))) left
-  from_this left h = subst (λ (es : List Entry). ArePartsAt t (paths_with r es) left) (from_here entries n entry within is) h
+  from_this : (left : List (Listing (List ℕ))) → ArePartsAt t (paths_from on (drop n entries)) left
+      → ArePartsAt t (cond (is_from on entry.reason) (entry.path ∷ paths_from on (drop (n + 1) entries)) (paths_from on (drop (n + 1) entries))) left
+  from_this left h = subst (λ (es : List Entry). ArePartsAt t (paths_from on es) left) (from_here entries n entry within is) h
 
-  first_left : entry.reason ≡ r → (left : List (Listing (List ℕ))) → ArePartsAt t (paths_with r (drop n entries)) left → ArePartsAt t (entry.path ∷ paths_with r (drop (n + 1) entries)) left
+  first_left : source entry.reason ≡ Some on → (left : List (Listing (List ℕ))) → ArePartsAt t (paths_from on (drop n entries)) left → ArePartsAt t (entry.path ∷ paths_from on (drop (n + 1) entries)) left
   first_left why left h =
-      subst (λ b. ArePartsAt t (cond b (entry.path ∷ paths_with r (drop (n + 1) entries)) (paths_with r (drop (n + 1) entries))) left)
-      (ap (λ x. same_reason x r) why ∙ same_reason_itself r) (from_this left h)
+      subst (λ b. ArePartsAt t (cond b (entry.path ∷ paths_from on (drop (n + 1) entries)) (paths_from on (drop (n + 1) entries))) left)
+      (test_from_source on entry.reason why) (from_this left h)
 
   -- an entry of this reason gets the next part
-  pub laid_more : (part : Listing (List ℕ)) (left rest parts : List (Listing (List ℕ))) → entry.reason ≡ r → n < length parts → left ≡ part ∷ rest
-      → AreLaying n r t entries left parts → AreLaying (n + 1) r t entries rest (set parts n part)
+  pub laid_more : (part : Listing (List ℕ)) (left rest parts : List (Listing (List ℕ))) → source entry.reason ≡ Some on → n < length parts → left ≡ part ∷ rest
+      → AreLaying n on t entries left parts → AreLaying (n + 1) on t entries rest (set parts n part)
   laid_more part left rest parts why room is_left h =
-      let here : ArePartsAt t (entry.path ∷ paths_with r (drop (n + 1) entries)) (part ∷ rest) =
-      subst (λ l. ArePartsAt t (entry.path ∷ paths_with r (drop (n + 1) entries)) l) is_left (first_left why left h.0) in (
+      let here : ArePartsAt t (entry.path ∷ paths_from on (drop (n + 1) entries)) (part ∷ rest) =
+      subst (λ l. ArePartsAt t (entry.path ∷ paths_from on (drop (n + 1) entries)) l) is_left (first_left why left h.0) in (
         here.2,
         λ e other less at of. ⊎_elim
             (λ (same : e ≡ n). (
@@ -57,19 +57,19 @@ module _ (r : Reason) (t : Tree) (entries : List Entry) (n : ℕ) (entry : Entry
       )
 
   -- so there is one
-  pub some_left : (left parts : List (Listing (List ℕ))) → entry.reason ≡ r → left ≡ [] → ¬ AreLaying n r t entries left parts
-  some_left left parts why none h = subst (λ l. ArePartsAt t (entry.path ∷ paths_with r (drop (n + 1) entries)) l) none (first_left why left h.0)
+  pub some_left : (left parts : List (Listing (List ℕ))) → source entry.reason ≡ Some on → left ≡ [] → ¬ AreLaying n on t entries left parts
+  some_left left parts why none h = subst (λ l. ArePartsAt t (entry.path ∷ paths_from on (drop (n + 1) entries)) l) none (first_left why left h.0)
 
   -- another entry gets none
-  pub laid_past : (left parts : List (Listing (List ℕ))) → entry.reason ≢ r → AreLaying n r t entries left parts → AreLaying (n + 1) r t entries left parts
+  pub laid_past : (left parts : List (Listing (List ℕ))) → source entry.reason ≢ Some on → AreLaying n on t entries left parts → AreLaying (n + 1) on t entries left parts
   laid_past left parts other h = (
-    subst (λ b. ArePartsAt t (cond b (entry.path ∷ paths_with r (drop (n + 1) entries)) (paths_with r (drop (n + 1) entries))) left) (other_reason entry.reason r other) (from_this left h.0),
+    subst (λ b. ArePartsAt t (cond b (entry.path ∷ paths_from on (drop (n + 1) entries)) (paths_from on (drop (n + 1) entries))) left) (from_elsewhere on entry.reason other) (from_this left h.0),
     λ e one less at of. ⊎_elim
-        (λ (same : e ≡ n). absurd (other (ap (λ (z : Entry). z.reason) (this_one entries n entry within is e one same at) ∙ of)))
+        (λ (same : e ≡ n). absurd (other (ap (λ (z : Entry). source z.reason) (this_one entries n entry within is e one same at) ∙ of)))
         (λ (differ : e ≢ n). h.1 e one (omega arith) at of)
         (cases_eq e n),
   )
 
 -- at the end all are laid
-pub laid_all : (r : Reason) (t : Tree) (entries : List Entry) (n : ℕ) (left parts : List (Listing (List ℕ))) → length entries ≤ n → AreLaying n r t entries left parts → AreLaid r t entries parts
-laid_all r t entries n left parts past h e entry at why = let within = slice_get_within entries e entry at in h.1 e entry (omega arith) at why
+pub laid_all : (on : Side) (t : Tree) (entries : List Entry) (n : ℕ) (left parts : List (Listing (List ℕ))) → length entries ≤ n → AreLaying n on t entries left parts → AreLaid on t entries parts
+laid_all on t entries n left parts past h e entry at why = let within = slice_get_within entries e entry at in h.1 e entry (omega arith) at why

@@ -9,13 +9,10 @@ use Rattle.ts_model.specs.declared.plan.Action.{Action}
 use Rattle.ts_model.specs.declared.plan.Kind.{Kind}
 use Rattle.ts_model.specs.declared.plan.Kind.TheVariants.{Piece, Commit, Mark}
 use Rattle.ts_model.specs.declared.plan.Plan.{Plan}
-use Rattle.ts_model.specs.declared.plan.Reason.{Reason}
-use Rattle.ts_model.specs.declared.plan.Reason.TheVariants as reason
 use Rattle.ts_model.specs.declared.plan.Side.{Side}
 use Rattle.ts_model.specs.declared.plan.Side.TheVariants as side
 use Rattle.ts_laws.proofs.Steps.{same_kind}
 use Rattle.ts_check.proofs.Scans.{got_beside}
-use Rattle.ts_laws.proofs.Lists.{element_at}
 use Rattle.ts_board.specs.Terms.{commit_count, placed, site_in}
 use Rattle.ts_board.specs.declared.law.Slot.TheVariants.{Empty}
 use Rattle.ts_exec.specs.Failures.{of_side}
@@ -23,6 +20,7 @@ use Rattle.ts_through.specs.Parts.{AreHeld, AreLaid, ArePlaced}
 use Rattle.ts_through.proofs.Parts.{from_here}
 use Rattle.ts_board.proofs.Sites.{slots_of}
 use Rattle.ts_through.proofs.Taking.{commit_entry}
+use Rattle.ts_name.proofs.Basics.{element_at, got_last}
 
 -- ---- which site a commit has
 
@@ -77,10 +75,6 @@ module _ {S : Type 0} where
   site_of (a ∷ actions) sites zero e action is kind = first_slot a.kind actions sites e (ap (λ (z : Action). z.kind) (same_Some a action is) ∙ kind)
   site_of (a ∷ actions) sites (suc c) e action is kind = later_slot a.kind actions sites c (commit_count (take c actions)) (λ more. site_of actions more c e action is kind)
 
-got_last : {A : Type 0} (xs : List A) (x : A) → slice_get (xs ++ x ∷ []) (length xs) ≡ Some x
-got_last [] x = refl
-got_last (y ∷ xs) x = got_last xs x
-
 got_left : {A : Type 0} (xs ys : List A) (k : ℕ) (x : A) → slice_get xs k ≡ Some x → slice_get (xs ++ ys) k ≡ Some x
 got_left [] ys k x is = absurd (none-some x is)
 got_left (y ∷ xs) ys zero x is = is
@@ -130,19 +124,11 @@ module _ (plan : Plan) (n : ℕ) (old : List (Listing (List ℕ))) where
 -- ---- what the parts of both replicas make
 
 -- each commit's site has what its entry's target has: the site has what the source of an exchanged pair would have
-pub targets_placed : (plan : Plan) (first second : Listing (List ℕ)) (parts sites : List (Listing (List ℕ))) → AreLaid reason.Second (at first) plan.entries parts → AreLaid reason.First (at second) plan.entries parts
+pub targets_placed : (plan : Plan) (first second : Listing (List ℕ)) (parts sites : List (Listing (List ℕ))) → AreLaid side.Second (at first) plan.entries parts → AreLaid side.First (at second) plan.entries parts
     → ArePlaced plan parts sites → AreHeld plan second first (placed plan.actions sites)
-targets_placed plan first second parts sites of_first of_second are c e entry from kind copies = go entry.reason refl copies.1
+targets_placed plan first second parts sites of_first of_second are c e entry from kind copies = go from copies.1
   where
-    go : (r : Reason) → entry.reason ≡ r → source r ≡ Some from
+    go : (from : Side) → source entry.reason ≡ Some from
         → (rows : Listing (List ℕ)) × (site_in (slice_index_or (placed plan.actions sites) c Empty) ≡ Some rows) × (listed rows ≡ sub (at (of_side second first from)) entry.path)
-    go reason.First why is =
-        let part = of_second e entry copies.0 why in
-        (part.0, are c e kind ∙ part.1, part.2 ∙ ap (λ (z : Side). sub (at (of_side second first z)) entry.path) (same_Some side.First from is))
-    go reason.Second why is =
-        let part = of_first e entry copies.0 why in
-        (part.0, are c e kind ∙ part.1, part.2 ∙ ap (λ (z : Side). sub (at (of_side second first z)) entry.path) (same_Some side.Second from is))
-    go reason.Same why is = absurd (none-some from is)
-    go reason.Conflict why is = absurd (none-some from is)
-    go reason.Held why is = absurd (none-some from is)
-    go reason.Dir why is = absurd (none-some from is)
+    go side.First is = let part = of_second e entry copies.0 is in (part.0, are c e kind ∙ part.1, part.2)
+    go side.Second is = let part = of_first e entry copies.0 is in (part.0, are c e kind ∙ part.1, part.2)

@@ -14,7 +14,7 @@ use Rattle.ts_folder.specs.declared.folder.Call.{Call}
 use Rattle.ts_board.specs.Terms.{site_in, told_in}
 use Rattle.ts_board.specs.declared.law.Slot.{Slot}
 use Rattle.ts_board.specs.declared.law.Slot.TheVariants.{Empty, Place, Committed, Bytes}
-use Rattle.ts_exec.specs.Failures.{IsChanged, Setting, of_side, setting_of}
+use Rattle.ts_exec.specs.Failures.{IsChanged, Setting, of_side, setting_with}
 use Rattle.ts_exec.specs.Outcomes.{IsSteady}
 use Rattle.ts_through.specs.Parts.{AreHeld}
 use Rattle.ts_through.proofs.Held.{all_told}
@@ -40,7 +40,7 @@ same_print rows t p lists = ap print_of lists
 module _ (k : Checkup) (first second : Listing (List ℕ)) (first_is : at k.first ≡ print_of (at first)) (second_is : at k.second ≡ print_of (at second))
     (opening : List (Slot (Listing (List ℕ)))) (targets : AreHeld k.plan second first opening) where
   abbrev quiet : Setting
-  quiet = setting_of (λ (s : Listing (List ℕ)). 0) all_told (λ (f : Listing (List ℕ)) (call : Call) (p : Path) (t : Trouble). ⊥) k first second (map (told_in all_told) opening)
+  quiet = setting_with (λ (s : Listing (List ℕ)). 0) all_told (λ (f : Listing (List ℕ)) (call : Call) (p : Path) (t : Trouble). ⊥) k first second (map (told_in all_told) opening)
 
   source_print : (from : Side) → print_of (at (of_side first second from)) ≡ replica (snapshot_of k) from
   source_print side.First = sym first_is

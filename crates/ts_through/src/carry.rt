@@ -7,19 +7,18 @@ ghost use Rattle.ts_check.specs.Checkup.{snapshot_of};
 ghost use Rattle.ts_laws.specs.Carried.{copied, marked_all};
 ghost use Rattle.ts_model.specs.Texts.{IsTreeBody};
 ghost use Rattle.ts_model.specs.Trees.{IsListing, at, print_of};
-ghost use Rattle.ts_model.specs.declared.plan.Reason.TheVariants as reason;
+ghost use Rattle.ts_model.specs.declared.plan.Side.TheVariants as side;
 ghost use Rattle.ts_through.specs.Parts.{AreDone, AreHeld};
 
 use crate::cut::{cut, no_parts, sites};
-use crate::fault::ThroughFault;
 use crate::join::joined;
 use crate::put::{all_done, take_parts};
-use std::alloc::Global;
+use std::alloc::{AllocError, Global};
 use std::thread::Threads;
 use ts_check::Checked;
 use ts_exec::{OpenGate, Outcome, run};
 use ts_folder::MemFolder;
-use ts_model::plan::Reason;
+use ts_model::plan::Side;
 use ts_print::Print;
 use ts_site::MemSite;
 use ts_tree::Tree;
@@ -37,7 +36,7 @@ pub struct Carried {
 ///
 /// # Errors
 ///
-/// `OutOfMemory` alone, where a call or an action found no memory, and then nothing comes of the plan.
+/// `AllocError` where a call or an action ran out of memory, and then nothing comes of the plan.
 pub fn carry_through<R: Threads + Sync>(
     rt: &R,
     alloc: Global,
@@ -45,13 +44,13 @@ pub fn carry_through<R: Threads + Sync>(
     first: &Tree,
     second: &Tree,
     workers: u32,
-) -> Result<Carried, ThroughFault>
+) -> Result<Carried, AllocError>
     requires some { 1 ≤ workers }
     requires few { workers ≤ 64 }
     requires first { at checked.now.first ≡ print_of (at first.now) }
     requires second { at checked.now.second ≡ print_of (at second.now) }
-    ensures first { IfOk result (λ carried. at carried.first ≡ copied reason.Second (at second.now) (at first.now) checked.now.plan.entries) }
-    ensures second { IfOk result (λ carried. at carried.second ≡ copied reason.First (at first.now) (at second.now) checked.now.plan.entries) }
+    ensures first { IfOk result (λ carried. at carried.first ≡ copied side.Second (at second.now) (at first.now) checked.now.plan.entries) }
+    ensures second { IfOk result (λ carried. at carried.second ≡ copied side.First (at first.now) (at second.now) checked.now.plan.entries) }
     ensures archive { IfOk result (λ carried. at carried.archive ≡ marked_all (snapshot_of checked.now) (at checked.now.archive) checked.now.plan.entries) }
     ensures lawful { IfOk result (λ carried. IsTreeBody carried.first × IsTreeBody carried.second × IsListing carried.archive) }
 {
@@ -61,8 +60,8 @@ pub fn carry_through<R: Threads + Sync>(
     let _second = checked.second().rows();
     let entries = plan.entries.as_slice();
     let mut parts = no_parts(alloc, entries)?;
-    let first_frame = cut(alloc, first, entries, Reason::Second, &mut parts)?;
-    let second_frame = cut(alloc, second, entries, Reason::First, &mut parts)?;
+    let first_frame = cut(alloc, first, entries, Side::Second, &mut parts)?;
+    let second_frame = cut(alloc, second, entries, Side::First, &mut parts)?;
     let sites = sites(alloc, plan, &mut parts)?;
     let mut outcome = ran(rt, alloc, checked, first, second, sites, workers)?;
     let archive = archive_after(alloc, checked, &outcome)?;
@@ -72,24 +71,17 @@ pub fn carry_through<R: Threads + Sync>(
             alloc,
             first_frame,
             entries,
-            Reason::Second,
+            Side::Second,
             second,
             &mut parts,
         )?,
-        second: joined(
-            alloc,
-            second_frame,
-            entries,
-            Reason::First,
-            first,
-            &mut parts,
-        )?,
+        second: joined(alloc, second_frame, entries, Side::First, first, &mut parts)?,
         archive,
     })
 }
 
 /// What comes of the plan, where each action is done. The site of each commit has what its target has at the entry's path and
-/// below it, so that an action can only fail for want of memory.
+/// below it, so that an action can only fail because memory ran out.
 fn ran<R: Threads + Sync>(
     rt: &R,
     alloc: Global,
@@ -98,7 +90,7 @@ fn ran<R: Threads + Sync>(
     second: &Tree,
     sites: Vec<MemSite>,
     workers: u32,
-) -> Result<Outcome<MemSite>, ThroughFault>
+) -> Result<Outcome<MemSite>, AllocError>
     requires some { 1 ≤ workers }
     requires few { workers ≤ 64 }
     requires first { at checked.now.first ≡ print_of (at first.now) }
@@ -121,18 +113,15 @@ fn ran<R: Threads + Sync>(
             all_done(outcome.results())?;
             Ok(outcome)
         }
-        Err(_) => Err(ThroughFault::OutOfMemory),
+        Err(_) => Err(AllocError),
     }
 }
 
 /// A folder of this tree.
-fn folder(alloc: Global, tree: &Tree) -> Result<MemFolder, ThroughFault>
+fn folder(alloc: Global, tree: &Tree) -> Result<MemFolder, AllocError>
     ensures { IfOk result (λ folder. folder ≡ tree.now) }
 {
-    match tree.copy(alloc) {
-        Ok(tree) => Ok(MemFolder::new(tree)),
-        Err(_) => Err(ThroughFault::OutOfMemory),
-    }
+    Ok(MemFolder::new(tree.copy(alloc)?))
 }
 
 /// The archive after all marks.
@@ -140,7 +129,7 @@ fn archive_after(
     alloc: Global,
     checked: &Checked<'_>,
     outcome: &Outcome<MemSite>,
-) -> Result<Print, ThroughFault>
+) -> Result<Print, AllocError>
     requires words { length checked.now.plan.actions ≤ slots_len outcome.now.closed.row.words }
     requires ended { HasEnded checked.now (slots_items outcome.now.closed.row.words) }
     requires done { AreDone checked.now.plan (slots_items outcome.now.closed.row.words) }
@@ -152,7 +141,7 @@ fn archive_after(
     let _first = checked.first().rows();
     let _second = checked.second().rows();
     let Ok(archive) = outcome.archive(alloc, checked) else {
-        return Err(ThroughFault::OutOfMemory);
+        return Err(AllocError);
     };
     let _rows = archive.rows();
     Ok(archive)

@@ -3,9 +3,7 @@
 
 mod carry;
 mod cut;
-mod fault;
 mod join;
 mod put;
 
 pub use carry::{Carried, carry_through};
-pub use fault::ThroughFault;

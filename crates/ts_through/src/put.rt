@@ -1,24 +1,24 @@
 //! What the commits have put in place.
 ghost use Rattle.std.specs.Prelude.{◌≡◌, ◌<◌, ◌≤◌, ℕ, IfErr, IfOk, Some, length, slice_get};
 ghost use Rattle.std.specs.Mem.Slots.{slots_items, slots_len};
-ghost use Rattle.ts_exec.specs.Outcomes.{WantMemoryAlone};
+ghost use Rattle.ts_exec.specs.Outcomes.{OnlyMemoryRanOut};
 ghost use Rattle.ts_exec.specs.declared.fault.ActFault.TheVariants.{OutOfMemory};
 ghost use Rattle.ts_exec.specs.declared.outcome.ActionResult.TheVariants.{Done, Failed};
 ghost use Rattle.ts_model.specs.Plans.{KindIs};
 ghost use Rattle.ts_model.specs.declared.plan.Kind.TheVariants.{Commit};
 ghost use Rattle.ts_through.specs.Parts.{AreBlockedByEarlier, AreTaken};
 
-use crate::fault::ThroughFault;
+use std::alloc::AllocError;
 use ts_check::Checked;
 use ts_exec::{ActFault, ActionResult, Outcome};
 use ts_model::plan::Kind;
 use ts_site::MemSite;
 use ts_tree::SubTree;
 
-/// Each action is done, or want of memory kept one from it. Nothing else can: the first that isn't done waits for none that
-/// isn't, so it isn't blocked, and where folders and sites don't fail, it failed for want of memory.
-pub(crate) fn all_done(results: &[ActionResult]) -> Result<(), ThroughFault>
-    requires memory { WantMemoryAlone results.now }
+/// Each action is done, or memory ran out for one. Nothing else can: the first that isn't done waits for none that
+/// isn't, so it isn't blocked, and where folders and sites don't fail, it failed because memory ran out.
+pub(crate) fn all_done(results: &[ActionResult]) -> Result<(), AllocError>
+    requires memory { OnlyMemoryRanOut results.now }
     requires blocked { AreBlockedByEarlier results.now }
     ensures done { IfOk result (λ _. (i : ℕ) → i < length results.now → slice_get results.now i ≡ Some Done) }
     ensures want { IfErr result (λ _. (i : ℕ) × (slice_get results.now i ≡ Some (Failed OutOfMemory))) }
@@ -27,7 +27,7 @@ pub(crate) fn all_done(results: &[ActionResult]) -> Result<(), ThroughFault>
         match result {
             ActionResult::Done => {}
             ActionResult::Failed(fault) => match fault {
-                ActFault::OutOfMemory => return Err(ThroughFault::OutOfMemory),
+                ActFault::OutOfMemory => return Err(AllocError),
                 _ => unreachable!(),
             },
             ActionResult::Blocked(_) => unreachable!(),

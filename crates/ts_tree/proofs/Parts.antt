@@ -16,8 +16,9 @@ use Rattle.ts_table.proofs.Cuts.{IsPath-root}
 use Rattle.ts_table.proofs.Listings.{root_not_listed}
 use Rattle.ts_name.proofs.Order.{before_itself}
 use Rattle.ts_name.proofs.Basics.{weaker, all_both, all_map, at_each}
-use Rattle.ts_table.proofs.Rows.{ascend_first, ascend_rest, listed_after, listed_here, listed_holds}
+use Rattle.ts_table.proofs.Rows.{ascend_first, listed_after, listed_holds}
 use Rattle.ts_tree.specs.Trees.{EditFits, FilesFit}
+use Rattle.ts_model.proofs.Rows.{listed_here, ascend_rest}
 
 -- ---- rows and what they list
 

@@ -10,7 +10,7 @@ use ts_text::{Lines, Source};
 
 /// The tree that the lines spell, all of them.
 ///
-/// More than 2^64 - 2 lines are answered as want of memory, since no memory holds their tree.
+/// More than 2^64 - 2 lines are answered as out of memory, since no memory holds their tree.
 pub fn decode<S: Source>(alloc: Global, lines: &mut Lines<S>) -> Result<Tree, TreeFault>
     ensures found { IfOk result (DecodesTree lines.old) }
     ensures refused { IfErr result (FindsNoTree lines.old lines.new) }

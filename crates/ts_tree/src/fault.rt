@@ -9,7 +9,7 @@ use ts_text::TextFault;
 /// Why a tree can't be read, written or changed.
 #[derive(Clone, Copy, Debug, PartialEq, Eq, Error)]
 pub enum TreeFault {
-    /// There is no memory.
+    /// Memory ran out.
     #[error("out of memory")]
     OutOfMemory,
     /// A path would be too long or too deep.
@@ -24,7 +24,7 @@ pub enum TreeFault {
 }
 
 impl TreeFault {
-    /// The fault's number, as the program tells it.
+    /// The number that the fault is reported by.
     pub fn number(&self) -> u8
         ensures { result ≡ fault_number self.now }
     {

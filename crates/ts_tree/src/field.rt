@@ -28,7 +28,9 @@ pub fn field_path(alloc: Global, field: &[u8]) -> Result<Path, TreeFault>
         Ok(path) if path.is_root() => Err(TreeFault::NotCanonical),
         Ok(path) => Ok(path),
         Err(PathFault::OutOfMemory) => Err(TreeFault::OutOfMemory),
-        Err(_) => Err(TreeFault::NotCanonical),
+        Err(PathFault::BadName | PathFault::BadText | PathFault::TooLong) => {
+            Err(TreeFault::NotCanonical)
+        }
     }
 }
 

@@ -59,7 +59,7 @@ impl Tree {
     /// Takes the parts at the paths out of the tree. What is left is the frame; `join` puts parts back.
     ///
     /// The paths ascend, none is above another, none is the root, and the parent of each is a directory. At some of them
-    /// there may be nothing. After want of memory, the only fault, the tree comes back as it was.
+    /// there may be nothing. Where memory runs out, the only fault, the tree comes back as it was.
     pub fn split(
         self,
         alloc: Global,

@@ -28,7 +28,7 @@ pub(crate) struct OpenFile {
 
 /// Takes the lines of a tree one after another, and gives the tree.
 ///
-/// What is told of a file's size takes no room: its bytes are kept as they come.
+/// No room is taken for the size that a line gives: bytes are kept as they come.
 #[derive(Drop)]
 pub struct TreeReader {
     tree: Tree,

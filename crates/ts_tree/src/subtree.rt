@@ -3,9 +3,8 @@ ghost use Rattle.std.specs.Prelude.{◌≡◌, ◌∷◌, [], IfErr, IfOk, Match
 ghost use Rattle.ts_model.specs.Trees.{listed};
 ghost use Rattle.ts_tree.specs.Trees.{FilesFit, IsSubTreeBody, node_of};
 
-use crate::fault::TreeFault;
 use crate::tree::Node;
-use std::alloc::Global;
+use std::alloc::{AllocError, Global};
 use std::marker::Model;
 use ts_model::items::Items;
 use ts_model::row::{Content, Row};
@@ -41,19 +40,17 @@ impl SubTree {
     }
 
     /// A directory with nothing below.
-    pub fn dir(alloc: Global) -> Result<Self, TreeFault>
+    pub fn dir(alloc: Global) -> Result<Self, AllocError>
         ensures ok { IfOk result (λ part. part ≡ record { path = []; content = Content.Dir } ∷ []) }
-        ensures fault { IfErr result (λ e. e ≡ TreeFault.OutOfMemory) }
     {
         let part = SubTable::dir(alloc)?;
         let _rows = part.rows();
         Ok(SubTree { part })
     }
 
-    /// A file of these bytes. After want of memory they are dropped.
-    pub fn file(alloc: Global, bytes: Vec<u8>) -> Result<Self, TreeFault>
+    /// A file of these bytes. Where memory runs out they are dropped.
+    pub fn file(alloc: Global, bytes: Vec<u8>) -> Result<Self, AllocError>
         ensures ok { IfOk result (λ part. part ≡ record { path = []; content = Content.File bytes.items } ∷ []) }
-        ensures fault { IfErr result (λ e. e ≡ TreeFault.OutOfMemory) }
     {
         let part = SubTable::file(alloc, Items::new(bytes))?;
         let _rows = part.rows();
@@ -98,8 +95,8 @@ impl SubTree {
     }
 
     /// The same once more.
-    pub fn copy(&self, alloc: Global) -> Result<SubTree, TreeFault>
-        ensures { MatchResult result (λ part. part ≡ self.now) (λ e. e ≡ TreeFault.OutOfMemory) }
+    pub fn copy(&self, alloc: Global) -> Result<SubTree, AllocError>
+        ensures { IfOk result (λ part. part ≡ self.now) }
     {
         let part = self.part.copy(alloc)?;
         Ok(SubTree { part })

@@ -1,6 +1,7 @@
 //! Trees.
 ghost use Rattle.std.specs.List.{AllByRecursion};
-ghost use Rattle.std.specs.Prelude.{◌≡◌, ◌≢◌, ◌↔◌, ◌⊎◌, ◌++◌, ◌∷◌, [], List, ℕ, true, false, is_ok, if◌then◌else◌, IfErr, IfOk, IsErrOf, IsTrue, MatchResult, OnErr, OnOk};
+ghost use Rattle.std.specs.Prelude.{◌≡◌, ◌≢◌, ◌↔◌, ◌⊎◌, ◌++◌, ◌∷◌, [], List, ℕ, true, false, is_ok, if◌then◌else◌, IfErr};
+ghost use Rattle.std.specs.Prelude.{IfOk, IsErrOf, IsTrue, MatchResult, OnErr, OnOk};
 ghost use Rattle.ts_model.specs.Runs.{graft};
 ghost use Rattle.ts_model.specs.Texts.{FileFits, IsTreeBody};
 ghost use Rattle.ts_model.specs.Trees.{IsListing, at, listed, sub};
@@ -13,7 +14,7 @@ ghost use Rattle.ts_tree.specs.Trees.{EditFits, FilesFit, node_of};
 
 use crate::fault::TreeFault;
 use crate::subtree::SubTree;
-use std::alloc::Global;
+use std::alloc::{AllocError, Global};
 use std::marker::Model;
 use ts_model::items::Items;
 use ts_model::row::{Content, Row};
@@ -86,33 +87,29 @@ impl Tree {
     }
 
     /// The tree with one more row.
-    pub(crate) fn with_row(self, row: Row<Items<u8>>) -> Result<Tree, TreeFault>
+    pub(crate) fn with_row(self, row: Row<Items<u8>>) -> Result<Tree, AllocError>
         requires listing { IsListing (self ++ row ∷ []) }
         requires file { FileFits row.content }
         ensures ok { IfOk result (λ tree. tree ≡ self ++ row ∷ []) }
-        ensures fault { IfErr result (λ e. e ≡ TreeFault.OutOfMemory) }
     {
         let Tree { mut table } = self;
-        match table.push(row) {
-            Ok(()) => Ok(Tree { table }),
-            Err(_) => Err(TreeFault::OutOfMemory),
-        }
+        table.push(row)?;
+        Ok(Tree { table })
     }
 
     /// The same tree once more.
-    pub fn copy(&self, alloc: Global) -> Result<Tree, TreeFault>
-        ensures { MatchResult result (λ tree. tree ≡ self.now) (λ e. e ≡ TreeFault.OutOfMemory) }
+    pub fn copy(&self, alloc: Global) -> Result<Tree, AllocError>
+        ensures { IfOk result (λ tree. tree ≡ self.now) }
     {
         let table = self.table.copy(alloc)?;
         Ok(Tree { table })
     }
 
     /// What is at a path and below it, by paths relative to it.
-    pub fn sub_table(&self, alloc: Global, path: &Path) -> Result<SubTable<Items<u8>>, TreeFault>
+    pub fn sub_table(&self, alloc: Global, path: &Path) -> Result<SubTable<Items<u8>>, AllocError>
         ensures part { IfOk result (λ part. listed part ≡ sub (at self.now) path.now) }
         ensures files { IfOk result (λ part. AllByRecursion (λ row. FileFits row.content) part) }
         ensures paths { IfOk result (λ part. AllByRecursion (λ row. IsPath row.path) (placed path.now part)) }
-        ensures fault { IfErr result (λ e. e ≡ TreeFault.OutOfMemory) }
     {
         let part = self.table.sub_table(alloc, path)?;
         let _part_rows = part.rows();
@@ -120,9 +117,8 @@ impl Tree {
     }
 
     /// What is at a path and below it.
-    pub fn sub_tree(&self, alloc: Global, path: &Path) -> Result<SubTree, TreeFault>
+    pub fn sub_tree(&self, alloc: Global, path: &Path) -> Result<SubTree, AllocError>
         ensures part { IfOk result (λ part. listed part ≡ sub (at self.now) path.now) }
-        ensures fault { IfErr result (λ e. e ≡ TreeFault.OutOfMemory) }
     {
         Ok(SubTree::from_table(self.sub_table(alloc, path)?))
     }

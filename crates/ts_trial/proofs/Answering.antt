@@ -11,7 +11,7 @@ use Rattle.ts_model.specs.Headline.{FinalArchive, Meets}
 use Rattle.ts_model.specs.Texts.{Bundle, IsBundle, IsBundleText, IsTreeBody, FileFits, StampFits, text}
 use Rattle.ts_model.specs.Trial.{snapshot_of, result_lines, skipped_count, HasContentsApart, IsNoBundle, Trial, IsResult}
 use Rattle.ts_model.proofs.Rows.{fits_at}
-use Rattle.ts_model.specs.declared.plan.Reason.TheVariants as reason
+use Rattle.ts_model.specs.declared.plan.Side.TheVariants as side
 use Rattle.ts_model.specs.declared.plan.Plan.{Plan}
 use Rattle.ts_model.specs.declared.plan.PlanRule.{PlanRule}
 use Rattle.ts_check.specs.Verdict.{IsTold}
@@ -69,8 +69,8 @@ told_broken s plan r e rule place told is same = subst (λ z. IsTold s plan z) s
 -- what a valid plan leaves is the result
 pub result_of : (b : Bundle) → IsBundle b → AreApart (Meets (at b.first) (at b.second) []) → Valid (snapshot_of b) b.plan
     → (c d : Listing (List ℕ)) (archive : Listing Stamp) → IsTreeBody c → IsTreeBody d → IsListing archive
-    → at c ≡ copied reason.Second (at b.second) (at b.first) b.plan.entries
-    → at d ≡ copied reason.First (at b.first) (at b.second) b.plan.entries
+    → at c ≡ copied side.Second (at b.second) (at b.first) b.plan.entries
+    → at d ≡ copied side.First (at b.first) (at b.second) b.plan.entries
     → at archive ≡ marked_all (snapshot_of b) (at b.archive) b.plan.entries
     → IsResult b (text (result_lines c d archive b.plan.entries)) (min 1 (skipped_count b.plan.entries))
 result_of b is apart valid c d archive body_c body_d listing e_c e_d e_archive = record {
@@ -79,7 +79,7 @@ result_of b is apart valid c d archive body_c body_d listing e_c e_d e_archive =
   archive = archive;
   bodies = (body_c, body_d, record { listing = listing; stamps = fits_rows StampFits archive listing (archive_fits b is (at c) (fits_at FileFits tt tt c body_c.files) (at archive) final) });
   valid = valid;
-  pair = subst (λ t. Synced s (at b.first) (at b.second) (at c) t) (sym e_d) (subst (λ t. Synced s (at b.first) (at b.second) t (copied reason.First (at b.first) (at b.second) b.plan.entries)) (sym e_c) carried.pair);
+  pair = subst (λ t. Synced s (at b.first) (at b.second) (at c) t) (sym e_d) (subst (λ t. Synced s (at b.first) (at b.second) t (copied side.First (at b.first) (at b.second) b.plan.entries)) (sym e_c) carried.pair);
   final = final;
   says = (refl, refl);
 }
@@ -98,8 +98,8 @@ result_of b is apart valid c d archive body_c body_d listing e_c e_d e_archive =
 pub settled : (b : Bundle) → IsBundle b → AreApart (Meets (at b.first) (at b.second) []) → (x y : Listing Stamp) → at x ≡ print_of (at b.first) → at y ≡ print_of (at b.second)
     → Valid (listed_snapshot b.archive x y b.rules) b.plan
     → (c d : Listing (List ℕ)) (archive : Listing Stamp) → IsTreeBody c → IsTreeBody d → IsListing archive
-    → at c ≡ copied reason.Second (at b.second) (at b.first) b.plan.entries
-    → at d ≡ copied reason.First (at b.first) (at b.second) b.plan.entries
+    → at c ≡ copied side.Second (at b.second) (at b.first) b.plan.entries
+    → at d ≡ copied side.First (at b.first) (at b.second) b.plan.entries
     → at archive ≡ marked_all (listed_snapshot b.archive x y b.rules) (at b.archive) b.plan.entries
     → AnswersBundle b (text (result_lines c d archive b.plan.entries)) (min 1 (skipped_count b.plan.entries))
 settled b is apart x y first second valid c d archive body_c body_d listing e_c e_d e_archive =

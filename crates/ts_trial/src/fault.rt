@@ -4,15 +4,15 @@ ghost use Rattle.ts_trial.specs.Faults.{fault_number};
 use std::alloc::{AllocError, AllocFailed};
 use thiserror::Error;
 use ts_bundle::BundleFault;
-use ts_print::PrintFault;
 use ts_text::TextFault;
-use ts_through::ThroughFault;
 
 /// Why `trial` ended without an answer.
 #[derive(Clone, Copy, Debug, PartialEq, Eq, Error)]
 pub enum TrialFault {
+    /// Memory ran out.
     #[error("out of memory")]
     OutOfMemory,
+    /// The reader or the writer failed.
     #[error("the reader or the writer failed")]
     Failed,
 }
@@ -47,30 +47,6 @@ impl<T: Drop> From<AllocFailed<T>> for TrialFault {
     ghost from_gives = { λ _ e. e ≡ OutOfMemory };
 
     fn from(_fault: AllocFailed<T>) -> TrialFault {
-        TrialFault::OutOfMemory
-    }
-}
-
-/// A plan that is carried out meets want of memory alone.
-impl From<ThroughFault> for TrialFault {
-    ghost use Rattle.std.specs.Prelude.{◌≡◌};
-    ghost use Rattle.ts_trial.specs.declared.fault.TrialFault.TheVariants.{OutOfMemory};
-
-    ghost from_gives = { λ _ e. e ≡ OutOfMemory };
-
-    fn from(_fault: ThroughFault) -> TrialFault {
-        TrialFault::OutOfMemory
-    }
-}
-
-/// The print of a tree meets want of memory alone.
-impl From<PrintFault> for TrialFault {
-    ghost use Rattle.std.specs.Prelude.{◌≡◌};
-    ghost use Rattle.ts_trial.specs.declared.fault.TrialFault.TheVariants.{OutOfMemory};
-
-    ghost from_gives = { λ _ e. e ≡ OutOfMemory };
-
-    fn from(_fault: PrintFault) -> TrialFault {
         TrialFault::OutOfMemory
     }
 }

@@ -26,7 +26,7 @@ pub const REFUSED: u8 = 3;
 /// writes the result text, or the line `malformed` where the bytes are no bundle, or `refused <rule> <place>` where the plan
 /// isn't valid. The answer is the exit status: 0, or 1 where an entry is skipped, or 3 for a refusal.
 ///
-/// A fault comes only from the reader, the writer or want of memory, and after it a beginning of the text was written.
+/// A fault comes only from the reader, from the writer, or because memory ran out, and after it a beginning of the text was written.
 pub fn trial<T: Threads + Sync, R: Source, W: Sink>(
     rt: &T,
     alloc: Global,

@@ -1,6 +1,6 @@
 use Rattle.std.proofs.Common.{arith}
 use Rattle.ts_model.specs.Trees.{at}
-use Rattle.ts_carry.specs.Edits.{marks}
+use Rattle.ts_board.specs.Edits.{marks}
 use Rattle.ts_board.proofs.Flags.{all_picked}
 use Rattle.ts_board.proofs.archive.mark_edits.Goals as goal
 

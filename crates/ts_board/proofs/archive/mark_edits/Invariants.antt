@@ -2,7 +2,7 @@ use Rattle.std.proofs.Common.{List, ◌++◌, drop}
 use Rattle.ts_model.specs.Trees.{at}
 use Rattle.ts_model.specs.declared.row.Stamp.{Stamp}
 use Rattle.ts_table.specs.declared.splice.Edit.{Edit}
-use Rattle.ts_carry.specs.Edits.{AreEdits, marks}
+use Rattle.ts_board.specs.Edits.{AreEdits, marks}
 use Rattle.ts_board.specs.Archives.{picked}
 use Rattle.ts_board.proofs.archive.mark_edits.Given as goal
 

@@ -1,8 +1,8 @@
 use Rattle.std.proofs.Common.{Err, sym, ap, ◌∙◌, subst}
 use Rattle.ts_model.specs.Trees.{at}
 use Rattle.ts_table.specs.Splices.{ArePlaces}
-use Rattle.ts_carry.specs.Edits.{left_by, marks}
-use Rattle.ts_carry.proofs.Edits.{edits_leave, edits_order, edits_paths, edits_places}
+use Rattle.ts_board.specs.Edits.{left_by, marks}
+use Rattle.ts_board.proofs.Edits.{edits_leave, edits_order, edits_paths, edits_places}
 use Rattle.ts_board.specs.Archives.{picked}
 use Rattle.ts_board.proofs.archive.with_marks.Goals as goal
 

@@ -1,7 +1,7 @@
 use Rattle.ts_model.specs.Sync.{listed_snapshot}
 use Rattle.ts_model.specs.declared.plan.PlanRule.TheVariants.{PredsAscend}
-use Rattle.ts_check.proofs.Checking.{few_actions}
 use Rattle.ts_check.proofs.rules.check.Goals as goal
+use Rattle.ts_laws.proofs.Bounds.{few_actions}
 
 pub successors-requires-clause-few : goal.successors-requires-clause-few
 successors-requires-clause-few c = few_actions (listed_snapshot c.args.archive.now c.args.first.now c.args.second.now c.args.holds.now) c.args.plan.now c.in_ok-check_order.ensures.holds

@@ -1,16 +1,17 @@
 use Rattle.std.proofs.Common.{◌≡◌, true, false, Equal}
-use Rattle.ts_dirty.proofs.Rows.{step_first, step_nothing, Equal-from_test, same_first, not_Equal}
+use Rattle.ts_dirty.proofs.Rows.{step_first, step_nothing, same_first, not_Equal}
 use Rattle.std.proofs.Common.{subst}
 use Rattle.ts_model.specs.declared.row.Row.{Row}
 use Rattle.ts_model.specs.declared.row.Stamp.{Stamp}
 use Rattle.std.specs.Ordering.{is_eq}
 use Rattle.ts_name.specs.Paths.{path_cmp}
 use Rattle.ts_dirty.proofs.walk.step_to.Goals as goal
+use Rattle.ts_name.proofs.Order.{is_eq_Equal}
 
 pub returns-then-is_eq-clause-step : goal.returns-then-is_eq-clause-step
 returns-then-is_eq-clause-step c =
     let test : is_eq (path_cmp c.row-item.result.path c.args.path.now) ≡ true = cc in
-    let found = step_first c.args.rows.now c.row-item.result c.args.path.now c.requires.plain c.in-len1-up.len_at_least c.row-item.is (Equal-from_test _ test) in found.0
+    let found = step_first c.args.rows.now c.row-item.result c.args.path.now c.requires.plain c.in-len1-up.len_at_least c.row-item.is (is_eq_Equal _ test) in found.0
 
 pub returns-else-is_eq-clause-step : goal.returns-else-is_eq-clause-step
 returns-else-is_eq-clause-step c =

@@ -6,10 +6,10 @@ use Rattle.std.proofs.Crossing.{crosses}
 use Rattle.atomic_blocks.proofs.rows.shared.Rows.TheSendSync as rows
 use Rattle.atomic_table.proofs.shared.Seat.TheSendSync as seat
 use Rattle.ts_board.proofs.Crossing.{pass_field_send, slot_send}
-use Rattle.ts_exec.proofs.Crossing.{job_sync, member_field_send}
+use Rattle.ts_exec.proofs.Crossing.{shared_sync, member_field_send}
 use Rattle.std.proofs.lemmas.List.Elements.{All-pop}
-use Rattle.ts_board.specs.Keys.{terms_of}
-use Rattle.ts_exec.specs.Failures.{setting_of}
+use Rattle.ts_board.specs.Calls.{terms_of}
+use Rattle.ts_exec.specs.Sharing.{setting_of}
 use Rattle.ts_exec.specs.declared.crew.Member.{Member}
 use Rattle.ts_exec.proofs.Teams.{fresh_list, joined_share, of_popped, same_notes}
 use Rattle.ts_exec.proofs.crowd.+halves.Goals as goal
@@ -22,7 +22,7 @@ pub join-worked-requires-send-F : goal.join-worked-requires-send-F
 join-worked-requires-send-F g t c κs within =
     let s : IsSend (param 1 g.row.S) = search rules in let f : IsSync (param 2 g.row.F) = search rules in let h : IsSync (param 3 g.row.G) = search rules in
     let m = member_field_send in
-    search (sendable, crosses, job_sync, pass_field_send, rows.the_send, rows.the_sync) depth 60 fits 5000
+    search (sendable, crosses, shared_sync, pass_field_send, rows.the_send, rows.the_sync) depth 60 fits 5000
 
 pub join-worked-requires-send-A : goal.join-worked-requires-send-A
 join-worked-requires-send-A g t c κs within =
@@ -31,8 +31,8 @@ join-worked-requires-send-A g t c κs within =
 
 pub join-worked-requires-after_bounds : goal.join-worked-requires-after_bounds
 join-worked-requires-after_bounds g t c κs within =
-    let j = c.args.job.now in let id = j.board.now.table.shared.table_id in let terms = terms_of g.S.Site.content j.board.now.table.shared.key in
-    let x = setting_of g.S.Site.failures g.F.Folder.tells g.F.Folder.lets j.checked.now j.first.now j.second.now terms.told in
+    let j = c.args.shared.now in let id = j.board.now.table.shared.table_id in let terms = terms_of g.S.Site.content j.board.now in
+    let x = setting_of g.S.Site g.F.Folder j in
     let popped = All-pop (λ (m : Member). m.failures.items ≡ []) c.args.members.items c.pop.new.self.items c.pop.result c.pop.ensures.items c.requires.fresh in
     let empty = of_popped (λ (m : Member). m.failures.items ≡ []) c.args.members.items c.pop.new.self.items c.pop.result c.in-Some.member c.pop.ensures.items c.in-Some.is c.requires.fresh in
     let list = fresh_list id terms x c.in-Ok.halves.1 c.in-Some.member.failures.items c.in-Ok.ensures.second c.in-Ok.ensures.mine.1 empty in

@@ -1,56 +1,55 @@
 use Rattle.std.proofs.Common.{List, Option, refl, sym, subst}
 use Rattle.std.specs.Mem.Slots.{slots_items}
-use Rattle.ts_board.specs.Calls.{mine, seen}
-use Rattle.ts_board.specs.Keys.{terms_of}
-use Rattle.ts_board.specs.Terms.{placed, terms_with}
+use Rattle.ts_board.specs.Calls.{mine, seen, terms_of}
+use Rattle.ts_board.specs.Checks.{terms_for}
 use Rattle.ts_board.specs.declared.board.Closed.{Closed}
 use Rattle.ts_board.specs.declared.law.Terms.{Terms}
-use Rattle.ts_exec.specs.Failures.{setting_of}
+use Rattle.ts_exec.specs.Failures.{setting_for, setting_with}
 use Rattle.ts_exec.specs.Outcomes.{IsOutcome}
 use Rattle.ts_exec.specs.Tidy.{Noted}
 use Rattle.ts_exec.specs.declared.fault.ActFault.{ActFault}
 use Rattle.ts_exec.specs.declared.outcome.ActionResult.{ActionResult}
 use Rattle.ts_exec.proofs.Ending.{end, outcome}
-use Rattle.ts_exec.proofs.Misfits.{misfits_untold, want_memory_alone}
+use Rattle.ts_exec.proofs.Misfits.{misfits_untold, only_memory_ran_out}
 use Rattle.ts_exec.proofs.running.run.Goals as goal
 
 pub results_of-results-requires-clause-end : goal.results_of-results-requires-clause-end
 results_of-results-requires-clause-end g c κs within = (
   c.close-closed.ensures.ends.0,
   end g.S.Site.content g.S.Site.failures g.F.Folder.tells g.F.Folder.lets c.args.checked.now c.plan-plan.ensures.valid c.args.first.now c.args.second.now
-      (terms_of g.S.Site.content c.in-Ok-open.opened.0.table.shared.key) (terms_with g.S.Site.content c.args.checked.now.plan c.args.checked.now.first c.args.checked.now.second (placed c.args.checked.now.plan.actions c.args.sites.items)) c.in-Ok-open.ensures.board (refl, refl, refl)
+      (terms_of g.S.Site.content c.in-Ok-open.opened.0) (terms_for g.S.Site.content c.args.checked.now c.args.sites.items) c.in-Ok-open.ensures.board (refl, refl, refl)
       c.work_and_sweep-pass.result.0 (slots_items c.close-closed.result.row.words) (slots_items c.close-closed.result.row.slots) c.as_slice-2.result.now
-      c.close-closed.ensures.ends c.work_and_sweep-pass.ensures.pass.1 c.work_and_sweep-pass.ensures.tidy (subst (λ (f : List (Option ActFault)). Noted (setting_of g.S.Site.failures g.F.Folder.tells g.F.Folder.lets c.args.checked.now c.args.first.now c.args.second.now (terms_of g.S.Site.content c.in-Ok-open.opened.0.table.shared.key).told) (mine c.work_and_sweep-pass.result.0) (seen c.work_and_sweep-pass.result.0) f) (sym c.as_slice-2.ensures.value) c.work_and_sweep-pass.ensures.noted) c.work_and_sweep-pass.ensures.swept,
+      c.close-closed.ensures.ends c.work_and_sweep-pass.ensures.pass.1 c.work_and_sweep-pass.ensures.tidy (subst (λ (f : List (Option ActFault)). Noted (setting_with g.S.Site.failures g.F.Folder.tells g.F.Folder.lets c.args.checked.now c.args.first.now c.args.second.now (terms_of g.S.Site.content c.in-Ok-open.opened.0).told) (mine c.work_and_sweep-pass.result.0) (seen c.work_and_sweep-pass.result.0) f) (sym c.as_slice-2.ensures.value) c.work_and_sweep-pass.ensures.noted) c.work_and_sweep-pass.ensures.swept,
 )
 
 pub returns-clause-outcome : goal.returns-clause-outcome
 returns-clause-outcome g c =
-    let opened : Terms = terms_with g.S.Site.content c.args.checked.now.plan c.args.checked.now.first c.args.checked.now.second (placed c.args.checked.now.plan.actions c.args.sites.items) in
+    let opened : Terms = terms_for g.S.Site.content c.args.checked.now c.args.sites.items in
     let ends = c.close-closed.ensures.ends in
     let is_end = end g.S.Site.content g.S.Site.failures g.F.Folder.tells g.F.Folder.lets c.args.checked.now c.plan-plan.ensures.valid c.args.first.now c.args.second.now
-    (terms_of g.S.Site.content c.in-Ok-open.opened.0.table.shared.key) opened c.in-Ok-open.ensures.board (refl, refl, refl)
+    (terms_of g.S.Site.content c.in-Ok-open.opened.0) opened c.in-Ok-open.ensures.board (refl, refl, refl)
     c.work_and_sweep-pass.result.0 (slots_items c.close-closed.result.row.words) (slots_items c.close-closed.result.row.slots) c.as_slice-2.result.now
-    c.close-closed.ensures.ends c.work_and_sweep-pass.ensures.pass.1 c.work_and_sweep-pass.ensures.tidy (subst (λ (f : List (Option ActFault)). Noted (setting_of g.S.Site.failures g.F.Folder.tells g.F.Folder.lets c.args.checked.now c.args.first.now c.args.second.now (terms_of g.S.Site.content c.in-Ok-open.opened.0.table.shared.key).told) (mine c.work_and_sweep-pass.result.0) (seen c.work_and_sweep-pass.result.0) f) (sym c.as_slice-2.ensures.value) c.work_and_sweep-pass.ensures.noted) c.work_and_sweep-pass.ensures.swept in
+    c.close-closed.ensures.ends c.work_and_sweep-pass.ensures.pass.1 c.work_and_sweep-pass.ensures.tidy (subst (λ (f : List (Option ActFault)). Noted (setting_with g.S.Site.failures g.F.Folder.tells g.F.Folder.lets c.args.checked.now c.args.first.now c.args.second.now (terms_of g.S.Site.content c.in-Ok-open.opened.0).told) (mine c.work_and_sweep-pass.result.0) (seen c.work_and_sweep-pass.result.0) f) (sym c.as_slice-2.ensures.value) c.work_and_sweep-pass.ensures.noted) c.work_and_sweep-pass.ensures.swept in
     let made = outcome g.S.Site.content g.S.Site.failures g.F.Folder.tells g.F.Folder.lets c.args.checked.now c.plan-plan.ensures.valid c.args.first.now c.args.second.now
-    (terms_of g.S.Site.content c.in-Ok-open.opened.0.table.shared.key) opened c.in-Ok-open.ensures.board (refl, refl, refl)
+    (terms_of g.S.Site.content c.in-Ok-open.opened.0) opened c.in-Ok-open.ensures.board (refl, refl, refl)
     c.work_and_sweep-pass.result.0 (slots_items c.close-closed.result.row.words) (slots_items c.close-closed.result.row.slots) c.as_slice-2.result.now
-    c.close-closed.ensures.ends c.work_and_sweep-pass.ensures.pass.1 c.work_and_sweep-pass.ensures.tidy (subst (λ (f : List (Option ActFault)). Noted (setting_of g.S.Site.failures g.F.Folder.tells g.F.Folder.lets c.args.checked.now c.args.first.now c.args.second.now (terms_of g.S.Site.content c.in-Ok-open.opened.0.table.shared.key).told) (mine c.work_and_sweep-pass.result.0) (seen c.work_and_sweep-pass.result.0) f) (sym c.as_slice-2.ensures.value) c.work_and_sweep-pass.ensures.noted) c.work_and_sweep-pass.ensures.swept c.results_of-results.result.items c.results_of-results.ensures.count (c.results_of-results.ensures.each ends.0 is_end) in
+    c.close-closed.ensures.ends c.work_and_sweep-pass.ensures.pass.1 c.work_and_sweep-pass.ensures.tidy (subst (λ (f : List (Option ActFault)). Noted (setting_with g.S.Site.failures g.F.Folder.tells g.F.Folder.lets c.args.checked.now c.args.first.now c.args.second.now (terms_of g.S.Site.content c.in-Ok-open.opened.0).told) (mine c.work_and_sweep-pass.result.0) (seen c.work_and_sweep-pass.result.0) f) (sym c.as_slice-2.ensures.value) c.work_and_sweep-pass.ensures.noted) c.work_and_sweep-pass.ensures.swept c.results_of-results.result.items c.results_of-results.ensures.count (c.results_of-results.ensures.each ends.0 is_end) in
     subst
-    (λ (o : List ActionResult). IsOutcome g.S.Site.content (setting_of g.S.Site.failures g.F.Folder.tells g.F.Folder.lets c.args.checked.now c.args.first.now c.args.second.now opened.told) opened o (slots_items c.new.result.closed.row.words) (slots_items c.new.result.closed.row.slots))
+    (λ (o : List ActionResult). IsOutcome g.S.Site.content (setting_for g.S.Site g.F.Folder c.args.checked.now c.args.first.now c.args.second.now c.args.sites.items) opened o (slots_items c.new.result.closed.row.words) (slots_items c.new.result.closed.row.slots))
     (sym c.new.ensures.results)
     (subst
-    (λ (z : Closed g.row.S.Denot g.S.Site). IsOutcome g.S.Site.content (setting_of g.S.Site.failures g.F.Folder.tells g.F.Folder.lets c.args.checked.now c.args.first.now c.args.second.now opened.told) opened c.results_of-results.result.items (slots_items z.row.words) (slots_items z.row.slots))
+    (λ (z : Closed g.row.S.Denot g.S.Site). IsOutcome g.S.Site.content (setting_for g.S.Site g.F.Folder c.args.checked.now c.args.first.now c.args.second.now c.args.sites.items) opened c.results_of-results.result.items (slots_items z.row.words) (slots_items z.row.slots))
     (sym c.new.ensures.closed)
     made)
 
 pub returns-clause-misfits : goal.returns-clause-misfits
 returns-clause-misfits g c =
-    let opened : Terms = terms_with g.S.Site.content c.args.checked.now.plan c.args.checked.now.first c.args.checked.now.second (placed c.args.checked.now.plan.actions c.args.sites.items) in
-    misfits_untold g.S.Site.content (setting_of g.S.Site.failures g.F.Folder.tells g.F.Folder.lets c.args.checked.now c.args.first.now c.args.second.now opened.told) c.plan-plan.ensures.valid opened
+    let opened : Terms = terms_for g.S.Site.content c.args.checked.now c.args.sites.items in
+    misfits_untold g.S.Site.content (setting_for g.S.Site g.F.Folder c.args.checked.now c.args.first.now c.args.second.now c.args.sites.items) c.plan-plan.ensures.valid opened
     c.new.result.results.items (slots_items c.new.result.closed.row.words) (slots_items c.new.result.closed.row.slots) (returns-clause-outcome g c)
 
 pub returns-clause-steady : goal.returns-clause-steady
 returns-clause-steady g c =
-    let opened : Terms = terms_with g.S.Site.content c.args.checked.now.plan c.args.checked.now.first c.args.checked.now.second (placed c.args.checked.now.plan.actions c.args.sites.items) in
-    want_memory_alone g.S.Site.content (setting_of g.S.Site.failures g.F.Folder.tells g.F.Folder.lets c.args.checked.now c.args.first.now c.args.second.now opened.told) c.plan-plan.ensures.valid opened
+    let opened : Terms = terms_for g.S.Site.content c.args.checked.now c.args.sites.items in
+    only_memory_ran_out g.S.Site.content (setting_for g.S.Site g.F.Folder c.args.checked.now c.args.first.now c.args.second.now c.args.sites.items) c.plan-plan.ensures.valid opened
     c.new.result.results.items (slots_items c.new.result.closed.row.words) (slots_items c.new.result.closed.row.slots) (returns-clause-outcome g c)

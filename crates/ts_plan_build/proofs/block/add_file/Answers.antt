@@ -13,6 +13,6 @@ overflow_sub-size c = let within : c.loop-piece.piece * 1048576 < c.args.size = 
 
 pub returns-in_err-push-clause-past : goal.returns-in_err-push-clause-past
 returns-in_err-push-clause-past c =
-    let p = err_from_is_err_and c.from_residual.result c.from_residual.ensures.1 in
+    let p = err_from_is_err_and c.from_residual-in_err-push.result c.from_residual-in_err-push.ensures.1 in
     let l : c.loop-piece.piece < piece_count c.args.size = omega (arith, c.loop-piece-test.true, c.count_pieces-count.ensures) in
     rw (p.1, p.2) (λ e. past_in_file 1048576 (piece_of c.args.entry c.args.path.now c.args.size) c.args.actions.now.items c.loop-piece.actions.items c.loop-piece.piece (piece_count c.args.size) c.loop-piece.invariant.0 l (c.in_err-push.ensures.past e))

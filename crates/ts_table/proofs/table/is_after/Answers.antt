@@ -1,9 +1,9 @@
 use Rattle.std.proofs.Common.{◌-◌, length, arith, sym, ap, ◌∙◌}
 use Rattle.std.specs.Ordering.{is_lt}
 use Rattle.ts_name.specs.Paths.{IsBefore}
-use Rattle.ts_table.proofs.Found.{is_lt_Less}
 use Rattle.ts_table.proofs.Last.{all_get, all_until}
 use Rattle.ts_table.proofs.table.is_after.Goals as goal
+use Rattle.ts_name.proofs.Order.{is_lt_Less}
 
 pub returns-in-Some : goal.returns-in-Some
 returns-in-Some g c = (

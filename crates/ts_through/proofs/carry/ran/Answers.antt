@@ -2,7 +2,7 @@ use Rattle.std.proofs.Common.{◌≡◌, ◌<◌, ℕ, List, Some, length, slice
 use Rattle.std.specs.Mem.Slots.{slots_items}
 use Rattle.ts_board.specs.Terms.{placed}
 use Rattle.ts_model.specs.Trees.{at, print_of}
-use Rattle.ts_exec.specs.Outcomes.{WantMemoryAlone}
+use Rattle.ts_exec.specs.Outcomes.{OnlyMemoryRanOut}
 use Rattle.ts_exec.specs.declared.outcome.ActionResult.{ActionResult}
 use Rattle.ts_exec.specs.declared.outcome.ActionResult.TheVariants.{Done}
 use Rattle.ts_through.specs.Parts.{AreBlockedByEarlier, AreHeld}
@@ -17,7 +17,7 @@ all_done-requires-clause-memory g c =
     let targets : AreHeld k.plan c.in_ok-second.second c.in_ok-first.first opening =
     subst (λ z. AreHeld k.plan z c.in_ok-first.first opening) (sym c.in_ok-second.ensures)
     (subst (λ z. AreHeld k.plan c.args.second.now z opening) (sym c.in_ok-first.ensures) c.requires.targets) in
-    subst WantMemoryAlone (sym c.results.ensures)
+    subst OnlyMemoryRanOut (sym c.results.ensures)
     (c.in-Ok.ensures.steady (steady k c.in_ok-first.first c.in_ok-second.second
     (c.requires.first ∙ ap (λ z. print_of (at z)) (sym c.in_ok-first.ensures)) (c.requires.second ∙ ap (λ z. print_of (at z)) (sym c.in_ok-second.ensures)) opening targets))
 

@@ -1,7 +1,7 @@
 use Rattle.std.proofs.Common.{◌≡◌, ◌++◌, drop}
-use Rattle.ts_through.specs.Parts.{paths_with}
+use Rattle.ts_through.specs.Parts.{paths_from}
 use Rattle.ts_through.proofs.cut.paths_of.Given as goal
 
 -- the paths so far and those of the entries to come are those of all entries
 abbrev pub invariant-loop-entry : goal.invariant-loop-entry
-invariant-loop-entry l = l.paths.items ++ paths_with l.reason (drop l.entry-index l.entries) ≡ paths_with l.reason l.entries
+invariant-loop-entry l = l.paths.items ++ paths_from l.from (drop l.entry-index l.entries) ≡ paths_from l.from l.entries

@@ -8,7 +8,7 @@ use Rattle.ts_model.specs.Plans.{Valid}
 use Rattle.ts_model.specs.Texts.{text}
 use Rattle.ts_model.specs.Trees.{at}
 use Rattle.ts_model.specs.Trial.{result_lines, skipped_count}
-use Rattle.ts_model.specs.declared.plan.Reason.TheVariants as reason
+use Rattle.ts_model.specs.declared.plan.Side.TheVariants as side
 use Rattle.ts_bundle.specs.Bundles.{values}
 use Rattle.ts_trial.specs.Answers.{AnswersBundle}
 use Rattle.ts_trial.proofs.Answering.{nothing_written, same_text, settled}
@@ -33,8 +33,8 @@ returns-in_err-write_result-clause-answered g c =
       _,
       settled (values b) c.requires.bundle apart k.first k.second c.requires.first c.requires.second (subst (λ z. Valid (snapshot_of z) z.plan) c.requires.same c.plan-plan.ensures.valid)
           o.first o.second o.archive e.lawful.0 e.lawful.1 e.lawful.2
-          (e.first ∙ ap (λ z. copied reason.Second (at b.second) (at b.first) z.plan.entries) c.requires.same)
-          (e.second ∙ ap (λ z. copied reason.First (at b.first) (at b.second) z.plan.entries) c.requires.same)
+          (e.first ∙ ap (λ z. copied side.Second (at b.second) (at b.first) z.plan.entries) c.requires.same)
+          (e.second ∙ ap (λ z. copied side.First (at b.first) (at b.second) z.plan.entries) c.requires.same)
           (e.archive ∙ ap (λ z. marked_all (snapshot_of z) (at z.archive) z.plan.entries) c.requires.same),
       subst (λ t. AppendsFront (g.W.Sink.holds c.args.writer.now) (g.W.Sink.holds c.write_result.new.sink) t)
           (same_text c.rows.result.now o.first c.rows-2.result.now o.second c.rows-3.result.now o.archive c.as_slice-entries.result.now b.plan.entries
@@ -54,8 +54,8 @@ returns-clause-answered g c =
       subst (λ n. AnswersBundle (values b) (text (result_lines o.first o.second o.archive b.plan.entries)) n) (sym (c.exit_status.ensures ∙ ap (λ z. min 1 (skipped_count z)) c.as_slice-entries.ensures))
           (settled (values b) c.requires.bundle apart k.first k.second c.requires.first c.requires.second (subst (λ z. Valid (snapshot_of z) z.plan) c.requires.same c.plan-plan.ensures.valid)
           o.first o.second o.archive e.lawful.0 e.lawful.1 e.lawful.2
-          (e.first ∙ ap (λ z. copied reason.Second (at b.second) (at b.first) z.plan.entries) c.requires.same)
-          (e.second ∙ ap (λ z. copied reason.First (at b.first) (at b.second) z.plan.entries) c.requires.same)
+          (e.first ∙ ap (λ z. copied side.Second (at b.second) (at b.first) z.plan.entries) c.requires.same)
+          (e.second ∙ ap (λ z. copied side.First (at b.first) (at b.second) z.plan.entries) c.requires.same)
           (e.archive ∙ ap (λ z. marked_all (snapshot_of z) (at z.archive) z.plan.entries) c.requires.same)),
       subst (λ t. Appends (g.W.Sink.holds c.args.writer.now) (g.W.Sink.holds c.write_result.new.sink) t)
           (same_text c.rows.result.now o.first c.rows-2.result.now o.second c.rows-3.result.now o.archive c.as_slice-entries.result.now b.plan.entries

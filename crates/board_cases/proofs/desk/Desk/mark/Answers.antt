@@ -5,7 +5,7 @@ use Rattle.ts_model.specs.declared.plan.Kind.TheVariants.{Mark}
 use Rattle.ts_model.specs.declared.plan.Plan.{Plan}
 use Rattle.ts_model.specs.declared.step.Work.TheVariants.{Marked}
 use Rattle.ts_board.specs.Calls.{mine}
-use Rattle.ts_board.specs.Keys.{terms_of}
+use Rattle.ts_board.specs.Keys.{terms_of_key}
 use Rattle.ts_board.specs.Terms.{work_in}
 use Rattle.ts_board.proofs.Acting.{mark_may}
 use Rattle.board_cases.proofs.Acts.{acted_by, told_same}
@@ -13,7 +13,7 @@ use Rattle.board_cases.proofs.desk.Desk.mark.Goals as goal
 
 pub done-requires-clause-acted : goal.done-requires-clause-acted
 done-requires-clause-acted g c κs within =
-    let d = c.args.self.now in let i = c.args.i in let content = g.S.Site.content in let t = terms_of content d.board.now.table.shared.key in
+    let d = c.args.self.now in let i = c.args.i in let content = g.S.Site.content in let t = terms_of_key content d.board.now.table.shared.key in
     let own = mine c.look-claimed.new.pass in let h = c.in_ok-held.held in let now = c.mark.new.self in
     let won = c.in_ok-held.ensures.won in let fresh = c.in_ok-held.ensures.fresh in let mark = c.requires.mark in
     let pending : IsPending own i = subst (λ (r : Run). IsPending r i) (sym c.look-claimed.ensures.sees.1) won.2 in

@@ -3,7 +3,7 @@ use Rattle.ts_model.specs.Runs.{IsPending, IsPieceOf}
 use Rattle.ts_model.specs.declared.plan.Plan.{Plan}
 use Rattle.ts_model.specs.declared.step.Step.TheVariants.{Act}
 use Rattle.ts_board.specs.Calls.{mine, work_of}
-use Rattle.ts_board.specs.Keys.{terms_of}
+use Rattle.ts_board.specs.Keys.{terms_of_key}
 use Rattle.ts_board.specs.Terms.{Suits}
 use Rattle.ts_board.proofs.Acting.{commit_may}
 use Rattle.board_cases.proofs.Acts.{acted_by}
@@ -11,7 +11,7 @@ use Rattle.board_cases.proofs.desk.Desk.put.Goals as goal
 
 pub done-requires-clause-acted : goal.done-requires-clause-acted
 done-requires-clause-acted g c κs within =
-    let d = c.args.self.now in let content = g.S.Site.content in let t = terms_of content d.board.now.table.shared.key in
+    let d = c.args.self.now in let content = g.S.Site.content in let t = terms_of_key content d.board.now.table.shared.key in
     let own = mine c.args.pass.now in let now = c.commit.new.self in let i = c.args.held.action in
     let action : now.action ≡ i = c.commit.ensures.action in
     let suits : Suits t (Act now.action (work_of now)) = c.in-Ok.ensures.suits t (d.plan, d.first, d.second) in
@@ -26,5 +26,5 @@ fail-requires-clause-held g c κs within = subst (λ (n : ℕ). IsPending (mine 
 
 pub fail-requires-clause-fresh : goal.fail-requires-clause-fresh
 fail-requires-clause-fresh g c κs within =
-    let content = g.S.Site.content in let t = terms_of content c.args.self.now.board.now.table.shared.key in
+    let content = g.S.Site.content in let t = terms_of_key content c.args.self.now.board.now.table.shared.key in
     (c.in-Err.ensures.err.0, c.in-Err.ensures.err.1, c.commit.ensures.told t c.requires.fresh.2)

@@ -5,7 +5,7 @@ use Rattle.ts_model.specs.declared.plan.Kind.TheVariants.{Piece}
 use Rattle.ts_model.specs.declared.plan.Plan.{Plan}
 use Rattle.ts_model.specs.declared.step.Work.TheVariants.{Staged}
 use Rattle.ts_board.specs.Calls.{mine}
-use Rattle.ts_board.specs.Keys.{terms_of}
+use Rattle.ts_board.specs.Keys.{terms_of_key}
 use Rattle.ts_board.proofs.Acting.{piece_may}
 use Rattle.board_cases.proofs.Acts.{acted_by}
 use Rattle.board_cases.proofs.desk.Desk.stage.Goals as goal
@@ -18,7 +18,7 @@ stage-requires-clause-site g c κs within =
 pub done-requires-clause-acted : goal.done-requires-clause-acted
 done-requires-clause-acted g c κs within =
     let d = c.args.self.now in let f = c.requires.file in let b = c.args.b in
-    let content = g.S.Site.content in let t = terms_of content d.board.now.table.shared.key in
+    let content = g.S.Site.content in let t = terms_of_key content d.board.now.table.shared.key in
     let own = mine c.look-next.new.pass in let now = c.stage.new.self in let won = c.in_ok-held.ensures.won in
     let kind = subst (λ (z : Plan). KindIs z b (Piece f.entry 0 1 f.path)) (sym d.plan) f.piece in
     let pending : IsPending own b = subst (λ (r : Run). IsPending r b) (sym (c.look-next.ensures.sees.1 ∙ c.look-claimed.ensures.sees.1)) won.2 in

@@ -4,7 +4,7 @@ use mathlib.Core.Option.{none}
 use Rattle.ts_model.specs.declared.step.Step.TheVariants.{Fail}
 use Rattle.ts_board.specs.declared.law.View.{View}
 use Rattle.ts_board.specs.Terms.{work_in, IsTold}
-use Rattle.ts_board.specs.Keys.{terms_of}
+use Rattle.ts_board.specs.Keys.{terms_of_key}
 use Rattle.ts_board.specs.Kept.{Kept, carrying, fails}
 use Rattle.ts_board.proofs.Steps.{carried_makes, fetching, failing}
 use Rattle.ts_board.proofs.board.Board.fail.Goals as goal
@@ -12,12 +12,12 @@ use Rattle.ts_board.proofs.board.Board.fail.Goals as goal
 pub load-requires : goal.load-requires
 load-requires g c =
     let b = c.args.self.now.table.shared in let p = c.args.pass.now in let content = g.S.Site.content in
-    (c.requires.pass.0, omega arith, fetching work_in (IsTold content) (terms_of content b.key) b.table_id.slots p.seat.id p.seat.me c.args.held.action (omega arith) (omega arith) p.empty c.requires.held)
+    (c.requires.pass.0, omega arith, fetching work_in (IsTold content) (terms_of_key content b.key) b.table_id.slots p.seat.id p.seat.me c.args.held.action (omega arith) (omega arith) p.empty c.requires.held)
 
 pub fetch_or-requires : goal.fetch_or-requires
 fetch_or-requires g c =
     let b = c.args.self.now.table.shared in let p = c.args.pass.now in let content = g.S.Site.content in let i = c.args.held.action in let y = c.args.held.slot in
-    let terms = terms_of content b.key in
+    let terms = terms_of_key content b.key in
     let ld = c.load.ensures in let ex = c.exchange-empty.ensures in
     let v = carrying (suc i) p.seat.me.0 in
     let eq : c.exchange-empty.new.seat.me ≡ (v, (i, y) ∷ []) = ex.3 ∙ (λ k. (ld.2.1 k, (i, y) ∷ rest (ld.2.0 k))) ∙ (λ k. (v, (i, y) ∷ p.free k)) in (
@@ -33,4 +33,4 @@ returns-clause-failed g c =
     let ld = c.load.ensures in let ex = c.exchange-empty.ensures in
     let eq : c.exchange-empty.new.seat.me ≡ (carrying (suc i) p.seat.me.0, (i, y) ∷ []) = ex.3 ∙ (λ k. (ld.2.1 k, (i, y) ∷ rest (ld.2.0 k))) ∙ (λ k. (carrying (suc i) p.seat.me.0, (i, y) ∷ p.free k)) in
     let d = subst (λ m. fails (step b.table_id.slots i 17179869184 0 none) m c.fetch_or.result c.fetch_or.new.seat.me) eq c.fetch_or.ensures.2 in
-    carried_makes (terms_of content b.key) (carrying (suc i) p.seat.me.0) d.1.0 c.fetch_or.new.seat.me.0 (Fail i ∷ []) p.seat.me.0.sight.claims c.requires.pass.1 (ap (λ (x : View). x.sight) d.1.1) d.1.2
+    carried_makes (terms_of_key content b.key) (carrying (suc i) p.seat.me.0) d.1.0 c.fetch_or.new.seat.me.0 (Fail i ∷ []) p.seat.me.0.sight.claims c.requires.pass.1 (ap (λ (x : View). x.sight) d.1.1) d.1.2

@@ -3,7 +3,7 @@ use Rattle.std.specs.Mem.Slots.{slots_items}
 use Rattle.ts_model.specs.Trees.{Listing, IsListing, at}
 use Rattle.ts_model.specs.declared.row.Stamp.{Stamp}
 use Rattle.ts_model.specs.declared.plan.Plan.{Plan}
-use Rattle.ts_carry.specs.Edits.{left_by, marks}
+use Rattle.ts_board.specs.Edits.{left_by, marks}
 use Rattle.ts_board.specs.Archives.{AreMarked, LeftArchive, picked}
 use Rattle.ts_board.proofs.Archives.{follow_from, leave_from, if_ok}
 use Rattle.ts_board.proofs.board.Closed.archive.Goals as goal

@@ -5,10 +5,11 @@ use Rattle.ts_model.specs.Runs.{IsPieceOf}
 use Rattle.ts_model.specs.declared.plan.Plan.{Plan}
 use Rattle.ts_model.specs.Sync.{listed_snapshot}
 use Rattle.ts_check.specs.Checkup.{Checkup}
-use Rattle.ts_check.proofs.Checking.{few_actions, no_commit, its_commit, if_none}
+use Rattle.ts_check.proofs.Checking.{no_commit, its_commit, if_none}
 use Rattle.ts_check.proofs.Scans.{item_at}
 use Rattle.ts_check.proofs.checked.Checked.commit_of.Goals as goal
 use Rattle.ts_check.proofs.checked.Checked.commit_of.Goals.{then-e-len-via-then-e-len, then-e-len-via-else-e-len+then-index}
+use Rattle.ts_laws.proofs.Bounds.{few_actions}
 
 pub returns-in_err-e-clause-none : goal.returns-in_err-e-clause-none
 returns-in_err-e-clause-none c =

@@ -8,7 +8,7 @@ returns-in-Ok g c =
     record {
       ran = (
         came,
-        reported came (g.O.Sink.holds c.args.out.now) (g.O.Sink.holds c.tell_all-told.new.out) (g.E.Sink.holds c.args.err.now) (g.E.Sink.holds c.tell_all-told.new.err) c.tell_all-told.result c.unwrap_or.result
-            c.tell_all-told.ensures.report c.tell_all-told.ensures.faults c.tell_all-told.ensures.status c.unwrap_or.ensures,
+        reported came (g.O.Sink.holds c.args.out.now) (g.O.Sink.holds c.report_all-told.new.out) (g.E.Sink.holds c.args.err.now) (g.E.Sink.holds c.report_all-told.new.err) c.report_all-told.result c.unwrap_or.result
+            c.report_all-told.ensures.report c.report_all-told.ensures.faults c.report_all-told.ensures.status c.unwrap_or.ensures,
       );
     }

@@ -5,7 +5,9 @@ use Rattle.ts_print.specs.Prints.{stamped_rows}
 use Rattle.ts_print.proofs.Stamping.{print-stamped}
 use Rattle.ts_print.proofs.print.Print.of_tree.Goals as goal
 
-pub returns-clause-print : goal.returns-clause-print
-returns-clause-print c =
-    IfOk-weaker c.of_rows.result (λ print. print ≡ stamped_rows c.rows.result.now) (λ print. at print ≡ print_of (at c.args.tree.now))
-    (λ print e. ap at (e ∙ ap stamped_rows c.rows.ensures.rows) ∙ print-stamped c.args.tree.now) c.of_rows.ensures.rows
+pub returns : goal.returns
+returns c = record {
+  print =
+      IfOk-weaker c.of_rows.result (λ print. print ≡ stamped_rows c.rows.result.now) (λ print. at print ≡ print_of (at c.args.tree.now))
+      (λ print e. ap at (e ∙ ap stamped_rows c.rows.ensures.rows) ∙ print-stamped c.args.tree.now) c.of_rows.ensures.rows;
+}

@@ -26,5 +26,5 @@ seen_from g c =
 pub invariant_of-result : goal.invariant_of-result
 invariant_of-result g c = let h = part_of c.args.self.now c.args.path.now c.sub-row-items.ensures.listing in rw (seen_from g c) h.listing
 
-pub returns-clause-part : goal.returns-clause-part
-returns-clause-part g c = let h = part_of c.args.self.now c.args.path.now c.sub-row-items.ensures.listing in rw (seen_from g c) h.tree
+pub returns : goal.returns
+returns g c = record { part = let h = part_of c.args.self.now c.args.path.now c.sub-row-items.ensures.listing in rw (seen_from g c) h.tree }

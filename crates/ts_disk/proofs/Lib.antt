@@ -1,0 +1,6 @@
+pub mod Children
+pub mod Compared
+pub mod Ends
+pub mod Parts
+pub mod Rows
+pub mod Stamps

@@ -1,0 +1,89 @@
+use Rattle.std.proofs.Common.{◌≡◌, ◌++◌, ◌∷◌, [], ℕ, Some, refl, sym, ap, ◌∙◌, subst, inl, append-nil}
+use Rattle.ts_model.specs.Runs.{Run, Has, HasNot, IsPieceOf, claims, releases}
+use Rattle.ts_model.specs.declared.plan.Plan.{Plan}
+use Rattle.ts_model.specs.declared.step.Step.TheVariants.{Claim, Act, Done, Fail}
+use Rattle.ts_model.specs.declared.step.Work.{Work}
+use Rattle.ts_board.specs.Calls.{mine, seen, terms_of, work_of}
+use Rattle.ts_board.specs.Runs.{StartsWith}
+use Rattle.ts_board.specs.Terms.{IsSited}
+use Rattle.ts_exec.specs.Failures.{IsTold, MayFail}
+use Rattle.ts_exec.specs.Tidy.{AreTakes}
+use Rattle.ts_exec.specs.Sharing.{setting_of}
+use Rattle.ts_exec.proofs.Claims.{not_released, not_taken}
+use Rattle.ts_exec.proofs.Reading.{may_later, starts_after, starts_through, told_done, told_failed}
+use Rattle.ts_exec.proofs.Steps.{has_right, hasnot_both, takes_none}
+use Rattle.ts_exec.proofs.Tries.{block, claim_here, ending, steps_done, steps_failed, try_done, try_failed, try_none}
+use Rattle.ts_exec.proofs.shared.Shared.attempt.Goals as goal
+
+pub returns-in_err-held-clause-steps : goal.returns-in_err-held-clause-steps
+returns-in_err-held-clause-steps g c = ([], c.in_err-held.ensures.lost.0.1 ∙ sym (append-nil (mine c.args.pass.now)), try_none c.args.self.now.checked.now.plan c.args.i c.from_residual.result, tt)
+
+pub act-requires-clause-site : goal.act-requires-clause-site
+act-requires-clause-site g c κs within =
+    let j = c.args.self.now in let held = c.in_ok-held.held in
+    subst (λ (z : ℕ). IsSited j.checked.now.plan z held.slot) (sym c.in_ok-held.ensures.won.0) (subst (λ (z : Plan). IsSited z c.args.i held.slot) j.plan c.in_ok-held.ensures.site)
+
+pub act-requires-clause-untaken : goal.act-requires-clause-untaken
+act-requires-clause-untaken g c κs within = λ k piece.
+    let j = c.args.self.now in let won = c.in_ok-held.ensures.won in
+    not_taken (terms_of g.S.Site.content j.board.now) j.checked.now (j.plan, j.first_print, j.second_print) j.valid c.args.pass.now c.claim.new.pass c.args.i won.1 c.requires.tidy k
+    (subst (λ (z : ℕ). IsPieceOf j.checked.now.plan z k) won.0 piece)
+
+pub release_all-requires-clause-fresh : goal.release_all-requires-clause-fresh
+release_all-requires-clause-fresh g c κs within = λ k.
+    let j = c.args.self.now in let won = c.in_ok-held.ensures.won in let i = c.args.i in let own = mine c.args.pass.now in
+    let steps = c.act.ensures.steps in let more = steps.0 in let plan = j.checked.now.plan in
+    let a = c.act.new.held.action in let w = work_of c.act.new.held in
+    let before : HasNot own (releases i k) = not_released (terms_of g.S.Site.content j.board.now) j.checked.now (j.plan, j.first_print, j.second_print) j.valid c.args.pass.now c.claim.new.pass i won.1 k in
+    let claimed : HasNot (mine c.claim.new.pass) (releases i k) = subst (λ (z : Run). HasNot z (releases i k)) (sym won.1.2) (hasnot_both (releases i k) own (Claim i ∷ []) before refl) in
+    let acted : HasNot (mine c.act.new.pass) (releases i k) = subst (λ (z : Run). HasNot z (releases i k)) (sym steps.1) (hasnot_both (releases i k) (mine c.claim.new.pass) more claimed (takes_none (releases i k) plan c.in_ok-held.held.action (λ l. refl) more steps.2)) in
+    subst (λ (z : Run). HasNot z (releases i k)) (sym c.done.ensures.done.2) (hasnot_both (releases i k) (mine c.act.new.pass) (Act a w ∷ Done a ∷ []) acted refl)
+
+pub returns-in-Ok-clause-steps : goal.returns-in-Ok-clause-steps
+returns-in-Ok-clause-steps g c =
+    let j = c.args.self.now in let won = c.in_ok-held.ensures.won in let i = c.args.i in let own = mine c.args.pass.now in let plan = j.checked.now.plan in
+    let x = setting_of g.S.Site g.F.Folder j in
+    let acted = seen c.act.new.pass in let done_seen = seen c.done.new.pass in let last_seen = seen c.release_all.new.pass in let makes = c.done.ensures.done in
+    let later : StartsWith last_seen acted = starts_through acted done_seen last_seen (starts_after acted makes.0 (Act c.act.new.held.action (work_of c.act.new.held) ∷ Done c.act.new.held.action ∷ []) done_seen makes.1) c.release_all.ensures.seen in
+    let steps = c.act.ensures.steps in let more = steps.0 in let last = c.release_all.ensures.steps in let rest = last.0 in
+    let a = c.act.new.held.action in let w : Work = work_of c.act.new.held in
+    let same : a ≡ i = c.act.ensures.action ∙ won.0 in
+    let takes_of : AreTakes plan i more = subst (λ (z : ℕ). AreTakes plan z more) won.0 steps.2 in
+    let done : mine c.done.new.pass ≡ ((own ++ Claim i ∷ []) ++ more) ++ Act i w ∷ Done i ∷ [] =
+    c.done.ensures.done.2 ∙ ap (λ (z : Run). z ++ Act a w ∷ Done a ∷ []) (steps.1 ∙ ap (λ (z : Run). z ++ more) won.1.2) ∙ ap (λ (z : ℕ). ((own ++ Claim i ∷ []) ++ more) ++ Act z w ∷ Done z ∷ []) same in (
+      block i more (ending plan i more takes_of w rest last.2 last.3),
+      last.1 ∙ ap (λ (z : Run). z ++ rest) done ∙ steps_done own more rest i w,
+      try_done plan i more takes_of w rest last.2 last.3,
+      told_done x acted last_seen plan i more rest w later takes_of last.2 (subst (λ (z : ℕ). IsTold x acted z w) won.0 c.in-Ok.ensures.told),
+    )
+
+pub returns-in-Err-clause-steps : goal.returns-in-Err-clause-steps
+returns-in-Err-clause-steps g c =
+    let j = c.args.self.now in let won = c.in_ok-held.ensures.won in let i = c.args.i in let own = mine c.args.pass.now in let plan = j.checked.now.plan in
+    let x = setting_of g.S.Site g.F.Folder j in
+    let steps = c.act.ensures.steps in let more = steps.0 in
+    let a = c.act.new.held.action in
+    let same : a ≡ i = c.act.ensures.action ∙ won.0 in
+    let takes_of : AreTakes plan i more = subst (λ (z : ℕ). AreTakes plan z more) won.0 steps.2 in (
+      block i more (Fail i ∷ []),
+      c.fail.ensures.failed.2 ∙ ap (λ (z : Run). z ++ Fail a ∷ []) (steps.1 ∙ ap (λ (z : Run). z ++ more) won.1.2) ∙ ap (λ (z : ℕ). ((own ++ Claim i ∷ []) ++ more) ++ Fail z ∷ []) same ∙ steps_failed own more i,
+      try_failed plan i more takes_of (Some c.in-Err.fault) refl,
+      told_failed x (seen c.fail.new.pass) plan i more takes_of,
+    )
+
+pub returns-in-Err-clause-tried : goal.returns-in-Err-clause-tried
+returns-in-Err-clause-tried g c =
+    let won = c.in_ok-held.ensures.won in let i = c.args.i in let own = mine c.args.pass.now in let plan = c.args.self.now.checked.now.plan in
+    let steps = c.act.ensures.steps in let more = steps.0 in let a = c.act.new.held.action in
+    let same : a ≡ i = c.act.ensures.action ∙ won.0 in
+    let takes_of : AreTakes plan i more = subst (λ (z : ℕ). AreTakes plan z more) won.0 steps.2 in
+    let all : mine c.fail.new.pass ≡ own ++ block i more (Fail i ∷ []) =
+    c.fail.ensures.failed.2 ∙ ap (λ (z : Run). z ++ Fail a ∷ []) (steps.1 ∙ ap (λ (z : Run). z ++ more) won.1.2) ∙ ap (λ (z : ℕ). ((own ++ Claim i ∷ []) ++ more) ++ Fail z ∷ []) same ∙ steps_failed own more i in
+    inl (subst (λ (z : Run). Has z (claims i)) (sym all) (has_right (claims i) own (block i more (Fail i ∷ [])) (claim_here plan i more takes_of (Fail i ∷ []))))
+
+pub returns-in-Err-clause-fault : goal.returns-in-Err-clause-fault
+returns-in-Err-clause-fault g c =
+    let j = c.args.self.now in let won = c.in_ok-held.ensures.won in let before = seen c.act.new.pass in let then = seen c.fail.new.pass in let failed = c.fail.ensures.failed in
+    let x = setting_of g.S.Site g.F.Folder j in
+    may_later x before then (starts_after before failed.0 (Fail c.act.new.held.action ∷ []) then failed.1) c.args.i c.in-Err.fault
+    (subst (λ (z : ℕ). MayFail x before z c.in-Err.fault) won.0 c.in-Err.ensures.fault)

@@ -1,8 +1,0 @@
-use Rattle.std.proofs.Common.{drop}
-use Rattle.ts_tree.proofs.Writing.{Wrote}
-use Rattle.ts_perform.specs.Runs.{failure_lines}
-use Rattle.ts_perform.proofs.telling.tell_failures.Given as goal
-
-abbrev pub invariant-loop-i : goal.invariant-loop-i
-invariant-loop-i g l =
-    Wrote (g.E.Sink.holds l.fn.err) (g.E.Sink.holds l.err) (failure_lines l.plan.entries l.plan.actions l.results) (failure_lines l.plan.entries (drop l.i l.plan.actions) (drop l.i l.results))
