@@ -156,9 +156,10 @@ is_held() {
 }
 
 # held_at NAME PATTERN SIDE CONDITION EDIT: makes the edit while the run is held up before (enter) or after (exit) the call
-# that has the pattern, when the condition holds
+# that has the pattern, when the condition holds. The run goes on once its tracer is gone, and not after a time, in which a
+# slow machine might not come to the edit.
 held_at() {
-  local name="$1, from $from" side=$3 end
+  local name="$1, from $from" side=$3 end tracer
   held_status=none
   call_of "$2"
   if [ -z "${call:-}" ]; then
@@ -167,13 +168,15 @@ held_at() {
   fi
   [ "$5" != edit_of_same_time ] || touch "$to/f"
   : >log
-  strace -qq -f -o log -e signal=none -e inject="$call:delay_$side=500000:when=$number" \
+  strace -D -qq -f -o log -e signal=none -e inject="$call:delay_$side=120000000:when=$number" \
     "$program" "${sync[@]}" --workers 1 >out 2>err &
   child=$!
   end=$((SECONDS + 60))
   until { is_held && eval "$4"; } || [ "$SECONDS" -ge "$end" ] || ! kill -0 "$child" 2>/dev/null; do sleep 0.005; done
   edit_now "$5"
   holds_true "$name: the edit comes in time" is_held
+  tracer=$(awk '/^TracerPid:/ { print $2 }' "/proc/$child/status")
+  [ "${tracer:-0}" = 0 ] || kill -KILL "$tracer"
   wait "$child"
   held_status=$?
 }
