@@ -5,14 +5,17 @@ set -u
 cd "$(dirname "$0")/.." || exit 1
 . tests/cases.sh
 
-# ---- recovery: a run was stopped between the two renames of a swap
-fresh
-printf a >second/a
-mkdir first/a
-printf b >first/a/b
-archive_of "f /a 1 $SA" >archive
-mkdir first/.twosync second/.twosync
-tee first/.twosync/plan >second/.twosync/plan <<'P'
+one='total 1 done 1 skipped 0 failed 0 blocked 0'
+
+# ---- recovery: a run was stopped between the two renames of a swap; a plan carried by hand recovers, too
+for words in 'sync first second archive' 'run first second archive plan'; do
+  fresh
+  printf a >second/a
+  mkdir first/a
+  printf b >first/a/b
+  archive_of "f /a 1 $SA" >archive
+  mkdir first/.twosync second/.twosync
+  tee first/.twosync/plan plan >second/.twosync/plan <<'P'
 twosync-plan 1
 entry first /a
 piece 0 0 1 /a/b
@@ -22,10 +25,70 @@ mark 0
 p 1
 end 1 3
 P
-mv second/a second/.twosync/old-0
-mkdir second/.twosync/new-0
-expect 'recovery' 0 $'done first /a\ntotal 1 done 1 skipped 0 failed 0 blocked 0' '' "${sync[@]}"
-alike 'recovery'
+  mv second/a second/.twosync/old-0
+  mkdir second/.twosync/new-0
+  # shellcheck disable=SC2086
+  expect "recovery: $words" 0 $'done first /a\n'"$one" '' $words
+  alike "recovery: $words"
+  holds_true "recovery: $words: the change" test "$(cat second/a/b)" = b
+done
+
+# ---- a spot has its entry's number, which isn't that of its commit where an entry before it has none
+# stopped_at NUMBER KIND: /c is a conflict, and /f was replaced or deleted in the first replica; the swap of /f was stopped
+# when the old file was at the spot of this number. After a deletion that is the only spot.
+stopped_at() {
+  fresh
+  printf a | tee first/c first/f >second/f
+  archive_of "f /c 1 $SA
+f /f 1 $SA" >archive
+  printf b | tee first/c >first/f
+  mkdir -m 700 first/.twosync second/.twosync
+  mv second/f "second/.twosync/old-$1"
+  if [ "$2" = deleted ]; then rm first/f; else printf x >"second/.twosync/new-$1"; fi
+  {
+    printf 'twosync-plan 1\nentry conflict /c\nentry first /f\n'
+    case $2 in
+    replaced) printf 'piece 1 0 1 /f\ncommit 1\np 0\nmark 1\np 1\nend 2 3\n' ;;
+    deleted) printf 'commit 1\nmark 1\np 0\nend 2 2\n' ;;
+    esac
+  } | tee first/.twosync/plan >second/.twosync/plan
+}
+for kind in replaced deleted; do
+  stopped_at 1 $kind
+  done=first
+  [ $kind = replaced ] || done=same
+  expect "the second entry, $kind" 1 $'skip conflict /c\n'"done $done /f"$'\ntotal 2 done 1 skipped 1 failed 0 blocked 0' '' "${sync[@]}"
+  if [ $kind = replaced ]; then
+    holds_true 'the second entry, replaced: the change' test "$(cat second/f)" = b
+  else
+    holds_true 'the second entry, deleted: it is gone' test ! -e second/f
+  fi
+  holds_true "the second entry, $kind: the conflict" test ! -e second/c -a "$(cat first/c)" = b
+  holds_true "the second entry, $kind: nothing is left" test -z "$(find first/.twosync second/.twosync -mindepth 1)"
+  stopped_at 0 $kind
+  refused "the number of the commit, $kind" 8 "${sync[@]}"
+done
+
+# ---- one swap that can't be ended doesn't keep the others from it, before it and after it
+for gone in /away/a /gone/a; do
+  fresh
+  printf b >first/f
+  archive_of "f /f 1 $SA" >archive
+  mkdir -m 700 first/.twosync second/.twosync
+  printf 'entry first %s\n' "$gone" /f | LC_ALL=C sort >entries
+  { echo 'twosync-plan 1' && cat entries && echo 'end 2 0'; } >second/.twosync/plan
+  for number in 0 1; do
+    printf n >"second/.twosync/new-$number"
+    printf a >"second/.twosync/old-$number"
+  done
+  expect "beside $gone, which has no folder" 0 $'done first /f\n'"$one" \
+    "twosync: kept $gone as second/.twosync/left-0" "${sync[@]}"
+  holds_true "beside $gone, which has no folder: the other one" test "$(cat second/f)" = b
+  holds_true "beside $gone, which has no folder: it is kept" \
+    test "$(ls second/.twosync)" = left-0 -a "$(cat second/.twosync/left-0)" = a
+done
+
+# ---- other leftovers
 fresh
 printf a >first/a
 mkdir second/.twosync
@@ -64,6 +127,17 @@ stopped_at_gone
 mkfifo first/p
 expect 'a refusal after recovery says what is kept' 3 '' "$kept"$'\ntwosync: fault 10' "${sync[@]}"
 holds_true 'and it is kept' test "$(cat second/.twosync/left-0)" = o
+holds_true 'and no plan is left' test ! -e first/.twosync/plan -a ! -e second/.twosync/plan
+# the same in the other replica
+fresh
+printf a >second/a
+mkdir first/.twosync
+printf n >first/.twosync/new-0
+printf o >first/.twosync/old-0
+printf 'twosync-plan 1\nentry second /gone/a\nend 1 0\n' >first/.twosync/plan
+expect 'recovery in the first replica, with no folder to go back to' 0 $'done second /a\n'"$one" \
+  'twosync: kept /gone/a as first/.twosync/left-0' "${sync[@]}"
+holds_true 'the original is kept in the first replica' test "$(cat first/.twosync/left-0)" = o
 stopped_at_gone
 mkdir second/gone
 expect 'recovery where the original has a folder to go back to' 0 $'done first /a\ndone second /gone\ntotal 2 done 2 skipped 0 failed 0 blocked 0' '' "${sync[@]}"
