@@ -37,6 +37,24 @@ head -c 3145729 /dev/urandom >second/g
 expect 'files of many sizes' 0 $'done first /d\ndone first /e\ndone first /f\ndone second /g\ntotal 4 done 4 skipped 0 failed 0 blocked 0' '' "${sync[@]}"
 alike 'files of many sizes'
 
+# ---- files around the sizes of a buffer and of a piece, copied, replaced and deleted from either side
+for role in 'first second' 'second first'; do
+  read -r from to <<<"$role"
+  for size in 65535 65536 65537 200000 1048576 1048577; do
+    fresh
+    head -c "$size" /dev/urandom >"$from/f"
+    for step in copied replaced deleted; do
+      case $step in
+      replaced) head -c "$size" /dev/urandom >"$from/f" ;;
+      deleted) rm "$from/f" ;;
+      esac
+      expect "$size bytes, $step from $from" 0 "done $from /f"$'\ntotal 1 done 1 skipped 0 failed 0 blocked 0' '' "${sync[@]}"
+      alike "$size bytes, $step from $from"
+    done
+    holds_true "$size bytes, deleted from $from: it is gone" test ! -e "$to/f"
+  done
+done
+
 # ---- changes on both sides
 fresh
 mkdir first/d second/d
@@ -119,6 +137,7 @@ printf b >first/b
 expect 'check after a change' 3 'refused 4 1' '' check first second archive plan
 expect 'run after a change' 3 'refused 4 1' '' run first second archive plan
 holds_true 'a refused plan changes nothing' test ! -e second/a -a ! -e archive
+holds_true 'a refused run leaves no plan' test ! -e first/.twosync/plan -a ! -e second/.twosync/plan
 holds_true 'a refused run leaves no lock' test ! -e first/.twosync/lock -a ! -e second/.twosync/lock
 fresh
 printf a >first/a
@@ -163,6 +182,29 @@ alike 'changes among 10,000 files'
 holds_true 'the changed file' test "$(cat 'second/d7/f 1')" = '7 1new'
 holds_true 'the deleted file' test ! -e 'first/d7/f 2'
 expect 'nothing to do among 10,000 files' 0 'total 0 done 0 skipped 0 failed 0 blocked 0' '' "${sync[@]}"
+
+# ---- each of many actions that fail has its line and its fault
+if may_be_refused; then
+  fresh
+  mkdir first/d second/d
+  seq 1500 | split -l 1 -a 3 - first/d/f
+  chmod 555 second/d
+  chmod 777 .
+  chown -R 65534 first second 2>/dev/null
+  before=("${as[@]}")
+  names=$(ls first/d)
+  expect 'each of 1,500 files fails' 2 "done dir /d
+$(sed 's|^|failed first /d/|' <<<"$names")
+total 1501 done 1 skipped 0 failed 1500 blocked 0" "$(sed 's|^|twosync: fault 8 /d/|' <<<"$names")" "${sync[@]}"
+  chmod 755 second/d
+  expect 'each of them is copied later' 0 "$(sed 's|^|done first /d/|' <<<"$names")
+total 1500 done 1500 skipped 0 failed 0 blocked 0" '' "${sync[@]}"
+  before=()
+  alike 'each of them is copied later'
+  chmod 755 .
+else
+  echo 'skipped: no other user to run as, so files that all fail are not tried'
+fi
 
 # ---- a file of 64 MiB
 fresh
