@@ -92,6 +92,22 @@ holds_true 'a file that became a folder stays' test -d second/f
 holds_true 'a file that became a link stays' test "$(readlink second/l)" = ../archive
 holds_true 'where it leads to' test "$(head -n 1 archive)" = 'twosync-archive 1'
 
+# one byte of a large target changes, at its beginning, in its middle or at its end, and its length and its time stay
+for offset in 0 65536 131071 199999; do
+  fresh
+  head -c 200000 /dev/zero | tee first/a >second/a
+  "$program" "${sync[@]}" >/dev/null 2>&1
+  large first/a
+  byte_changes() {
+    touch -r second/a stamp
+    printf x | dd of=second/a bs=1 seek="$offset" conv=notrunc status=none
+    touch -r stamp second/a
+    cp second/a wanted
+  }
+  while_it_runs byte_changes $'failed first /a\ntotal 1 done 0 skipped 0 failed 1 blocked 0' 'twosync: fault 14 /a' "${sync[@]}"
+  holds_true "a target that changed at $offset stays" cmp -s second/a wanted
+done
+
 # a commit whose bytes don't fit is told as such, whatever became of its target
 fresh
 large first/a
