@@ -1,6 +1,7 @@
 #!/usr/bin/env bash
 # Runs the built program on a few worked bundles with each of its allocations refused in turn. Each run has to write the
-# bundle's whole answer, or a beginning of it with `twosync: fault 1` and status 3.
+# bundle's whole answer, or a beginning of it with `twosync: fault 1` and status 3. There is one worker, so that each number
+# is the same allocation in every run.
 # usage: tests/failing_allocations.sh [PROGRAM]
 set -u
 cd "$(dirname "$0")/.."
@@ -23,7 +24,7 @@ for name in copy_new_file new_directory_on_both_sides chain_through_all_actions;
     number=$((number + 1))
     rm "$work/refused"
     LD_PRELOAD=$work/refuse.so FAIL_ALLOCATION=$number ALLOCATION_REFUSED=$work/refused \
-      "$program" trial <"$bundles/$name.in" >"$work/got" 2>"$work/err"
+      "$program" trial --workers 1 <"$bundles/$name.in" >"$work/got" 2>"$work/err"
     status=$?
     if [ "$status" = 0 ] && cmp -s "$work/got" "$want" && [ ! -s "$work/err" ]; then continue; fi
     if [ "$status" = 3 ] && [ "$(cat "$work/err")" = 'twosync: fault 1' ] &&
