@@ -41,21 +41,24 @@ class Dice:
         se=s.changed(fi,6) if s.below(2)==0 else s.changed(drawn,4)
         held=s.below(4)==0; sp=s.spot()
         return ar,fi,se,(sp if held and sp else None)
-def sub(t,p): return {q:t[q] for q in PATHS if q[:len(p)]==p}
-def reason(w,p):
-    ar,fi,se,named=w
+def sub(t,p): return {q:t[q] for q in t if q[:len(p)]==p}
+def reason_of(ar,fi,se,held,p):
+    """The reason of a path for an archive and two replicas, each what stands at every path, and the paths that are held."""
     if not p: return None
     up=p[:-1]
     if not(fi[up]=='dir' and se[up]=='dir'): return None
     if fi[p]=='dir' and se[p]=='dir': return None if ar[p]=='dir' else 'Dir'
     if sub(fi,p)==sub(se,p): return None if sub(ar,p)==sub(fi,p) else 'Same'
-    heldset=[h for h in PATHS if h==named and (ar[h] is not None or fi[h] is not None or se[h] is not None)]
-    near=any(h[:len(p)]==p or p[:len(h)]==h for h in heldset)
+    near=any(h[:len(p)]==p or p[:len(h)]==h for h in held)
     ch1=sub(fi,p)!=sub(ar,p); ch2=sub(se,p)!=sub(ar,p)
     d1=ch1 or near; d2=ch2 or near
     if d1 and not d2: return 'First'
     if d2 and not d1: return 'Second'
     return 'Conflict' if ch1 and ch2 else 'Held'
+def present(ar,fi,se,p): return any(t[p] is not None for t in (ar,fi,se))
+def reason(w,p):
+    ar,fi,se,named=w
+    return reason_of(ar,fi,se,[h for h in PATHS if h==named and present(ar,fi,se,h)],p)
 def src(w,r): return w[1] if r=='First' else w[2] if r=='Second' else None
 def ranges(w,item):
     """lawful pieces of an entry: path -> list of (offset,length)"""
