@@ -103,42 +103,37 @@ printf 'twosync-plan 1\nentry first /gone/a\nend 1 0\n' >second/.twosync/plan
 expect 'recovery where the folder above is gone' 0 $'done first /a\ntotal 1 done 1 skipped 0 failed 0 blocked 0' '' "${sync[@]}"
 alike 'recovery where the folder above is gone'
 
+# stopped_at_gone FROM TO: a swap in the replica TO was stopped, and the folder that its target stood in is gone
 stopped_at_gone() {
   fresh
-  printf a >first/a
-  mkdir second/.twosync
-  printf n >second/.twosync/new-0
-  printf o >second/.twosync/old-0
-  printf 'twosync-plan 1\nentry first /gone/a\nend 1 0\n' >second/.twosync/plan
+  printf a >"$1/a"
+  mkdir "$2/.twosync"
+  printf n >"$2/.twosync/new-0"
+  printf o >"$2/.twosync/old-0"
+  printf 'twosync-plan 1\nentry %s /gone/a\nend 1 0\n' "$1" >"$2/.twosync/plan"
 }
 kept='twosync: kept /gone/a as second/.twosync/left-0'
-stopped_at_gone
+stopped_at_gone first second
 expect 'recovery where the original has no folder to go back to' 0 $'done first /a\ntotal 1 done 1 skipped 0 failed 0 blocked 0' "$kept" "${sync[@]}"
 holds_true 'the original is kept' test "$(cat second/.twosync/left-0)" = o
 expect 'the run after it' 0 'total 0 done 0 skipped 0 failed 0 blocked 0' '' "${sync[@]}"
 holds_true 'the original is still kept, and nothing else' test "$(ls second/.twosync)" = left-0
-stopped_at_gone
+stopped_at_gone first second
 "$program" "${sync[@]}" >out 2>/dev/full
 status=$?
 : >err
 answered 'no room to say what is kept' 2 $'done first /a\ntotal 1 done 1 skipped 0 failed 0 blocked 0' '' "$status"
 holds_true 'it is kept, and the run was made' test "$(cat second/.twosync/left-0)" = o -a -e second/a -a -e archive
-stopped_at_gone
+stopped_at_gone first second
 mkfifo first/p
 expect 'a refusal after recovery says what is kept' 3 '' "$kept"$'\ntwosync: fault 10' "${sync[@]}"
 holds_true 'and it is kept' test "$(cat second/.twosync/left-0)" = o
 holds_true 'and no plan is left' test ! -e first/.twosync/plan -a ! -e second/.twosync/plan
-# the same in the other replica
-fresh
-printf a >second/a
-mkdir first/.twosync
-printf n >first/.twosync/new-0
-printf o >first/.twosync/old-0
-printf 'twosync-plan 1\nentry second /gone/a\nend 1 0\n' >first/.twosync/plan
+stopped_at_gone second first
 expect 'recovery in the first replica, with no folder to go back to' 0 $'done second /a\n'"$one" \
   'twosync: kept /gone/a as first/.twosync/left-0' "${sync[@]}"
 holds_true 'the original is kept in the first replica' test "$(cat first/.twosync/left-0)" = o
-stopped_at_gone
+stopped_at_gone first second
 mkdir second/gone
 expect 'recovery where the original has a folder to go back to' 0 $'done first /a\ndone second /gone\ntotal 2 done 2 skipped 0 failed 0 blocked 0' '' "${sync[@]}"
 alike 'recovery where the original has a folder to go back to'
