@@ -195,7 +195,9 @@ const OTHERS: &[(&[u8], u8)] = &[
     ),
     // descending paths
     (
-        b"twosync-archive 1\nf /b 1 ca978112ca1bbdcafac231b39a23dc4da786eff8147c4e72b9807785afee48bb\nf /a 1 ca978112ca1bbdcafac231b39a23dc4da786eff8147c4e72b9807785afee48bb\nend 2 62b33044f770782f48751557a217f4f6e7f6d4942e5c821b37baab1bf195da86\n",
+        b"twosync-archive 1\nf /b 1 ca978112ca1bbdcafac231b39a23dc4da786eff8147c4e72b9807785afee48bb\n\
+f /a 1 ca978112ca1bbdcafac231b39a23dc4da786eff8147c4e72b9807785afee48bb\n\
+end 2 62b33044f770782f48751557a217f4f6e7f6d4942e5c821b37baab1bf195da86\n",
         6,
     ),
     // an upper-case stamp
