@@ -35,21 +35,21 @@ from dataclasses import dataclass
 TOP = os.path.dirname(os.path.dirname(os.path.abspath(__file__)))
 sys.path.insert(0, f"{TOP}/tests")
 
-import one_function
+import by_function
 from statements import statements_of, unfolded_names
 
 # How many of the recorded edits the gate tries again.
 SAMPLE = 10
 # For how many seconds the gate begins edits that have no record. It has three hours on two processors for all that it does.
 MOST_SECONDS = 45 * 60
-# A crate's edits are tried in turn, since each uses the work of those before it; where there are more, in several lanes.
-MOST_IN_A_LANE = 8
+# A crate's edits are tried over what a check of it without any proved; where there are more, in several lanes.
+MOST_IN_A_LANE = 24
 NAME = re.compile(r"[A-Za-z0-9_-][A-Za-z0-9_.-]*\.edit")
 LINE = re.compile(r"(\w+/\S+\.edit) ([0-9a-f]{64})")
 # A wrong body that has to be refused on each run, as docs/WRONG_BODIES.md names its edit.
 NAMED = re.compile(r"`(\w+/\w+)`")
-# What rt says of a refusal that shows little of the contract.
-SAYS_LITTLE = "only because a proof file names"
+# What is said of a refusal that shows little of the contract.
+SAYS_LITTLE = by_function.LITTLE
 
 
 def load_rt():
@@ -356,27 +356,28 @@ class Trial:
         """Tries some edits of a crate in turn, and records those that are refused."""
         lacking = [it.name for it in crate.below() if not given.get((it.name, "proof"), True)]
         if lacking:
-            self.note(edits, [(False, f"{it.key}: not tried, since {lacking[0]} isn't proved") for it in edits], {})
+            self.note([(it, False, f"{it.key}: not tried, since {lacking[0]} isn't proved") for it in edits], {})
             return
         before = Digests(self.repository)
         before = {it.key: before.of_edit(it, crate) for it in edits}
-        answers = one_function.try_in_turn(self.rt, crate, [it.file for it in edits], ["--jobs", "1"], self.until)
-        self.left += [it.key for it in edits[len(answers) :]]
-        after, seen = Digests(self.repository), {}
-        for at, (edit, (well, text)) in enumerate(zip(edits, answers)):
-            if well and after.of_edit(edit, crate) != before[edit.key]:
-                answers[at] = (False, f"{edit.key}: a file that its check reads was changed meanwhile: try it again")
+        answers = by_function.try_all(self.rt, crate, [it.file for it in edits], ["--jobs", "1"], self.until)
+        self.left += [edit.key for edit, answer in zip(edits, answers) if answer is None]
+        after, seen, tried = Digests(self.repository), {}, []
+        for edit, (is_refused, text) in ((edit, answer) for edit, answer in zip(edits, answers) if answer):
+            if is_refused and after.of_edit(edit, crate) != before[edit.key]:
+                tried.append((edit, False, f"{edit.key}: a file that its check reads was changed meanwhile: try it again"))
             else:
-                seen[edit.key] = before[edit.key] if well else None
-        self.note(edits, answers, seen)
+                tried.append((edit, is_refused, text))
+                seen[edit.key] = before[edit.key] if is_refused else None
+        self.note(tried, seen)
 
-    def note(self, edits, answers, seen):
-        """Prints the answers, counts them, and writes to the record what was seen."""
+    def note(self, tried, seen):
+        """Prints what came of some edits, counts them, and writes to the record what was seen."""
         repository = self.repository
         with repository.printing:
-            for edit, (well, text) in zip(edits, answers):
+            for edit, is_refused, text in tried:
                 print(text, flush=True)
-                if well:
+                if is_refused:
                     self.refused.add(edit.key)
                     self.little += [edit.key] * (SAYS_LITTLE in text)
                 else:

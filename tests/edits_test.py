@@ -1,5 +1,5 @@
 #!/usr/bin/env python3
-"""Tests tests/edits.py, tests/statements.py and tests/one_function.py on small repositories, with the kit's own rt but a stand-in for the prover.
+"""Tests tests/edits.py, tests/statements.py and tests/by_function.py on small repositories, with the kit's own rt but a stand-in for the prover.
 
 What is shown: which edits are tried after which change, what is written to the record, and what fails the gate. The
 last line is `N passed, M failed`.
@@ -15,16 +15,16 @@ import time
 sys.dont_write_bytecode = True
 sys.path.insert(0, os.path.dirname(os.path.abspath(__file__)))
 
+import by_function
 import edits
-import one_function
 import statements
 
 RT = edits.load_rt()
-TRY_IN_TURN = one_function.try_in_turn
+TRY_ALL = by_function.try_all
 # One lane, so that crates come one after the other.
 os.environ["RT_JOBS"] = "1"
 REFUSED = "refused, as it must be: src/lib.rt:1:1: error"
-LITTLE = "refused, as it must be (only because a proof file names what the edit took away, so this says little)"
+LITTLE = f"refused, as it must be ({by_function.LITTLE})"
 
 FILES = {
     "crates.txt": "low:\nhigh: low\nother:\n",
@@ -82,11 +82,12 @@ class World:
                 it.write(crate.stamp())
 
     def prove(self, _rt, crate, files, flags, until=None):
-        """Takes the place of try_in_turn: an answer is a text, or a call that is made while the edit is tried."""
+        """Takes the place of try_all: an answer is a text, or a call that is made while the edit is tried."""
         found = []
         for file in files:
             if until is not None and time.monotonic() > until:
-                break
+                found.append(None)
+                continue
             key = f"{crate.name}/{os.path.basename(file)}"
             self.asked.append(key)
             answer = self.answers.get(key, REFUSED)
@@ -98,7 +99,7 @@ class World:
         """Runs the step, and returns how many edits passed and failed. What was asked and said is kept."""
         self.build()
         edits.SAMPLE, edits.MOST_SECONDS, self.asked, said = sample, seconds, [], io.StringIO()
-        one_function.try_in_turn = self.prove
+        by_function.try_all = self.prove
         with contextlib.redirect_stdout(said):
             counts = edits.step(edits.Repository(RT, self.root), list(words))
         self.said = said.getvalue()
@@ -351,52 +352,124 @@ def libraries_without_a_stamp_have_to_be_newer_than_their_sources(world):
 def the_changed_function_is_named(_world):
     text = (
         "const A: u8 = 1;\nfn one() {\n    a\n}\nimpl<T: B> C<T> {\n    pub fn two(&self) {\n        b\n    }\n}\n"
-        "impl D for C {\n    fn three() {\n        c\n    }\n}\npub(crate) fn four() {\n    let d = |x| {\n    };\n}\n"
+        "impl D for C {\n    fn three() {\n        c\n    }\n}\npub(crate) fn four() {\n    let d = |x| {\n    };\n}\nconst E: u8 = 2;\n"
     )
-    named = one_function.changed_function
-    for old, wanted in [("A:", "m"), ("a\n", "m::one"), ("b\n", "C::two"), ("c\n", "m"), ("let d", "m::four")]:
-        same((old, named("src/m.rt", text, text.find(old))), (old, wanted))
-    same(named("src/m/n.rt", text, text.find("a\n")), "m::n::one")
-    same(named("src/m/mod.rt", text, text.find("a\n")), "m::one")
+
+    def named(path, old):
+        place = by_function.changed_place(path, text, text.find(old))
+        return place.only, place.name, place.first, place.last
+
+    for old, wanted in [
+        ("A:", ("m", "", 0, 0)),
+        ("a\n", ("m::one", "one", 2, 4)),
+        ("b\n", ("C::two", "two", 6, 8)),
+        ("c\n", ("m", "three", 11, 13)),
+        ("let d", ("m::four", "four", 15, 18)),
+        # what stands behind a function isn't of it
+        ("E:", ("m::four", "", 15, 18)),
+    ]:
+        same((old, named("src/m.rt", old)), (old, wanted))
+    same(named("src/m/n.rt", "a\n")[0], "m::n::one")
+    same(named("src/m/mod.rt", "a\n")[0], "m::one")
     for path in ("src/lib.rt", "src/main.rt", "specs/M.antt", "proofs/m/Answers.antt"):
-        same(named(path, text, text.find("a\n")), None)
+        same(named(path, "a\n"), (None, "", 0, 0))
 
 
 class Prover:
-    """Stands for rt: it checks the texts that it is given, and notes the flags."""
+    """Stands for the prover below the kit's own rt: what it answers in turn, and the flags that it was given."""
 
-    def __init__(self, verdicts):
-        self.verdicts, self.flags = verdicts, []
+    def __init__(self, *verdicts):
+        self.verdicts, self.flags, self.texts = list(verdicts), [], []
 
     def checked(self, _crate, texts, flags, kept):
-        self.flags.append((bool(texts), tuple(flags), bool(kept)))
-        status, last = self.verdicts.pop(0)
-        return subprocess.CompletedProcess([], status, stdout=f"{last}\n")
+        self.texts.append(texts)
+        self.flags.append([it for it in flags if it != "--only"])
+        status, *lines = self.verdicts.pop(0)
+        return subprocess.CompletedProcess([], status, stdout="".join(f"{it}\n" for it in lines))
 
-    def must_fail(self, crate, _edit, flags, kept=None):
-        ran = self.checked(crate, {"src/m.rt": ""}, flags, kept)
-        return ran.returncode == 1 and ran.stdout.rstrip().split("\n")[-1].startswith("logic=not-proved"), ran.stdout
+    def answers(self, world, *edits):
+        """Tries edits of the lowest crate, and returns which were refused."""
+        was, RT.checked = RT.checked, self.checked
+        try:
+            found = TRY_ALL(RT, RT.rtlib.crates_below(world.root)[0], [f"{world.root}/{it}.edit" for it in edits], [])
+        finally:
+            RT.checked = was
+        same(self.verdicts, [])
+        world.said = "\n".join(text for _, text in found)
+        return [is_refused for is_refused, _ in found]
+
+
+PROVED, WHOLE = (0, "only=1 proved=1"), (0, "logic=proved functions=3")
+NOT_PROVED = (1, "src/m.rt:2:5: error: `returns`: no proof", "logic=not-proved functions=3")
+
+
+def failed(*lines):
+    return (1, *lines, "only=1 proved=0")
+
+
+def at(line, goal):
+    return f"note: src/m.rt:{line}:1: it is not proved that what the function ensures holds when it returns (`{goal}`)"
+
+
+def put_functions(world):
+    world.put("crates/low/src/m.rt", "fn one() {\n    a\n    c\n}\n\nimpl T {\n    fn two() {\n        b\n    }\n}\n")
+    for old in "abc":
+        world.put(f"{old}.edit", f"file: src/m.rt\nold: {old}\nnew: {old}{old}\n")
 
 
 def a_function_is_checked_before_its_crate(world):
-    world.put("crates/low/src/m.rt", "fn one() {\n    a\n}\n")
-    world.put("e.edit", "file: src/m.rt\nold: a\nnew: b\n")
-    crate = RT.rtlib.crates_below(world.root)[0]
-    part, whole = ("--only", "m::one"), ()
-    refused, accepted = (1, "only=1 proved=0"), (0, "only=1 proved=1")
+    put_functions(world)
+    part, whole = ["m::one"], []
     cases = [
-        ([refused, accepted], True, [part, part]),
-        # the whole check decides where the function's doesn't refuse, can't be named, or isn't proved without the edit
-        ([accepted, accepted, (1, "logic=not-proved")], True, [part, part, whole]),
-        ([accepted, accepted, (0, "logic=proved")], False, [part, part, whole]),
-        ([(2, "error"), (2, "error"), (1, "logic=not-proved")], True, [part, part, whole]),
-        ([refused, refused, (0, "logic=proved")], False, [part, part, whole]),
+        ([PROVED, failed(at(1, "returns"))], True, [part, part]),
+        # the whole check decides where the function's doesn't refuse, or isn't proved without the edit
+        ([PROVED, PROVED, NOT_PROVED], True, [part, part, whole]),
+        ([PROVED, PROVED, WHOLE], False, [part, part, whole]),
+        ([failed(at(1, "returns")), NOT_PROVED], True, [part, whole]),
+        ([failed(at(1, "returns")), WHOLE], False, [part, whole]),
+        # what can't be read or compiled isn't refused
+        ([PROVED, (1, "src/m.rt:2:5: error: cannot continue", "only=1 proved=0"), NOT_PROVED], True, [part, part, whole]),
+        ([PROVED, (2, "error[E1]: no"), (1, "error[E1]: no")], False, [part, part, whole]),
+        ([PROVED, (0, "only=1 proved=1"), (-9, ""), (-9, "")], False, [part, part, whole, whole]),
     ]
     for verdicts, wanted, flags in cases:
-        prover = Prover(list(verdicts))
-        [(well, _text)] = TRY_IN_TURN(prover, crate, [f"{world.root}/e.edit"], [])
-        same((well, [it for _, it, _ in prover.flags]), (wanted, flags))
-        same(prover.flags[1][0], False)
+        prover = Prover(*verdicts)
+        same((prover.answers(world, "a"), prover.flags), ([wanted], flags))
+        same(prover.texts[0], {})
+
+
+def edits_of_different_functions_are_tried_in_one_check(world):
+    put_functions(world)
+    both = "fn one() {\n    aa\n    c\n}\n\nimpl T {\n    fn two() {\n        bb\n    }\n}\n"
+    answers = failed(at(1, "returns-clause-some"), "./proofs/m/T/two/Answers.antt:3:4: error: `one_more-requires`: no")
+    prover = Prover(PROVED, answers)
+    same((prover.answers(world, "a", "b"), prover.texts), ([True, True], [{}, {"src/m.rt": both}]))
+    same(prover.flags, [["T::two", "m::one"]] * 2)
+    same(["breaks some:" in world.said, "breaks one_more requires:" in world.said], [True, True])
+    # two edits of one function come one after the other
+    prover = Prover(PROVED, answers, failed(at(3, "returns")))
+    same((prover.answers(world, "a", "b", "c"), len(prover.texts[2])), ([True] * 3, 1))
+
+
+def an_edit_of_which_nothing_is_said_is_tried_alone(world):
+    put_functions(world)
+    said = [at(1, "returns"), "note: `returns` of proofs/m/one/Answers.antt must prove: ⊥", at(6, "returns")]
+    prover = Prover(PROVED, failed(*said), PROVED, WHOLE)
+    same((prover.answers(world, "a", "b"), prover.flags[2:]), ([True, False], [["T::two"], []]))
+    # a check that wasn't ended says nothing
+    prover = Prover(PROVED, (1, at(1, "returns"), at(7, "returns")), failed(at(1, "returns")), failed(at(7, "returns")))
+    same(prover.answers(world, "a", "b"), [True, True])
+
+
+def an_edit_has_to_break_what_it_says(world):
+    put_functions(world)
+    world.put("a.edit", "breaks: some\nfile: src/m.rt\nold: a\nnew: aa\n")
+    lost = "./proofs/m/one/Answers.antt:3:4: error: `returns-clause-some`: module has no `x` that can be named"
+    for line, wanted in [(at(1, "returns-in-Ok-clause-some"), True), (at(1, "returns-clause-none"), False), (lost, False)]:
+        same((line, Prover(PROVED, failed(line)).answers(world, "a")), (line, [wanted]))
+        same((line, Prover(PROVED, failed(line, at(7, "returns"))).answers(world, "a", "b")), (line, [wanted, True]))
+    same(Prover(PROVED, PROVED, NOT_PROVED).answers(world, "a"), [False])
+    same("it doesn't break some, but nothing that was named" in world.said, True)
 
 
 TESTS = [
@@ -423,6 +496,9 @@ TESTS = [
     libraries_without_a_stamp_have_to_be_newer_than_their_sources,
     the_changed_function_is_named,
     a_function_is_checked_before_its_crate,
+    edits_of_different_functions_are_tried_in_one_check,
+    an_edit_of_which_nothing_is_said_is_tried_alone,
+    an_edit_has_to_break_what_it_says,
 ]
 
 

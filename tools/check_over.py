@@ -16,7 +16,7 @@ TOP = os.path.dirname(os.path.dirname(os.path.abspath(__file__)))
 sys.path.insert(0, f"{TOP}/tests")
 
 from edits import load_rt
-from one_function import only
+from by_function import only
 
 
 def over(clone, word):

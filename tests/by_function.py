@@ -1,0 +1,291 @@
+"""Has the prover try edits by the functions that they change, several at once, and not each by the whole crate.
+
+Most of a check's time goes into reading what stands below a crate. Each function is proved by itself, from the contracts of
+those that it calls: what the prover says of a function is said of the edit in it. So edits in different functions are tried
+in one check. An edit of which it says nothing there is tried alone, and where a check of its function doesn't refuse it,
+a whole check from nothing decides, as `rt ci` makes it.
+"""
+import os
+import re
+import tempfile
+import threading
+import time
+from dataclasses import dataclass
+
+FUNCTION = re.compile(r"(?m)^( *)(?:pub(?:\([^)]*\))? )?(?:const )?(?:final )?fn (\w+)")
+# The type that an `impl` without a trait is of.
+OWN_IMPL = re.compile(r"^impl(?:<.*?>)? (\w+)(?:<.*>)?(?: \{|$)", re.MULTILINE)
+OTHER_BLOCK = re.compile(r"(?m)^(?:pub(?:\([^)]*\))? )?(?:unsafe )?(?:impl|trait|mod)\b")
+# What ends the output of a check of some functions, of which one is refused.
+REFUSED = "logic=not-proved, by a check of the function alone"
+# The prover's lines on a goal: with a place in the code, or with the proof file of a function.
+AT_A_PLACE = re.compile(r"note: (src/\S+?):(\d+):\d+: .*?\(`([\w-]+)`\)")
+IN_A_PROOF = re.compile(r"(?:\./)?(proofs/\S+)/\w+\.antt:\d+:\d+: error: `([\w-]+)`: (.*)")
+OF_A_PROOF = re.compile(r"note: `([\w-]+)` of (proofs/\S+)/\w+\.antt must prove: (.*)")
+# A proof file that names what an edit took away says little of the contract.
+SAYS_LITTLE = re.compile(r"has no field|is not in scope|has no `|was not admitted")
+LITTLE = "only because a proof file names what the edit took away"
+# The clause in an edit that it has to break.
+BREAKS = re.compile(r"(?m)^breaks: (.+?) *$")
+# How many edits the prover tries in one check: its memory grows with them.
+MOST_AT_ONCE = 12
+# What the prover said last in this thread.
+LAST = threading.local()
+
+
+@dataclass(frozen=True)
+class Place:
+    """Where an edit changes something: what to check alone, and the file, the name, the type and the lines of the function.
+
+    `only` is None where only a whole check tells, and `name` is empty outside of functions.
+    """
+
+    only: str | None
+    file: str = ""
+    name: str = ""
+    owner: str = ""
+    first: int = 0
+    last: int = 0
+
+    def is_at(self, file, line):
+        return bool(self.name) and file == self.file and self.first <= line <= self.last
+
+    def is_proved_in(self, folder):
+        """Whether a folder of proofs is the function's: its path has the module, for a method the type, and the name."""
+        parts = folder.split("/")
+        return bool(self.name) and parts[-1] == self.name and (not self.owner or self.owner in parts)
+
+
+def module_of(path):
+    """Returns the path below its crate of the module in a file, or None for the crate's root and for what is no code."""
+    parts = path.removesuffix(".rt").split("/")
+    if parts[0] != "src" or not path.endswith(".rt") or parts[1:] in (["lib"], ["main"]):
+        return None
+    return "::".join(parts[1:-1] if parts[-1] == "mod" else parts[1:])
+
+
+def lines_of(text, start, indent):
+    """Returns the first and the last line of the function that begins at a place, as `rt fmt` lays it out."""
+    end = re.compile(rf"(?m)^{indent}\}}$|\{{\}}$").search(text, start)
+    return text.count("\n", 0, start) + 1, text.count("\n", 0, end.start() if end else len(text)) + 1
+
+
+def changed_place(path, text, at):
+    """Returns where a place in the text of a file stands. What can't be named so simply is checked with its module."""
+    module = module_of(path)
+    if module is None:
+        return Place(None)
+    found = [it for it in FUNCTION.finditer(text) if it.start() <= at]
+    if not found or len(found[-1][1]) > 4:
+        return Place(module)
+    indent, name = found[-1].groups()
+    first, last = lines_of(text, found[-1].start(), indent)
+    name = name if text.count("\n", 0, at) < last else ""
+    if not indent:
+        return Place(f"{module}::{found[-1][2]}", path, name, "", first, last)
+    blocks = [it.start() for it in OTHER_BLOCK.finditer(text) if it.start() < found[-1].start()]
+    own = OWN_IMPL.match(text, blocks[-1]) if blocks else None
+    # a method stands below its type's module, wherever it is written
+    only = f"{own[1]}::{found[-1][2]}" if own else module
+    return Place(only, path, name, own[1] if own else "", first, last)
+
+
+def changes_of(edit):
+    """Returns the changes of an edit: file, old text and new text."""
+    path, old, found = "", "", []
+    with open(edit, encoding="utf-8") as it:
+        for line in it.read().split("\n"):
+            if line.startswith("file: "):
+                path = line.removeprefix("file: ").strip()
+            elif line.startswith("old: "):
+                old = line.removeprefix("old: ")
+            elif line.startswith("new:"):
+                found.append((path, old, line.removeprefix("new:").removeprefix(" ")))
+    return found
+
+
+def clauses_to_break(edit):
+    """Returns the clauses that an edit says it breaks."""
+    with open(edit, encoding="utf-8") as it:
+        return BREAKS.findall(it.read())
+
+
+class Try:
+    """An edit that is tried: where it changes something, and what came of it."""
+
+    def __init__(self, crate, edit):
+        self.edit = edit
+        self.key = f"{crate.name}/{os.path.basename(edit)}"
+        self.changes = changes_of(edit)
+        texts, places = {}, set()
+        for path, old, new in self.changes:
+            if path not in texts:
+                with open(f"{crate.folder}/{path}", encoding="utf-8") as it:
+                    texts[path] = it.read()
+            places.add(changed_place(path, texts[path], texts[path].find(old)))
+            texts[path] = texts[path].replace(old, new)
+        self.places = places
+        self.answer = None
+
+    @property
+    def only(self):
+        """The paths of what it changes, or none where only a whole check tells."""
+        paths = {it.only for it in self.places}
+        return [] if None in paths else sorted(paths)
+
+    @property
+    def names(self):
+        """The names of the functions that it changes, or none where something else is changed."""
+        names = {it.name for it in self.places}
+        return set() if "" in names else names
+
+
+def only(paths):
+    return [word for path in paths for word in ("--only", path)]
+
+
+def rounds_of(tries):
+    """Returns rounds of edits that can be tried together, since no two change functions of one name."""
+    rounds = []
+    for it in (it for it in tries if it.names):
+        room = (round for round in rounds if len(round) < MOST_AT_ONCE and not any(it.names & other.names for other in round))
+        place = next(room, None)
+        if place is None:
+            rounds.append([it])
+        else:
+            place.append(it)
+    return rounds
+
+
+def texts_of(crate, tries):
+    """Returns the texts of the files with the changes of several edits, or None where they don't go together."""
+    texts = {}
+    for path, old, new in (change for it in tries for change in it.changes):
+        if path not in texts:
+            with open(f"{crate.folder}/{path}", encoding="utf-8") as it:
+                texts[path] = it.read()
+        if texts[path].count(old) != 1:
+            return None
+        texts[path] = texts[path].replace(old, new)
+    return texts
+
+
+def goals_in(output):
+    """Returns the goals that a check couldn't prove: file and line or folder of proofs, the goal's name, and what was said."""
+    found = []
+    for line in output.split("\n"):
+        if it := AT_A_PLACE.match(line):
+            found.append(((it[1], int(it[2])), it[3], line))
+        elif it := IN_A_PROOF.match(line):
+            found.append((it[1], it[2], line))
+        elif it := OF_A_PROOF.match(line):
+            found.append((it[2], it[1], line))
+    return found
+
+
+def goals_of(places, goals):
+    """Returns the goals that are of functions at these places."""
+    return [
+        (goal, line)
+        for where, goal, line in goals
+        if any(it.is_proved_in(where) if isinstance(where, str) else it.is_at(*where) for it in places)
+    ]
+
+
+def clause_of(goal):
+    """Returns what of a contract a goal is about: the clause's name, `ensures` for the only one, what a call requires, ..."""
+    if named := re.search(r"-clause-(\w+)$", goal):
+        return named[1]
+    if required := re.match(r"(.+?)-requires", goal):
+        return f"{required[1]} requires"
+    for start, clause in (("returns", "ensures"), ("invariant", "invariant"), ("loop", "loop")):
+        if goal.startswith(start):
+            return clause
+    return "safety"
+
+
+def judged(it, said):
+    """Returns whether an edit of which the prover said this is refused, breaks what it says it does, and what to tell."""
+    telling = [(goal, line) for goal, line in said if not SAYS_LITTLE.search(line)]
+    clauses = list(dict.fromkeys(clause_of(goal) for goal, _ in telling))
+    missing = [clause for clause in clauses_to_break(it.edit) if clause not in clauses]
+    if missing:
+        return False, f"must-fail {it.key}: it doesn't break {', '.join(missing)}, but {', '.join(clauses) or 'nothing that was named'}"
+    if not telling:
+        return True, f"must-fail {it.key}: refused, as it must be ({LITTLE}): {said[0][1][:160]}"
+    return True, f"must-fail {it.key}: refused, as it must be: breaks {', '.join(clauses)}: {telling[0][1][:160]}"
+
+
+def ended_refused(ran):
+    """Whether a check of some functions ended with its verdict, and refused one."""
+    return ran.returncode == 1 and ran.stdout.rstrip("\n").split("\n")[-1].startswith("only=")
+
+
+def judge_by_functions(rt):
+    """Has rt take the refusal of some functions as that of their crate, and keep what the prover said."""
+    if getattr(rt.checked, "is_by_functions", False):
+        return
+    whole = rt.checked
+
+    def checked(crate, texts, flags, kept):
+        ran = whole(crate, texts, flags, kept)
+        LAST.said = ran.stdout
+        if "--only" in flags and ended_refused(ran):
+            ran.stdout += f"\n{REFUSED}\n"
+        return ran
+
+    checked.is_by_functions = True
+    rt.checked = checked
+
+
+def try_together(rt, crate, tries, flags, kept):
+    """Tries edits of different functions in one check. Those of which it says nothing are left without an answer."""
+    texts = texts_of(crate, tries)
+    if texts is None:
+        return
+    paths = sorted({path for it in tries for path in it.only})
+    rt.checked(crate, texts, flags + only(paths), kept)
+    if not LAST.said.rstrip("\n").split("\n")[-1].startswith("only="):
+        return
+    goals = goals_in(LAST.said)
+    for it in tries:
+        said = goals_of(it.places, goals)
+        it.answer = judged(it, said) if said else None
+
+
+def try_alone(rt, crate, it, flags, kept):
+    """Tries an edit alone: by its functions over what was proved, and where they don't refuse it by a whole check from nothing."""
+    is_refused, text = False, ""
+    if kept and it.only:
+        is_refused, text = must_fail(rt, crate, it.edit, flags + only(it.only), kept)
+    if not is_refused:
+        is_refused, text = must_fail(rt, crate, it.edit, flags, None)
+    said = [(goal, line) for _, goal, line in goals_in(LAST.said)]
+    it.answer = judged(it, said) if is_refused and (said or clauses_to_break(it.edit)) else (is_refused, text)
+
+
+def must_fail(rt, crate, edit, flags, kept):
+    """Returns whether rt says that the prover refuses an edit, and what it says."""
+    came, text = rt.must_fail(crate, edit, flags, kept)
+    return came in (rt.REFUSED, rt.AT_LIMIT), text
+
+
+def try_all(rt, crate, edits, flags, until=None):
+    """Tries a crate's edits, and returns for each whether it was refused, and what to say; or None where it wasn't begun by
+    the time `until`. What is said by functions counts only where the crate without any edit is proved over the same work."""
+    judge_by_functions(rt)
+    tries = [Try(crate, edit) for edit in edits]
+    with tempfile.TemporaryDirectory(prefix="rt-edits-") as kept:
+        paths = sorted({path for it in tries for path in it.only})
+        is_sound = bool(paths) and not is_over(until) and not rt.checked(crate, {}, flags + only(paths), kept).returncode
+        for part in rounds_of(tries) if is_sound else []:
+            if len(part) > 1 and not is_over(until):
+                try_together(rt, crate, part, flags, kept)
+        for it in tries:
+            if it.answer is None and not is_over(until):
+                try_alone(rt, crate, it, flags, kept if is_sound else None)
+    return [it.answer for it in tries]
+
+
+def is_over(until):
+    return until is not None and time.monotonic() > until
