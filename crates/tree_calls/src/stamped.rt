@@ -197,9 +197,19 @@ fn replaces(alloc: Global, place: &Path, text: &str, letters: &[u8; 7]) -> bool 
     let Ok(part) = print.sub_table(alloc, &other) else {
         return false;
     };
+    let Some(source) = print_of(alloc, BODY) else {
+        return false;
+    };
+    let Ok(mut twin) = print.copy(alloc) else {
+        return false;
+    };
     print.is_place(place)
-        && print.replace(alloc, place, part).is_ok()
+        && print.replace_with(alloc, place, part).is_ok()
         && has(alloc, &print, letters)
+        && twin
+            .replace(alloc, place, &source.sub_print(&other))
+            .is_ok()
+        && has(alloc, &twin, letters)
 }
 
 /// Whether the print with nothing at a path is as these letters tell.

@@ -5,7 +5,7 @@ ghost use Rattle.ts_model.specs.Sync.{listed_snapshot};
 ghost use Rattle.ts_model.specs.Trees.{IsListing};
 
 use crate::marks::Marks;
-use crate::walk::{Seen, Walk};
+use crate::walk::{Triple, Walk};
 use std::alloc::{AllocError, Global};
 use ts_hold::Holds;
 use ts_model::row::{Content, Row, Stamp};
@@ -82,7 +82,7 @@ fn differ(one: &Content<Stamp>, other: &Content<Stamp>) -> bool
 }
 
 /// Whether a rule names the path, wherever something is there: in the archive alone too.
-fn is_held(holds: &Holds, seen: &Seen) -> bool
+fn is_held(holds: &Holds, seen: &Triple) -> bool
     ensures { IsTrue result ↔ Names holds.now seen.now.path.now }
 {
     holds.holds(seen.path)

@@ -7,4 +7,4 @@ mod walk;
 
 pub use detection::detect;
 pub use marks::Marks;
-pub use walk::{Seen, Walk};
+pub use walk::{Triple, Walk};

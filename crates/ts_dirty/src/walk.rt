@@ -11,7 +11,7 @@ use ts_name::Path;
 
 /// A path that is present in the archive or a replica, and what is there in each.
 #[derive(Drop)]
-pub struct Seen<'a> {
+pub struct Triple<'a> {
     pub path: &'a Path,
     pub archive: Content<Stamp>,
     pub first: Content<Stamp>,
@@ -53,7 +53,7 @@ impl<'a> Walk<'a> {
     }
 
     /// The next path, None at the end.
-    pub fn next(&mut self) -> Option<Seen<'a>>
+    pub fn next(&mut self) -> Option<Triple<'a>>
         ensures { MatchOption result
             ((self.old.archive ≡ []) × (self.old.first ≡ []) × (self.old.second ≡ []))
             (λ seen. IsWalkStep seen.path.now seen.archive seen.first seen.second self.old self.new) }
@@ -67,7 +67,7 @@ impl<'a> Walk<'a> {
                 self.archive = rest_of_archive;
                 self.first = rest_of_first;
                 self.second = rest_of_second;
-                Some(Seen {
+                Some(Triple {
                     path,
                     archive,
                     first,

@@ -164,9 +164,9 @@ impl Print {
         Ok(part)
     }
 
-    /// Puts a part in place of what is at a path and below it. `TooLong` where a path would be past the limits. After a
-    /// fault nothing has changed.
-    pub fn replace(
+    /// Puts rows in place of what is at a path and below it, as `replace` does, without a copy. `TooLong` where a path would
+    /// be past the limits. After a fault nothing has changed, and the rows are dropped.
+    pub fn replace_with(
         &mut self,
         alloc: Global,
         path: &Path,

@@ -1,12 +1,14 @@
 //! Parts of a print, lent without memory.
 ghost use Rattle.std.specs.List.{AllByRecursion};
-ghost use Rattle.std.specs.Prelude.{◌≡◌, ◌≢◌, ◌++◌, ◌↔◌, [], IfErr, IfOk, IsTrue};
+ghost use Rattle.std.specs.Prelude.{◌≡◌, ◌≢◌, ◌⊎◌, ◌++◌, ◌↔◌, [], IfErr, IfOk, IsErrOf, IsTrue, OnErr, OnOk};
 ghost use Rattle.ts_model.specs.Trees.{Ascend, IsSubListing, at, listed, sub};
+ghost use Rattle.ts_model.specs.Runs.{graft};
 ghost use Rattle.ts_model.specs.declared.row.Content.TheVariants.{Absent};
-ghost use Rattle.ts_name.specs.Paths.{IsAbove};
+ghost use Rattle.ts_name.specs.Paths.{IsAbove, IsPath};
 ghost use Rattle.ts_print.specs.Prints.{stamped_rows};
-ghost use Rattle.ts_table.specs.Tables.{relative, root_row};
+ghost use Rattle.ts_table.specs.Tables.{IsPlace, placed, relative, root_row};
 
+use crate::fault::PrintFault;
 use crate::print::Print;
 use crate::stamps::have_stamps;
 use std::alloc::{AllocError, Global};
@@ -44,6 +46,25 @@ impl Print {
             print: self,
             top: path,
         }
+    }
+
+    /// Puts a copy of a part of a print in place of what is at a path and below it. The part may be of any print, and of any
+    /// path. `TooLong` where a path would be past the limits. After a fault nothing has changed.
+    pub fn replace(
+        &mut self,
+        alloc: Global,
+        path: &Path,
+        part: &SubPrint<'_>,
+    ) -> Result<(), PrintFault>
+        requires { IsPlace (at self.old) path.now }
+        ensures ok { OnOk result (at self.new ≡ graft (at self.old) path.now (listed part.now.rows)) }
+        ensures paths { OnOk result (AllByRecursion (λ row. IsPath row.path) (placed path.now part.now.rows)) }
+        ensures too_long { IsErrOf result PrintFault.TooLong → ¬ AllByRecursion (λ row. IsPath row.path) (placed path.now part.now.rows) }
+        ensures fault { IfErr result (λ e. (e ≡ PrintFault.OutOfMemory) ⊎ (e ≡ PrintFault.TooLong)) }
+        ensures err { OnErr result (self.new ≡ self.old) }
+    {
+        let rows = part.to_table(alloc)?;
+        self.replace_with(alloc, path, rows)
     }
 }
 

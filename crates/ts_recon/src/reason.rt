@@ -4,13 +4,13 @@ ghost use Rattle.ts_model.specs.Sync.{Because, IsBelowDirs, Snapshot};
 ghost use Rattle.ts_model.specs.declared.row.Content.TheVariants.{Dir};
 ghost use Rattle.ts_recon.specs.Reasons.{IsBecause, IsReasonOf, IsSeen, differing_reason};
 
-use ts_dirty::{Marks, Seen};
+use ts_dirty::{Marks, Triple};
 use ts_model::plan::{Reason, Side};
 use ts_model::row::{Content, Stamp};
 
 /// The reason of the path, None where it has none. Its parent is a directory of both replicas where it has at
 /// most `shared` names.
-pub(crate) fn reason_at(marks: &Marks, seen: &Seen, shared: usize) -> Option<Reason>
+pub(crate) fn reason_at(marks: &Marks, seen: &Triple, shared: usize) -> Option<Reason>
     ensures { (s : Snapshot) → IsFoundOf s marks.now → IsSeen s seen.now.path.now seen.now.archive seen.now.first seen.now.second
         → (IsBelowDirs s.first s.second seen.now.path.now ↔ (length seen.now.path.now - 1 ≤ shared)) → IsReasonOf s seen.now.path.now result }
 {
@@ -22,7 +22,7 @@ pub(crate) fn reason_at(marks: &Marks, seen: &Seen, shared: usize) -> Option<Rea
 }
 
 /// The reason of a path below directories of both replicas, None where it has none.
-fn reason_below_dirs(marks: &Marks, seen: &Seen) -> Option<Reason>
+fn reason_below_dirs(marks: &Marks, seen: &Triple) -> Option<Reason>
     ensures { (s : Snapshot) → IsFoundOf s marks.now → IsSeen s seen.now.path.now seen.now.archive seen.now.first seen.now.second → IsBecause s seen.now.path.now result }
 {
     if is_shared(seen) {
@@ -57,7 +57,7 @@ fn differing(first: bool, second: bool, is_held: bool) -> Reason
 }
 
 /// Whether both replicas have a directory there.
-pub(crate) fn is_shared(seen: &Seen) -> bool
+pub(crate) fn is_shared(seen: &Triple) -> bool
     ensures { IsTrue result ↔ ((seen.now.first ≡ Dir) × (seen.now.second ≡ Dir)) }
 {
     is_dir(&seen.first) && is_dir(&seen.second)
