@@ -1,3 +1,4 @@
 pub mod Compared
 pub mod Faults
+pub mod Names
 pub mod Swaps

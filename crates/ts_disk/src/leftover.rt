@@ -1,5 +1,6 @@
 //! What swaps leave in a replica that can't be removed, or has no place any more.
 use crate::modes::PRIVATE_DIR;
+use crate::names::is_trash;
 use crate::place::{Standing, kind_at, own_place};
 use std::alloc::Global;
 use std::fs::{Files, Permissions};
@@ -38,14 +39,6 @@ pub(crate) fn remove_trash<R: Files + AllocGlobal + Clone + Drop>(
         }
     }
     Ok(())
-}
-
-/// Whether what has this name is to be removed.
-fn is_trash(name: &str) -> bool {
-    match name.strip_prefix("trash-") {
-        Some(number) => number.parse::<u32>().is_ok(),
-        None => false,
-    }
 }
 
 /// Removes what stands at a place of the program's own, and all below it.

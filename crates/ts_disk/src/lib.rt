@@ -10,6 +10,7 @@ mod leftover;
 mod lock;
 mod look;
 mod modes;
+mod names;
 mod notice;
 mod place;
 mod places;

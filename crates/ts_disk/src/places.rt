@@ -3,10 +3,12 @@ ghost use Rattle.std.specs.Fmt.{decimal};
 ghost use Rattle.std.specs.Prelude.{◌≡◌, ◌++◌, IfErr, IfOk, codes};
 ghost use Rattle.std.specs.String.{string_bytes};
 ghost use Rattle.ts_name.specs.Paths.{place_text};
+ghost use Rattle.ts_disk.specs.Swaps.{place_of};
 ghost use Rattle.ts_swap.specs.Leavings.{Counts};
 
 use crate::fault::DiskFault;
 use crate::leftover::{Aside, remove_at};
+use crate::names::{KEPT, MADE};
 use crate::place::{
     Standing, are_one, is_same, kind_at, look_at, make_own, metadata_at, own_place,
 };
@@ -19,11 +21,6 @@ use ts_model::items::Items;
 use ts_model::row::Row;
 use ts_name::Path;
 use ts_swap::{Failed, Places, Spot, recover};
-
-/// How the names begin of what is kept until the run ends, of what lay aside and of what others made of a new tree.
-pub(crate) const KEPT: &str = "kept-";
-
-pub(crate) const MADE: &str = "made-";
 
 /// How many names are tried for what is put out of the way.
 const NAMES_TRIED: u32 = 1_000_000;
@@ -99,7 +96,10 @@ impl<R: Drop> DiskPlaces<R> {
         }
     }
 
-    pub(crate) fn place(&self, spot: Spot) -> &str {
+    /// The place of a spot.
+    pub(crate) fn place(&self, spot: Spot) -> &str
+        ensures { result.now ≡ place_of spot (string_bytes self.now.at_target) (string_bytes self.now.at_new) (string_bytes self.now.at_old) }
+    {
         match spot {
             Spot::Target => self.at_target.as_str(),
             Spot::New => self.at_new.as_str(),

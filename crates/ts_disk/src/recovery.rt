@@ -8,9 +8,10 @@ ghost use Rattle.ts_name.specs.Paths.{place_text};
 
 use crate::fault::DiskFault;
 use crate::leftover::{Aside, remove_trash};
+use crate::names::{kept_number, spot_number};
 use crate::notice::Notice;
 use crate::place::{Standing, look_at, own_place};
-use crate::places::{DiskPlaces, KEPT, MADE};
+use crate::places::DiskPlaces;
 use crate::plan_file::{read_plan, remove_plan};
 use crate::replica::Replica;
 use std::alloc::Global;
@@ -171,24 +172,6 @@ fn taken_spots(alloc: Global, names: &[String]) -> Result<Vec<u32>, DiskFault> {
         }
     }
     Ok(spots)
-}
-
-/// The number of the entry whose new or old spot has this name.
-fn spot_number(name: &str) -> Option<u32> {
-    let digits = match name.strip_prefix("new-") {
-        Some(digits) => digits,
-        None => name.strip_prefix("old-")?,
-    };
-    digits.parse().ok()
-}
-
-/// The number of the entry of which something is kept under this name until the run ends.
-fn kept_number(name: &str) -> Option<u32> {
-    let digits = match name.strip_prefix(KEPT) {
-        Some(digits) => digits,
-        None => name.strip_prefix(MADE)?,
-    };
-    digits.parse().ok()
 }
 
 /// Brings the swap of the entry of this number to its end, if that entry is copied into the replica. Answers what is left of it.
