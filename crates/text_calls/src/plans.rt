@@ -2,10 +2,12 @@
 ghost use Rattle.std.specs.Prelude.{IfOk};
 ghost use Rattle.ts_model.specs.Texts.{IsPlan};
 
-use crate::shared::{Drip, dripping, has_taken, plan_of, repeated, sink_of};
+use crate::shared::{Drip, dripping, has_taken, path, plan_of, repeated, sink_of};
 use std::alloc::Global;
-use ts_model::plan::{Kind, Plan};
-use ts_plan::{PlanFault, PlanLine, PlanReader, decode, encode};
+use ts_model::items::Items;
+use ts_model::plan::{Action, Entry, Kind, Plan, Reason};
+use ts_name::Path;
+use ts_plan::{PlanFault, PlanLine, PlanReader, decode, encode, fits};
 use ts_text::{Counted, Lines};
 
 /// The plan for a directory that both replicas have new, with one file in each.
@@ -234,6 +236,74 @@ fn a_beginning_is_written_where_the_writer_fails(rt: HostRuntime) {
     for room in 0..=NEW_DIRECTORY.len() {
         assert!(rt; writes_into(rt.alloc(), &plan, room), "room for {room}");
     }
+}
+
+/// A plan that nobody read or built: one entry, and one action that waits for action 0 so many times.
+fn made_plan(alloc: Global, path: Path, kind: Kind, pred_count: usize) -> Option<Plan> {
+    let mut entries = Vec::new(alloc);
+    let reason = Reason::First;
+    entries.push(Entry { path, reason }).ok()?;
+    let mut preds = Vec::new(alloc);
+    for _ in 0..pred_count {
+        preds.push(0u32).ok()?;
+    }
+    let mut actions = Vec::new(alloc);
+    let preds = Items::new(preds);
+    actions.push(Action { kind, preds }).ok()?;
+    Some(Plan {
+        entries: Items::new(entries),
+        actions: Items::new(actions),
+    })
+}
+
+/// Such a plan whose action is a piece of this file.
+fn piece_plan(alloc: Global, entry: &[u8], file: &[u8]) -> Option<Plan> {
+    let kind = Kind::Piece {
+        entry: 0,
+        offset: 1,
+        length: 2,
+        path: path(alloc, file)?,
+    };
+    made_plan(alloc, path(alloc, entry)?, kind, 1)
+}
+
+/// Whether the plan fits, and then is written as this text.
+fn fits_as(alloc: Global, plan: &Plan, text: &[u8]) -> bool {
+    fits(plan) && writes_as(alloc, plan, text)
+}
+
+#[test]
+fn plans_of_any_origin_are_written_where_they_fit(rt: HostRuntime) {
+    let alloc = rt.alloc();
+    let text = b"twosync-plan 1\nentry first /a\npiece 0 1 2 /a/b\np 0\nend 1 1\n";
+    match piece_plan(alloc, b"/a", b"/a/b") {
+        Some(plan) => assert!(rt; fits_as(alloc, &plan, text)),
+        None => panic!(rt; "no plan"),
+    }
+    let at_the_root: [(&[u8], &[u8]); 2] = [(b"", b"/a/b"), (b"/a", b"")];
+    for (entry, file) in at_the_root {
+        match piece_plan(alloc, entry, file) {
+            Some(plan) => assert!(rt; !fits(&plan), "{entry:?}"),
+            None => panic!(rt; "no plan"),
+        }
+    }
+}
+
+/// Whether a plan with so many predecessors fits.
+fn fits_with_preds(alloc: Global, pred_count: usize) -> Option<bool> {
+    let plan = made_plan(
+        alloc,
+        path(alloc, b"/a")?,
+        Kind::Mark { entry: 0 },
+        pred_count,
+    )?;
+    Some(fits(&plan))
+}
+
+#[test]
+fn plans_past_the_limit_of_predecessors_dont_fit(rt: HostRuntime) {
+    assert!(rt; fits_with_preds(rt.alloc(), 4_194_304) == Some(true));
+    assert!(rt; fits_with_preds(rt.alloc(), 4_194_305) == Some(false));
 }
 
 #[test]

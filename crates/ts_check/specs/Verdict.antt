@@ -1,8 +1,9 @@
 -- What the checker answers.
 --     HoldBelow s plan n      no rule before the n-th is broken anywhere
 --     IsTold s plan fault     a plan that is called broken is broken there first
---     IsSafe s plan           what every run of the plan keeps, where it ends, and how it is resumed
+--     IsSafe s plan           what every run of the plan keeps, where it ends, that it can be resumed, and to which end
 use Rattle.std.specs.Prelude.{ℕ, ◌<◌}
+use Rattle.ts_laws.specs.Laws.{EndsAlike}
 use Rattle.ts_model.specs.Sync.{Snapshot}
 use Rattle.ts_model.specs.Headline.{OnePair, OriginalOrFinal, ArchiveAgrees, Completes, NotStuck}
 use Rattle.ts_model.specs.Resume.{CanResume, CutsAreLegal, ArchiveIsClosed}
@@ -32,3 +33,4 @@ pub record IsSafe (s : Snapshot) (plan : Plan) : Type 0 where
   pub can_resume : CanResume s plan
   pub cuts_are_legal : CutsAreLegal s plan
   pub archive_is_closed : ArchiveIsClosed s plan
+  pub ends_alike : EndsAlike s plan

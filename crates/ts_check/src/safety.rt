@@ -19,4 +19,5 @@ pub fn valid_plans_are_safe()
     laws::can_resume();
     laws::cuts_are_legal();
     laws::archive_is_closed();
+    laws::resumed_runs_end_alike();
 }

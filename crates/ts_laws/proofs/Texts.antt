@@ -7,9 +7,10 @@ use Rattle.ts_model.specs.Trees.{Listing}
 use Rattle.ts_model.specs.Texts.{text, words, archive_front, archive_text, tree_lines, print_lines, rule_line, plan_lines, IsTreeText, IsPrintText, IsArchiveText, IsRulesText, IsPlanText, IsBundleText}
 use Rattle.ts_model.specs.declared.row.Stamp.{Stamp}
 use Rattle.ts_laws.specs.Laws.{OneToOne}
-use Rattle.ts_name.proofs.Spelling.{clean_from_test, cons_parts}
+use Rattle.ts_name.specs.Paths.{IsPathText}
+use Rattle.ts_name.proofs.Spelling.{clean_from_test, cons_parts, one_path}
 use Rattle.ts_laws.proofs.Words.{AreLines, Words, StartsOther, one_spelling, one_spelling_before, spell, text_spells}
-use Rattle.ts_laws.proofs.TreeTexts.{PrintFits, one_print, one_tree, print_are_lines, print_spelled, print_words, rows_start_other, tree_are_lines, tree_spelled, tree_words}
+use Rattle.ts_laws.proofs.TreeTexts.{PrintFits, one_print, one_tree, print_are_lines, print_spelled, print_start_other, print_words, tree_are_lines, tree_spelled, tree_words}
 use Rattle.ts_laws.proofs.RuleTexts.{one_rules, rule_words, rules_are_lines, rules_spelled}
 use Rattle.ts_laws.proofs.PlanTexts.{one_plan, plan_are_lines, plan_spelled, plan_words}
 use Rattle.ts_laws.proofs.Bundles.{one_bundle, print_fits, tree_fits}
@@ -26,6 +27,13 @@ one_lines xs ys lines_x lines_y are_x are_y is_x is_y e = one_spelling xs ys are
 -- lines before one of a single word
 ended : (xs ys : List Words) → xs ≡ ys → xs ++ (codes "end" ∷ []) ∷ [] ≡ ys ++ (codes "end" ∷ []) ∷ []
 ended xs ys e = ap (λ z. z ++ (codes "end" ∷ []) ∷ []) e
+
+-- a path's text is of one path
+pub one_path_text : OneToOne IsPathText
+one_path_text = record {
+  one_value = λ bytes x y is_x is_y. one_path x y is_x.0 is_y.0 (sym is_x.1 ∙ is_y.1);
+  one_text = λ bytes more x is_x is_y. is_x.1 ∙ sym is_y.1;
+}
 
 -- a tree's text is of one tree
 pub one_tree_text : OneToOne IsTreeText
@@ -107,7 +115,7 @@ one_archive_text = record {
 }
   where
     front_other : (rows : Listing Stamp) → AllByRecursion (StartsOther 101) (front_words rows)
-    front_other rows = (λ u v e. absurd (let k : ◌≡◌ {A = ℕ} 116 101 = cc in omega arith), rows_start_other rows)
+    front_other rows = (λ u v e. absurd (let k : ◌≡◌ {A = ℕ} 116 101 = cc in omega arith), print_start_other 101 (λ k. omega (arith, k)) (λ k. omega (arith, k)) rows)
 
     -- the last line
     last : Listing Stamp → List ℕ

@@ -3,7 +3,7 @@
 ghost use Rattle.std.specs.Prelude.{◌≡◌, ◌⊎◌, ℕ, List, []};
 ghost use Rattle.ts_laws.specs.Carried.{AreInPlace, IsCarriedOut, LeavesCarried};
 ghost use Rattle.ts_laws.specs.Laws.{AreDecided, ArePrinted, CanFinish, CountsOpen, DirsAreParents, DirtIsDifference, EndsAlike, EntriesAreReasons};
-ghost use Rattle.ts_laws.specs.Laws.{FindsPieces, HasAnswer, IsAnswered, IsDecided, IsReasonDecided, Keeps, OneToOne, ValidExample};
+ghost use Rattle.ts_laws.specs.Laws.{FindsPieces, HasAnswer, IsAnswered, IsDecided, IsReasonDecided, IsResultText, Keeps, OneToOne, ValidExample};
 ghost use Rattle.ts_model.specs.Headline.{ArchiveAgrees, Completes, FinalArchive, HasOnePair, Meets, NotStuck, OnePair, OriginalOrFinal};
 ghost use Rattle.ts_model.specs.Plans.{Valid};
 ghost use Rattle.ts_model.specs.Resume.{ArchiveIsClosed, CanResume, CutsAreLegal};
@@ -17,7 +17,7 @@ ghost use Rattle.ts_model.specs.declared.plan.PlanRule.TheVariants.{EntriesCompl
 ghost use Rattle.ts_model.specs.declared.plan.Reason.{Reason};
 ghost use Rattle.ts_model.specs.declared.plan.Side.{Side};
 ghost use Rattle.ts_model.specs.declared.row.Stamp.{Stamp};
-ghost use Rattle.ts_name.specs.Paths.{Path};
+ghost use Rattle.ts_name.specs.Paths.{IsPathText, Path};
 
 // ---- What every run of a valid plan keeps, and where it ends.
 
@@ -162,6 +162,11 @@ pub fn some_plan_is_valid()
 
 // ---- Texts.
 
+/// A text is of one path, and a path has one text.
+pub fn one_path_text()
+    ensures { OneToOne IsPathText }
+{}
+
 /// A text is of one tree, and a tree has one text.
 pub fn one_tree_text()
     ensures { OneToOne IsTreeText }
@@ -190,6 +195,11 @@ pub fn one_plan_text()
 /// A text is of one bundle, and a bundle has one text.
 pub fn one_bundle_text()
     ensures { OneToOne IsBundleText }
+{}
+
+/// A text is of one result of `trial`, and a result has one text.
+pub fn one_result_text()
+    ensures { OneToOne IsResultText }
 {}
 
 /// Whether bytes are the text of a tree, print, archive, rules, plan or bundle is decided.

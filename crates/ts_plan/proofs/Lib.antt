@@ -6,3 +6,4 @@ pub mod Turns
 pub mod Texts
 pub mod Sources
 pub mod Sinks
+pub mod EachFits

@@ -6,3 +6,4 @@ pub mod Reading
 pub mod Readers
 pub mod Decoding
 pub mod Sends
+pub mod Fitting

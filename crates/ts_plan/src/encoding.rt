@@ -186,7 +186,7 @@ fn send_actions<W: Sink>(
     Ok(())
 }
 
-/// Writes the plan's text. At an error a beginning of it went out.
+/// Writes the plan's text; whether a plan has one, `fits` says. At an error a beginning of it went out.
 pub fn encode<W: Sink>(alloc: Global, plan: &Plan, sink: &mut W) -> Result<(), PlanFault>
     requires { IsPlan plan.now }
     ensures { Sends (W.holds sink.old) (W.holds sink.new) (W.failures sink.old) (W.failures sink.new) (text (plan_lines plan.now)) result }

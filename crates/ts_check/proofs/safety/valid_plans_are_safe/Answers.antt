@@ -10,4 +10,5 @@ returns c = λ s plan valid. record {
   can_resume = c.can_resume.ensures s plan valid;
   cuts_are_legal = c.cuts_are_legal.ensures s plan valid;
   archive_is_closed = c.archive_is_closed.ensures s plan valid;
+  ends_alike = c.resumed_runs_end_alike.ensures s plan valid;
 }
