@@ -3,3 +3,7 @@ mod FaultLines
 mod Trials
 mod Failures
 mod Reported
+mod Pairs
+mod Printing
+mod Putting
+mod Staged

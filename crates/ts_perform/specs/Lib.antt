@@ -1,5 +1,10 @@
 pub mod Ends
 pub mod Faults
+pub mod Jobs
+pub mod Lengths
+pub mod Puts
 pub mod Runs
+pub mod Snapshots
+pub mod Staging
 pub mod Stands
 pub mod Trials

@@ -1,35 +1,51 @@
--- What `run` and `sync` answer.
+-- What `run` and `sync` answer, and how a command is refused.
 --     failure_lines entries actions results     the fault of each failed action, with its entry's path, in the order of the actions
 --     notice_line notice                        a fault where what a swap left can't be removed, its place where it was kept, a mount as such
 --     notice_lines notices                      a line for each
---     Came                                      what came of a plan: how its actions ended, why the new archive wasn't written, if it wasn't, and what else is to be said
+--     Came                                      what came of a plan: the plan and what it was checked against, how its actions ended, why the new archive wasn't written, if it wasn't, and what else is to be said
 --     report_of, faults_of, status_after        what is then reported, on standard output and standard error, and the exit status
 --     HasReported came                          both were written; or one of them could be written in part, and the status is 2
---     RanQuietly                                some plan was run, and all was reported; or nothing was written
---     Ran                                       the same, but what recovery has to say of an earlier run's swaps may be reported where nothing was run
---     AnswersRun                                the same of a command: where nothing was run, it is refused
-use Rattle.std.specs.Prelude.{◌≡◌, ◌⊎◌, ⊤, ℕ, List, [], ◌∷◌, ◌++◌, Option, Some, None, Result, Ok, Err, slice_get}
+--     IsCarriedOut .. pair came                 the plan is valid for the scans of the pair's replicas, and the results are those of a run of it there, whose archive was written
+--     IsSynced .. pair came                     the same of a plan that `resume` made
+--     RanQuietly Is                             a plan was run, `Is` is said of what came of it, and all was reported; or nothing was written
+--     Ran Is                                    the same, but what recovery has to say of an earlier run's swaps may be reported where nothing was run
+--     Refuses fault                             a broken plan is told on standard output, every other fault on standard error
+--     AnswersRun Is                             the same as `Ran` of a command: where nothing was run, it is refused
+--     AnswersOne Says                           what `plan` and `check` answer
+use Rattle.std.specs.Prelude.{◌≡◌, ◌⊎◌, ⊤, ℕ, List, [], ◌∷◌, ◌++◌, Option, Some, None, IfNone, Result, Ok, Err, slice_get}
 use Rattle.std.specs.Io.KnownBytes.{Appends}
 use Rattle.std.specs.String.{string_bytes}
 use Rattle.ts_name.specs.Paths.{Path}
+use Rattle.ts_board.specs.Archives.{LeftArchive}
+use Rattle.ts_board.specs.declared.law.Slot.{Slot}
+use Rattle.ts_check.specs.Checkup.{Checkup, snapshot_of}
+use Rattle.ts_check.specs.Verdict.{IsSafe}
 use Rattle.ts_command.specs.declared.job.Job.{Job}
+use Rattle.ts_command.specs.declared.job.Pair.{Pair}
 use Rattle.ts_command.specs.declared.job.Job.TheVariants as job
 use Rattle.ts_disk.specs.declared.notice.Notice.{Notice}
 use Rattle.ts_disk.specs.declared.notice.Notice.TheVariants as notice
 use Rattle.ts_exec.specs.Faults.{fault_number as act_number}
 use Rattle.ts_exec.specs.declared.outcome.ActionResult.{ActionResult}
 use Rattle.ts_exec.specs.declared.outcome.ActionResult.TheVariants as ended
+use Rattle.ts_folder.specs.declared.fault.Trouble.{Trouble}
+use Rattle.ts_folder.specs.declared.folder.Call.{Call}
+use Rattle.ts_model.specs.Plans.{Broken, Valid}
 use Rattle.ts_model.specs.Texts.{Line, text}
+use Rattle.ts_model.specs.Trees.{Listing}
 use Rattle.ts_model.specs.declared.plan.Action.{Action}
 use Rattle.ts_model.specs.declared.plan.Entry.{Entry}
 use Rattle.ts_model.specs.declared.plan.Kind.{Kind}
-use Rattle.ts_model.specs.declared.plan.Plan.{Plan}
 use Rattle.ts_model.specs.declared.plan.PlanRule.{PlanRule}
+use Rattle.ts_model.specs.declared.row.Stamp.{Stamp}
 use Rattle.ts_report.specs.Reports.{entry_of, fates, report_text, status_of, totals_of}
 use Rattle.ts_text.specs.Sources.{AppendsFront}
 use Rattle.ts_trial.specs.Answers.{refusal}
 use Rattle.ts_perform.specs.Ends.{ending_at}
-use Rattle.ts_perform.specs.Faults.{fault_line, fault_number, kept_line, mount_line}
+use Rattle.ts_perform.specs.Faults.{fault_line, fault_number, kept_line, mount_line, own_path, place_of}
+use Rattle.ts_perform.specs.Snapshots.{IsBegun, IsPlanned}
+use Rattle.ts_perform.specs.Stands.{AreScans, IsRunOf, Stand}
+use Rattle.ts_perform.specs.Trials.{IsQuiet}
 use Rattle.ts_perform.specs.declared.fault.PerformFault.{PerformFault}
 use Rattle.ts_perform.specs.declared.fault.PerformFault.TheVariants as fault
 
@@ -65,7 +81,7 @@ abbrev pub BeginsNotices : (old new : Option (List ℕ)) → Type 0
 BeginsNotices old new = (notices : List Notice) × AppendsFront old new (text (notice_lines notices))
 
 pub record Came : Type 0 where
-  pub plan : Plan
+  pub checkup : Checkup
   pub results : List ActionResult
   pub lost : Option PerformFault
   pub notices : List Notice
@@ -79,42 +95,110 @@ lost_lines None = []
 lost_lines (Some fault) = fault_line (fault_number fault) None ∷ []
 
 abbrev pub report_of : Came → List ℕ
-report_of came = report_text (ending_at came.results) came.plan
+report_of came = report_text (ending_at came.results) came.checkup.plan
 
 abbrev pub faults_of : Came → List ℕ
-faults_of came = text ((failure_lines came.plan.entries came.plan.actions came.results ++ lost_lines came.lost) ++ notice_lines came.notices)
+faults_of came = text ((failure_lines came.checkup.plan.entries came.checkup.plan.actions came.results ++ lost_lines came.lost) ++ notice_lines came.notices)
 
 abbrev pub status_with : Option PerformFault → ℕ → ℕ
 status_with None status = status
 status_with (Some fault) status = 2
 
 abbrev pub status_after : Came → ℕ
-status_after came = status_with came.lost (status_of (totals_of (fates (ending_at came.results) came.plan)))
+status_after came = status_with came.lost (status_of (totals_of (fates (ending_at came.results) came.checkup.plan)))
 
 abbrev pub HasReported : Came → (old new old_faults new_faults : Option (List ℕ)) → ℕ → Type 0
 HasReported came old new old_faults new_faults status =
     ((status ≡ status_after came) × Appends old new (report_of came) × Appends old_faults new_faults (faults_of came))
     ⊎ ((status ≡ 2) × AppendsFront old new (report_of came) × AppendsFront old_faults new_faults (faults_of came))
 
-abbrev pub RanQuietly : (old new old_faults new_faults : Option (List ℕ)) → Result ℕ PerformFault → Type 0
-RanQuietly old new old_faults new_faults (Ok status) = (came : Came) × HasReported came old new old_faults new_faults status
-RanQuietly old new old_faults new_faults (Err fault) = (new ≡ old) × (new_faults ≡ old_faults)
+-- ---- which plan was run, and how
 
-abbrev pub Ran : (old new old_faults new_faults : Option (List ℕ)) → Result ℕ PerformFault → Type 0
-Ran old new old_faults new_faults (Ok status) = (came : Came) × HasReported came old new old_faults new_faults status
-Ran old new old_faults new_faults (Err fault) = (new ≡ old) × BeginsNotices old_faults new_faults
+-- the archive with the mark of each action that is done was written in this place
+abbrev pub HasKept : {A : Type 0} → (A → Listing Stamp → Type 0) → Checkup → List ℕ → A → Type 0
+HasKept has k words place = (rows : Listing Stamp) × LeftArchive k words rows × has place rows
 
--- a plan's refusal on standard output, or a fault on standard error, as far as they could be written
+-- the plan is valid for the archive, the rules and the scans of the pair's replicas; the results are those of one run of it, whose commits
+-- were made where they stand; and the archive that this run left was written in the place that has its name, unless it is lost
+pub record IsCarriedOut {S F A : Type 0} (stand : S → Stand) (content : S → Option (Listing (List ℕ))) (failures : S → ℕ)
+    (is_at : F → List ℕ → Type 0) (tells : F → Option (Listing (List ℕ))) (lets : F → Call → Path → Trouble → Type 0)
+    (is_named : A → List ℕ → Type 0) (has : A → Listing Stamp → Type 0) (pair : Pair) (came : Came) : Type 0 where
+  pub scans : AreScans is_at tells pair.first.now pair.second.now came.checkup.first came.checkup.second
+  pub valid : Valid (snapshot_of came.checkup) came.checkup.plan
+  pub safe : IsSafe (snapshot_of came.checkup) came.checkup.plan
+  pub words : List ℕ
+  pub slots : List (Slot S)
+  pub run : IsRunOf stand content failures is_at tells lets pair.first.now pair.second.now came.checkup came.results words slots
+  pub archive : IfNone came.lost ((place : A) × is_named place pair.archive.now × HasKept has came.checkup words place)
+
+-- the same of this plan, with what it was checked against
+pub record IsCarriedOutFor {S F A : Type 0} (k : Checkup) (stand : S → Stand) (content : S → Option (Listing (List ℕ))) (failures : S → ℕ)
+    (is_at : F → List ℕ → Type 0) (tells : F → Option (Listing (List ℕ))) (lets : F → Call → Path → Trouble → Type 0)
+    (is_named : A → List ℕ → Type 0) (has : A → Listing Stamp → Type 0) (pair : Pair) (came : Came) : Type 0 where
+  pub checkup : came.checkup ≡ k
+  pub carried_out : IsCarriedOut stand content failures is_at tells lets is_named has pair came
+
+-- the same of a plan that `resume` made for the archive, the rules and the scans
+pub record IsSynced {S F A : Type 0} (stand : S → Stand) (content : S → Option (Listing (List ℕ))) (failures : S → ℕ)
+    (is_at : F → List ℕ → Type 0) (tells : F → Option (Listing (List ℕ))) (lets : F → Call → Path → Trouble → Type 0)
+    (is_named : A → List ℕ → Type 0) (has : A → Listing Stamp → Type 0) (pair : Pair) (came : Came) : Type 0 where
+  pub planned : IsPlanned came.checkup
+  pub carried_out : IsCarriedOut stand content failures is_at tells lets is_named has pair came
+
+-- ---- what is answered
+
+-- a plan that is called broken is so: it breaks this rule first, and here
+abbrev pub IsRight : PerformFault → Type 0
+IsRight e = (rule : PlanRule) (place : ℕ) → e ≡ fault.Broken rule place → (k : Checkup) × Broken (snapshot_of k) k.plan rule place
+
+-- a plan was run of which this is said, and all was reported
+abbrev pub HasRun : (Came → Type 0) → (old new old_faults new_faults : Option (List ℕ)) → ℕ → Type 0
+HasRun Is old new old_faults new_faults status = (came : Came) × Is came × HasReported came old new old_faults new_faults status
+
+abbrev pub RanQuietly : (Came → Type 0) → (old new old_faults new_faults : Option (List ℕ)) → Result ℕ PerformFault → Type 0
+RanQuietly Is old new old_faults new_faults (Ok status) = HasRun Is old new old_faults new_faults status
+RanQuietly Is old new old_faults new_faults (Err fault) = IsRight fault × (new ≡ old) × (new_faults ≡ old_faults)
+
+abbrev pub Ran : (Came → Type 0) → (old new old_faults new_faults : Option (List ℕ)) → Result ℕ PerformFault → Type 0
+Ran Is old new old_faults new_faults (Ok status) = HasRun Is old new old_faults new_faults status
+Ran Is old new old_faults new_faults (Err fault) = IsRight fault × (new ≡ old) × BeginsNotices old_faults new_faults
+
+-- the path that a fault is told with
+abbrev pub told_path : PerformFault → Option Path
+told_path fault.Own = Some own_path
+told_path other = place_of other
+
+-- a fault's line on standard error, as far as it could be written
+abbrev pub BeginsFault : PerformFault → (old new : Option (List ℕ)) → Type 0
+BeginsFault fault old new = AppendsFront old new (text (fault_line (fault_number fault) (told_path fault) ∷ []))
+
+-- the line that refuses a plan on standard output; or as much of it as could be written, and on standard error why no more
+abbrev pub RefusesPlan : PlanRule → ℕ → (old new old_faults new_faults : Option (List ℕ)) → Type 0
+RefusesPlan rule place old new old_faults new_faults =
+    (Appends old new (text (refusal rule place ∷ [])) × (new_faults ≡ old_faults))
+    ⊎ (AppendsFront old new (text (refusal rule place ∷ [])) × ((number : ℕ) × AppendsFront old_faults new_faults (text (fault_line number None ∷ []))))
+
+-- a broken plan is told on standard output, all else on standard error
+pub record Refuses (e : PerformFault) (old new old_faults new_faults : Option (List ℕ)) : Type 0 where
+  pub broken : (rule : PlanRule) (place : ℕ) → e ≡ fault.Broken rule place → RefusesPlan rule place old new old_faults new_faults
+  pub other : IsQuiet e → (new ≡ old) × BeginsFault e old_faults new_faults
+
+-- why nothing was done, which is right
 abbrev pub IsRefusal : (old new old_faults new_faults : Option (List ℕ)) → ℕ → Type 0
 IsRefusal old new old_faults new_faults status =
-    (status ≡ 3)
-    × ((rule : PlanRule) × (place : ℕ) × AppendsFront old new (text (refusal rule place ∷ [])))
-    × ((number : ℕ) × (path : Option Path) × AppendsFront old_faults new_faults (text (fault_line number path ∷ [])))
+    (status ≡ 3) × ((fault : PerformFault) × IsRight fault × Refuses fault old new old_faults new_faults)
 
-abbrev pub AnswersRun : (old new old_faults new_faults : Option (List ℕ)) → ℕ → Type 0
-AnswersRun old new old_faults new_faults status =
-    ((came : Came) × HasReported came old new old_faults new_faults status)
+abbrev pub AnswersRun : (Came → Type 0) → (old new old_faults new_faults : Option (List ℕ)) → ℕ → Type 0
+AnswersRun Is old new old_faults new_faults status =
+    HasRun Is old new old_faults new_faults status
     ⊎ ((mid_faults : Option (List ℕ)) × BeginsNotices old_faults mid_faults × IsRefusal old new mid_faults new_faults status)
+
+-- what `plan` and `check` answer: a text with this said of it and of the status; or the status is 3, nothing or a beginning of such a text
+-- was written, and a fault was told on standard error
+abbrev pub AnswersOne : (List ℕ → ℕ → Type 0) → (old new old_faults new_faults : Option (List ℕ)) → ℕ → Type 0
+AnswersOne Says old new old_faults new_faults status =
+    (((written : List ℕ) × Says written status × Appends old new written) × (new_faults ≡ old_faults))
+    ⊎ ((status ≡ 3) × IsBegun Says old new × ((fault : PerformFault) × IsQuiet fault × BeginsFault fault old_faults new_faults))
 
 -- a plan is carried out
 abbrev pub IsRunOrSync : Job → Type 0

@@ -2,8 +2,10 @@
 --     Stand                       below which replica's root, from which replica, and at which path
 --     stand_of first second e     where the commit of an entry is made: in the replica that it is copied to. An entry that isn't copied has no commit
 --     stands_of first second      where the commits of a plan are made, in the order of its actions
+--     IsScanOf is_at tells root print   the print was made of a folder that was asked for by this root
+--     AreScans is_at tells first second .. ..   the two prints were, each of its own root
 --     IsRunOf                     results, words and slots are those of one run, whose commits were made where they stand
-use Rattle.std.specs.Prelude.{◌≡◌, ℕ, List, [], ◌∷◌, Option, Some, None, map, slice_get}
+use Rattle.std.specs.Prelude.{◌≡◌, ℕ, List, [], ◌∷◌, Option, Some, None, IfSome, map, slice_get}
 use Rattle.ts_name.specs.Paths.{Path}
 use Rattle.ts_board.specs.Terms.{placed, terms_with}
 use Rattle.ts_board.specs.declared.law.Slot.{Slot}
@@ -14,11 +16,12 @@ use Rattle.ts_exec.specs.declared.outcome.ActionResult.{ActionResult}
 use Rattle.ts_folder.specs.declared.fault.Trouble.{Trouble}
 use Rattle.ts_folder.specs.declared.folder.Call.{Call}
 use Rattle.ts_model.specs.Plans.{other, source}
-use Rattle.ts_model.specs.Trees.{Listing}
+use Rattle.ts_model.specs.Trees.{Listing, at, print_of}
 use Rattle.ts_model.specs.declared.plan.Action.{Action}
 use Rattle.ts_model.specs.declared.plan.Entry.{Entry}
 use Rattle.ts_model.specs.declared.plan.Kind.TheVariants.{Piece, Commit, Mark}
 use Rattle.ts_model.specs.declared.plan.Reason.{Reason}
+use Rattle.ts_model.specs.declared.row.Stamp.{Stamp}
 
 pub record Stand : Type 0 where
   pub root : List ℕ
@@ -57,14 +60,25 @@ stands_of first second entries (action ∷ actions) = elim action.kind [
   | Mark e ↦ stands_of first second entries actions
 ]
 
--- the sites with which the run began, each at its stand, and the folders that it read
-pub record IsRunOf {S F : Type 0} (stand : S → Stand) (content : S → Option (Listing (List ℕ))) (failures : S → ℕ)
+-- it is the print of the tree which that folder tells, if it tells one
+abbrev pub IsScanOf : {F : Type 0} → (F → List ℕ → Type 0) → (F → Option (Listing (List ℕ))) → List ℕ → Listing Stamp → Type 0
+IsScanOf {F} is_at tells root print = (folder : F) × is_at folder root × IfSome (tells folder) (λ tree. at print ≡ print_of (at tree))
+
+pub record AreScans {F : Type 0} (is_at : F → List ℕ → Type 0) (tells : F → Option (Listing (List ℕ))) (first second : List ℕ)
+    (first_print second_print : Listing Stamp) : Type 0 where
+  pub of_first : IsScanOf is_at tells first first_print
+  pub of_second : IsScanOf is_at tells second second_print
+
+-- the sites with which the run began, each at its stand, and the folders that it read, each at its root
+pub record IsRunOf {S F : Type 0} (stand : S → Stand) (content : S → Option (Listing (List ℕ))) (failures : S → ℕ) (is_at : F → List ℕ → Type 0)
     (tells : F → Option (Listing (List ℕ))) (lets : F → Call → Path → Trouble → Type 0) (first second : List ℕ) (checkup : Checkup)
     (results : List ActionResult) (words : List ℕ) (slots : List (Slot S)) : Type 0 where
   pub sites : List S
   pub stands : map (λ s. Some (stand s)) sites ≡ stands_of first second checkup.plan.entries checkup.plan.actions
   pub from_first : F
   pub from_second : F
+  pub at_first : is_at from_first first
+  pub at_second : is_at from_second second
   pub outcome :
       let t = terms_with content checkup.plan checkup.first checkup.second (placed checkup.plan.actions sites) in
       IsOutcome content (setting_with failures tells lets checkup from_first from_second t.told) t results words slots

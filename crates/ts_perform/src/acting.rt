@@ -1,11 +1,15 @@
 //! What a checked plan comes to on two folders.
-ghost use Rattle.std.specs.Prelude.{◌≡◌, ◌≤◌, length, map, Some, IfOk};
+ghost use Rattle.std.specs.Prelude.{◌≡◌, ◌≤◌, ℕ, List, length, map, Some, IfErr, IfOk, OnOk};
+ghost use Rattle.std.specs.Option.{option_copied};
 ghost use Rattle.std.specs.Mem.Slots.{slots_items, slots_len};
 ghost use Rattle.ts_board.specs.Archives.{HasEnded};
 ghost use Rattle.ts_board.specs.Calls.{slots_of, words_of};
 ghost use Rattle.ts_board.specs.Terms.{commit_count};
 ghost use Rattle.ts_exec.specs.Failures.{of_side};
+ghost use Rattle.ts_perform.specs.Puts.{put_path, put_paths};
+ghost use Rattle.ts_perform.specs.Runs.{HasKept};
 ghost use Rattle.ts_perform.specs.Stands.{IsRunOf, source_root, stands_of, target_root};
+ghost use Rattle.ts_perform.specs.Trials.{IsQuiet};
 
 use crate::disk::{Disk, Machine};
 use crate::fault::PerformFault;
@@ -16,7 +20,7 @@ use ts_check::Checked;
 use ts_command::Pair;
 use ts_disk::Replica;
 use ts_exec::{ActionResult, OpenGate, Outcome, run};
-use ts_model::plan::{Kind, Plan, Reason, Side};
+use ts_model::plan::{Action, Entry, Kind, Plan, Reason, Side};
 use ts_name::Path;
 
 /// Carries out a checked plan by the task's workers, or by fewer where commits are large. The outcome is that of commits each of
@@ -28,8 +32,9 @@ pub(crate) fn act<R: Machine>(
     ensures count { IfOk result (λ o. length o.results.items ≡ length checked.now.plan.actions) }
     ensures words { IfOk result (λ o. length checked.now.plan.actions ≤ slots_len o.closed.row.words) }
     ensures ended { IfOk result (λ o. HasEnded checked.now (words_of o.closed)) }
-    ensures stands { IfOk result (λ o. IsRunOf R.stand R.Site.content R.Site.failures R.Folder.tells R.Folder.lets
+    ensures stands { IfOk result (λ o. IsRunOf R.stand R.Site.content R.Site.failures R.is_at R.Folder.tells R.Folder.lets
         task.now.pair.now.first.now task.now.pair.now.second.now checked.now o.results.items (words_of o.closed) (slots_of o.closed)) }
+    ensures quiet { IfErr result IsQuiet }
 {
     let Task { rt, pair, workers } = task;
     let alloc = rt.alloc();
@@ -51,6 +56,7 @@ where
     R: Disk + AllocGlobal,
     ensures count { IfOk result (λ sites. length sites.items ≡ commit_count checked.now.plan.actions) }
     ensures stands { IfOk result (λ sites. map (λ site. Some (R.stand site)) sites.items ≡ stands_of pair.now.first.now pair.now.second.now checked.now.plan.entries checked.now.plan.actions) }
+    ensures quiet { IfErr result IsQuiet }
 {
     let plan = checked.plan();
     let entries = plan.entries.as_slice();
@@ -96,15 +102,18 @@ pub(crate) fn keep_archive<R: Machine>(
     checked: &Checked<'_>,
     outcome: &Outcome<R::Site>,
 ) -> Result<(), PerformFault>
+    requires count { length outcome.now.results.items ≡ length checked.now.plan.actions }
     requires words { length checked.now.plan.actions ≤ slots_len outcome.now.closed.row.words }
     requires ended { HasEnded checked.now (slots_items outcome.now.closed.row.words) }
+    ensures kept { OnOk result (HasKept R.has checked.now (words_of outcome.now.closed) place.new) }
+    ensures named { (name : List ℕ) → R.is_named place.old name → R.is_named place.new name }
 {
     let Task { rt, pair, workers } = task;
     let alloc = rt.alloc();
     for side in [Side::First, Side::Second] {
-        let replica = replica(*pair, side);
-        let paths = paths_put(alloc, checked.plan(), outcome.results(), &replica)?;
-        rt.flush_above(*rt, alloc, replica.root, paths.as_slice(), *workers)?;
+        let root = replica(*pair, side).root;
+        let paths = paths_put(alloc, checked.plan(), outcome.results(), side)?;
+        rt.flush_above(*rt, alloc, root, paths.as_slice(), *workers)?;
     }
     let Ok(archive) = outcome.archive(alloc, checked) else {
         return Err(PerformFault::OutOfMemory);
@@ -117,17 +126,41 @@ fn paths_put<'a>(
     alloc: Global,
     plan: &'a Plan,
     results: &[ActionResult],
-    replica: &Replica<'_>,
-) -> Result<Vec<&'a Path>, PerformFault> {
+    side: Side,
+) -> Result<Vec<&'a Path>, PerformFault>
+    requires count { length results.now ≡ length plan.now.actions }
+    ensures put { IfOk result (λ paths. map (λ path. path.now) paths.items ≡ put_paths side plan.entry.now.entries plan.entry.now.actions results.now) }
+{
+    let entries = plan.entries.as_slice();
+    let actions = plan.actions.as_slice();
     let mut paths = Vec::new(alloc);
-    for (action, result) in plan.actions.as_slice().iter().zip(results) {
-        if let Kind::Commit { entry } = action.kind
-            && let ActionResult::Done = result
-            && let Some(entry) = plan.entries.as_slice().get(entry as usize)
-            && entry.reason.source() == Some(replica.side.other())
-        {
-            paths.push(&entry.path)?;
+    for (i, ended) in results.iter().enumerate() {
+        if let Some(path) = path_put(entries, &actions[i], *ended, side) {
+            paths.push(path)?;
         }
     }
     Ok(paths)
+}
+
+/// The path of the entry that an action has put in place in the replica on this side, if it is a commit that was done there.
+fn path_put<'a>(
+    entries: &'a [Entry],
+    action: &Action,
+    ended: ActionResult,
+    side: Side,
+) -> Option<&'a Path>
+    ensures { option_copied result ≡ put_path side entries.entry.now (action.now, ended) }
+{
+    let ActionResult::Done = ended else {
+        return None;
+    };
+    let Kind::Commit { entry } = action.kind else {
+        return None;
+    };
+    let entry = entries.get(entry as usize)?;
+    if entry.reason.is_from(side.other()) {
+        Some(&entry.path)
+    } else {
+        None
+    }
 }

@@ -1,9 +1,10 @@
 //! The lines that report faults and verdicts.
-ghost use Rattle.std.specs.Prelude.{◌≡◌, ◌∷◌, ◌++◌, [], codes, decimal, OnOk};
+ghost use Rattle.std.specs.Prelude.{◌≡◌, ◌∷◌, ◌++◌, [], codes, decimal, IfErr, OnOk};
 ghost use Rattle.std.specs.Option.{option_copied};
 ghost use Rattle.ts_model.specs.Texts.{text};
 ghost use Rattle.ts_name.specs.Paths.{path_text};
 ghost use Rattle.ts_perform.specs.Faults.{fault_line, fault_line_at, kept_line, mount_line};
+ghost use Rattle.ts_perform.specs.Trials.{IsQuiet};
 ghost use Rattle.ts_text.specs.Sources.{Writes};
 ghost use Rattle.ts_trial.specs.Answers.{refusal};
 
@@ -20,7 +21,8 @@ pub(crate) fn write_refusal<W: Sink>(
     place: u64,
     out: &mut W,
 ) -> Result<(), PerformFault>
-    ensures { Writes (W.holds out.old) (W.holds out.new) (text (refusal rule place ∷ [])) result }
+    ensures written { Writes (W.holds out.old) (W.holds out.new) (text (refusal rule place ∷ [])) result }
+    ensures quiet { IfErr result IsQuiet }
 {
     let mut line = Vec::new(alloc);
     push_refusal(rule, place, &mut line)?;

@@ -1,6 +1,9 @@
 //! The file system as commands see it.
-ghost use Rattle.std.specs.Prelude.{◌≡◌, IfOk};
+ghost use Rattle.std.specs.Prelude.{◌≡◌, ℕ, List, IfErr, IfOk, OnOk};
+ghost use Rattle.ts_model.specs.declared.row.Row.{Row};
+ghost use Rattle.ts_model.specs.declared.row.Stamp.{Stamp};
 ghost use Rattle.ts_perform.specs.Stands.{Stand};
+ghost use Rattle.ts_perform.specs.Trials.{IsQuiet};
 ghost use denote.Param.Send.{IsSync};
 
 use crate::fault::PerformFault;
@@ -28,8 +31,19 @@ pub trait Disk {
     // Where a site's commit is made.
     ghost stand: { Self.Site → Stand };
 
+    // The folder was asked for by this root.
+    ghost is_at: { Self.Folder → List ℕ → Type 0 };
+
+    // The place's archive was claimed by this name.
+    ghost is_named: { Self.Archive → List ℕ → Type 0 };
+
+    // This archive was written in its place.
+    ghost has: { Self.Archive → List (Row Stamp) → Type 0 };
+
     /// The folder at a directory. Nothing is looked at yet.
-    fn folder(&self, alloc: Global, root: &str) -> Result<Self::Folder, PerformFault>;
+    fn folder(&self, alloc: Global, root: &str) -> Result<Self::Folder, PerformFault>
+        ensures at { IfOk result (λ folder. is_at folder root.now) }
+        ensures quiet { IfErr result IsQuiet };
 
     /// The place in a replica of the commit of the entry of this number and path, which is copied from the replica `source`.
     /// Nothing is looked at yet.
@@ -41,10 +55,12 @@ pub trait Disk {
         path: &Path,
         entry: u32,
     ) -> Result<Self::Site, PerformFault>
-        ensures { IfOk result (λ site. stand site ≡ record { root = root.now; source = source.now; path = path.now }) };
+        ensures stand { IfOk result (λ site. stand site ≡ record { root = root.now; source = source.now; path = path.now }) }
+        ensures quiet { IfErr result IsQuiet };
 
     /// Locks a replica until what is answered is dropped. There is no lock where no directory is.
-    fn lock(&self, alloc: Global, root: &str) -> Result<Option<Self::Lock>, PerformFault>;
+    fn lock(&self, alloc: Global, root: &str) -> Result<Option<Self::Lock>, PerformFault>
+        ensures { IfErr result IsQuiet };
 
     /// Whether the replica took part in a run before it was locked.
     fn took_part(&self, lock: &Self::Lock) -> bool;
@@ -56,7 +72,8 @@ pub trait Disk {
     fn is_in_place(&self, lock: &Self::Lock) -> bool;
 
     /// Notes that a replica takes part in this run.
-    fn take_part(&self, lock: &Self::Lock) -> Result<(), PerformFault>;
+    fn take_part(&self, lock: &Self::Lock) -> Result<(), PerformFault>
+        ensures { IfErr result IsQuiet };
 
     /// Gives a lock up, and removes its file from the replica, where that can be done.
     fn unlock(&self, lock: Self::Lock);
@@ -65,7 +82,9 @@ pub trait Disk {
     fn withdraw(&self, lock: Self::Lock);
 
     /// Takes the place of an archive, so that no other run writes it.
-    fn claim(&self, alloc: Global, name: &str) -> Result<Self::Archive, PerformFault>;
+    fn claim(&self, alloc: Global, name: &str) -> Result<Self::Archive, PerformFault>
+        ensures named { IfOk result (λ place. is_named place name.now) }
+        ensures quiet { IfErr result IsQuiet };
 
     /// Writes an archive in its place, and waits until it has reached the device.
     fn write_archive(
@@ -73,7 +92,9 @@ pub trait Disk {
         alloc: Global,
         place: &mut Self::Archive,
         archive: &Print,
-    ) -> Result<(), PerformFault>;
+    ) -> Result<(), PerformFault>
+        ensures written { OnOk result (has place.new archive.now) }
+        ensures named { (name : List ℕ) → is_named place.old name → is_named place.new name };
 
     /// Gives the place of an archive up.
     fn release(&self, place: Self::Archive);
@@ -96,9 +117,16 @@ pub trait Machine: Disk + Files + AllocGlobal + Threads + Clone + Drop + Sync {}
 impl<R: Disk + Files + AllocGlobal + Threads + Clone + Drop + Sync> Machine for R {}
 
 impl Disk for HostRuntime {
+    ghost use Rattle.std.specs.Prelude.{⊤};
     ghost use Rattle.std.specs.String.{string_bytes};
 
     ghost stand = { λ site. record { root = string_bytes site.root; source = string_bytes site.source; path = site.path } };
+
+    ghost is_at = { λ _ _. ⊤ };
+
+    ghost is_named = { λ _ _. ⊤ };
+
+    ghost has = { λ _ _. ⊤ };
 
     type File = File;
 

@@ -1,29 +1,30 @@
 //! What commands read: archives, hold rules, plans and folders.
-ghost use Rattle.std.specs.Prelude.{◌≤◌, IfOk};
+ghost use Rattle.std.specs.Prelude.{◌≡◌, ◌≤◌, IfErr, IfOk};
 ghost use Rattle.ts_model.specs.Texts.{IsPlan};
+ghost use Rattle.ts_perform.specs.Lengths.{fault_below};
+ghost use Rattle.ts_perform.specs.Stands.{AreScans, IsScanOf};
+ghost use Rattle.ts_perform.specs.Trials.{IsQuiet};
 
-use crate::acting::replica;
 use crate::disk::Machine;
 use crate::fault::PerformFault;
-use crate::lengths::{first_too_long, is_too_long};
+use crate::lengths::{is_too_long, too_long};
+use crate::snapshot::Snapshot;
 use crate::task::Task;
-use std::alloc::Global;
 use std::fs;
 use std::fs::Files;
 use std::io::ErrorKind;
-use ts_check::{Checked, check};
 use ts_command::Pair;
 use ts_hold::{Holds, RuleReader};
 use ts_model::plan::Plan;
-use ts_name::Path;
-use ts_plan_build::resume;
 use ts_print::Print;
-use ts_scan::{Refusal, ScanFault, scan};
+use ts_scan::{ScanFault, scan};
 use ts_text::{Counted, Lines, TextFault};
 
 /// Opens a file to be read. None where nothing is there. A directory, a device or a pipe is never opened:
 /// it might be waited for.
-fn open<R: Files>(rt: &R, name: &str) -> Result<Option<R::File>, PerformFault> {
+fn open<R: Files>(rt: &R, name: &str) -> Result<Option<R::File>, PerformFault>
+    ensures quiet { IfErr result IsQuiet }
+{
     if let Ok(metadata) = fs::metadata(rt, name)
         && !metadata.is_file()
     {
@@ -43,7 +44,9 @@ fn open<R: Files>(rt: &R, name: &str) -> Result<Option<R::File>, PerformFault> {
 pub(crate) fn read_archive<R: Files + AllocGlobal>(
     rt: &R,
     name: &str,
-) -> Result<Option<Print>, PerformFault> {
+) -> Result<Option<Print>, PerformFault>
+    ensures quiet { IfErr result IsQuiet }
+{
     let Some(file) = open(rt, name)? else {
         return Ok(None);
     };
@@ -52,7 +55,9 @@ pub(crate) fn read_archive<R: Files + AllocGlobal>(
 }
 
 /// The rules in a file, or none where no file is named. They are read line by line: the first bad line ends it.
-fn read_holds<R: Files + AllocGlobal>(rt: &R, name: Option<&str>) -> Result<Holds, PerformFault> {
+fn read_holds<R: Files + AllocGlobal>(rt: &R, name: Option<&str>) -> Result<Holds, PerformFault>
+    ensures quiet { IfErr result IsQuiet }
+{
     let Some(name) = name else {
         return Ok(Holds::none(rt.alloc()));
     };
@@ -75,7 +80,8 @@ fn read_holds<R: Files + AllocGlobal>(rt: &R, name: Option<&str>) -> Result<Hold
 
 /// The plan in a file.
 fn read_plan<R: Files + AllocGlobal>(rt: &R, name: &str) -> Result<Plan, PerformFault>
-    ensures { IfOk result (λ plan. IsPlan plan) }
+    ensures fits { IfOk result (λ plan. IsPlan plan) }
+    ensures quiet { IfErr result IsQuiet }
 {
     let Some(file) = open(rt, name)? else {
         return Err(PerformFault::NotThere);
@@ -92,6 +98,8 @@ pub(crate) fn scan_folder<R: Machine>(
 ) -> Result<Print, PerformFault>
     requires some { 1 ≤ workers }
     requires few { workers ≤ 64 }
+    ensures scan { IfOk result (IsScanOf R.is_at R.Folder.tells root.now) }
+    ensures quiet { IfErr result IsQuiet }
 {
     let folder = rt.folder(rt.alloc(), root)?;
     match scan(rt, rt.alloc(), &folder, workers) {
@@ -101,7 +109,10 @@ pub(crate) fn scan_folder<R: Machine>(
 }
 
 /// The fault of a scan. Where the system doesn't take a path at all, that is what it is.
-fn fault_below(root: &str, fault: ScanFault) -> PerformFault {
+fn fault_below(root: &str, fault: ScanFault) -> PerformFault
+    ensures fault { result ≡ fault_below root.now fault }
+    ensures quiet { IsQuiet result }
+{
     match fault {
         ScanFault::At { path, fault } => {
             if is_too_long(root, &path) {
@@ -114,12 +125,6 @@ fn fault_below(root: &str, fault: ScanFault) -> PerformFault {
     }
 }
 
-/// That a path is too long for the system.
-fn too_long(path: Path) -> PerformFault {
-    let fault = Refusal::TooLong;
-    PerformFault::from(ScanFault::At { path, fault })
-}
-
 /// An archive and the hold rules.
 #[derive(Drop)]
 struct Known {
@@ -129,7 +134,9 @@ struct Known {
 
 impl Known {
     /// Reads the archive, and then the rules. An archive that isn't there has no paths.
-    fn read<R: Files + AllocGlobal>(rt: &R, pair: &Pair<'_>) -> Result<Known, PerformFault> {
+    fn read<R: Files + AllocGlobal>(rt: &R, pair: &Pair<'_>) -> Result<Known, PerformFault>
+        ensures quiet { IfErr result IsQuiet }
+    {
         let archive = match read_archive(rt, pair.archive)? {
             Some(archive) => archive,
             None => Print::empty(rt.alloc()),
@@ -148,26 +155,42 @@ struct Scanned {
 
 impl Scanned {
     /// Scans the first replica, and then the second.
-    fn read<R: Machine>(task: &Task<'_, R>) -> Result<Scanned, PerformFault> {
+    fn read<R: Machine>(task: &Task<'_, R>) -> Result<Scanned, PerformFault>
+        ensures scans { IfOk result (λ s. AreScans R.is_at R.Folder.tells task.now.pair.now.first.now task.now.pair.now.second.now s.first s.second) }
+        ensures quiet { IfErr result IsQuiet }
+    {
         let first = scan_folder(task.rt, task.pair.first, task.workers)?;
         let second = scan_folder(task.rt, task.pair.second, task.workers)?;
         Ok(Scanned { first, second })
     }
 }
 
-/// What a plan is made from, and checked against.
-#[derive(Drop)]
-pub(crate) struct Snapshot {
-    known: Known,
-    now: Scanned,
-}
-
 impl Snapshot {
+    /// A snapshot of these parts.
+    fn of(known: Known, scanned: Scanned) -> Snapshot
+        ensures archive { result.archive ≡ known.archive }
+        ensures holds { result.holds ≡ known.holds }
+        ensures first { result.first ≡ scanned.first }
+        ensures second { result.second ≡ scanned.second }
+    {
+        let Known { archive, holds } = known;
+        let Scanned { first, second } = scanned;
+        Snapshot {
+            archive,
+            holds,
+            first,
+            second,
+        }
+    }
+
     /// Reads the archive and the rules, and then scans both replicas.
-    pub(crate) fn read<R: Machine>(task: &Task<'_, R>) -> Result<Snapshot, PerformFault> {
+    pub(crate) fn read<R: Machine>(task: &Task<'_, R>) -> Result<Snapshot, PerformFault>
+        ensures scans { IfOk result (λ s. AreScans R.is_at R.Folder.tells task.now.pair.now.first.now task.now.pair.now.second.now s.first s.second) }
+        ensures quiet { IfErr result IsQuiet }
+    {
         let known = Known::read(task.rt, task.pair)?;
-        let now = Scanned::read(task)?;
-        Ok(Snapshot { known, now })
+        let scanned = Scanned::read(task)?;
+        Ok(Snapshot::of(known, scanned))
     }
 
     /// The same for a `sync`, which is refused where only one of the replicas took part in a run before, though the archive
@@ -175,13 +198,16 @@ impl Snapshot {
     pub(crate) fn read_of_both<R: Machine>(
         task: &Task<'_, R>,
         is_one_new: bool,
-    ) -> Result<Snapshot, PerformFault> {
+    ) -> Result<Snapshot, PerformFault>
+        ensures scans { IfOk result (λ s. AreScans R.is_at R.Folder.tells task.now.pair.now.first.now task.now.pair.now.second.now s.first s.second) }
+        ensures quiet { IfErr result IsQuiet }
+    {
         let known = Known::read(task.rt, task.pair)?;
         if is_one_new && !known.archive.rows().is_empty() {
             return Err(PerformFault::NotThere);
         }
-        let now = Scanned::read(task)?;
-        Ok(Snapshot { known, now })
+        let scanned = Scanned::read(task)?;
+        Ok(Snapshot::of(known, scanned))
     }
 
     /// The same, with a plan that is read before both replicas are scanned.
@@ -189,65 +215,13 @@ impl Snapshot {
         task: &Task<'_, R>,
         plan: &str,
     ) -> Result<(Snapshot, Plan), PerformFault>
-        ensures { IfOk result (λ read. IsPlan read.1) }
+        ensures fits { IfOk result (λ read. IsPlan read.1) }
+        ensures scans { IfOk result (λ read. AreScans R.is_at R.Folder.tells task.now.pair.now.first.now task.now.pair.now.second.now read.0.first read.0.second) }
+        ensures quiet { IfErr result IsQuiet }
     {
         let known = Known::read(task.rt, task.pair)?;
         let plan = read_plan(task.rt, plan)?;
-        let now = Scanned::read(task)?;
-        Ok((Snapshot { known, now }, plan))
-    }
-
-    /// The plan for what is there.
-    pub(crate) fn plan(&self, alloc: Global) -> Result<Plan, PerformFault>
-        ensures { IfOk result (λ plan. IsPlan plan) }
-    {
-        let Snapshot { known, now } = self;
-        Ok(resume(alloc, &known.archive, &now.first, &now.second, &known.holds)?)
-    }
-
-    /// Refuses a plan by which something would be put in place, or moved aside, at a path that is too long for the system.
-    pub(crate) fn look_at_lengths(
-        &self,
-        alloc: Global,
-        pair: &Pair<'_>,
-        plan: &Plan,
-    ) -> Result<(), PerformFault> {
-        for (number, entry) in plan.entries.as_slice().iter().enumerate() {
-            let Some(from) = entry.reason.source() else {
-                continue;
-            };
-            let root = replica(pair, from.other()).root;
-            for print in [&self.now.first, &self.now.second] {
-                if let Some(path) = first_too_long(
-                    root,
-                    number,
-                    &entry.path,
-                    print.sub(&entry.path),
-                ) {
-                    return Err(match path.copy(alloc) {
-                        Ok(path) => too_long(path),
-                        Err(_) => PerformFault::OutOfMemory,
-                    });
-                }
-            }
-        }
-        Ok(())
-    }
-
-    /// The plan with the checker's yes.
-    pub(crate) fn check<'a>(
-        &'a self,
-        alloc: Global,
-        plan: &'a Plan,
-    ) -> Result<Checked<'a>, PerformFault> {
-        let Snapshot { known, now } = self;
-        Ok(check(
-            alloc,
-            plan,
-            &known.archive,
-            &now.first,
-            &now.second,
-            &known.holds,
-        )?)
+        let scanned = Scanned::read(task)?;
+        Ok((Snapshot::of(known, scanned), plan))
     }
 }

@@ -1,6 +1,12 @@
 //! Paths that are too long for the system. It takes none of more bytes than a limit of its own, with the root before it.
+ghost use Rattle.std.specs.Prelude.{◌≡◌, ◌↔◌, ◌+◌, ◌-◌, ◌<◌, ◌^◌, IsTrue, length, min};
+ghost use Rattle.ts_perform.specs.Lengths.{most_bytes, path_bytes};
+ghost use Rattle.ts_perform.specs.Trials.{IsQuiet};
+
+use crate::fault::PerformFault;
 use ts_model::row::{Row, Stamp};
 use ts_name::Path;
+use ts_scan::{Refusal, ScanFault};
 
 /// How many bytes a path of the system has at most, as Linux has it: 4,096 with the zero byte at its end.
 const MOST_BYTES: usize = 4095;
@@ -28,12 +34,16 @@ fn digits_of(number: usize) -> usize {
 }
 
 /// How many bytes a path has below a root.
-fn bytes_of(path: &Path) -> usize {
+fn bytes_of(path: &Path) -> usize
+    ensures { result ≡ min (path_bytes path.now) (2 ^ 64 - 1) }
+{
     path.size().saturating_add(path.depth())
 }
 
 /// Whether the system takes no path that is so long below this root.
-pub(crate) fn is_too_long(root: &str, path: &Path) -> bool {
+pub(crate) fn is_too_long(root: &str, path: &Path) -> bool
+    ensures { IsTrue result ↔ (most_bytes < length root.now + path_bytes path.now) }
+{
     root.len().saturating_add(bytes_of(path)) > MOST_BYTES
 }
 
@@ -56,4 +66,13 @@ pub(crate) fn first_too_long<'a>(
     }
     let row = rows.iter().find(|row| is_past(&row.path))?;
     Some(&row.path)
+}
+
+/// That a path is too long for the system.
+pub(crate) fn too_long(path: Path) -> PerformFault
+    ensures fault { result ≡ PerformFault.Scan (ScanFault.At path Refusal.TooLong) }
+    ensures quiet { IsQuiet result }
+{
+    let fault = Refusal::TooLong;
+    PerformFault::from(ScanFault::At { path, fault })
 }

@@ -11,6 +11,7 @@ pub mod performing;
 mod reporting;
 mod room;
 mod running;
+mod snapshot;
 mod task;
 
 pub use disk::{Disk, Machine};

@@ -1,23 +1,23 @@
 //! Commands, one by one.
-ghost use Rattle.std.specs.Prelude.{◌≡◌, ◌∷◌, ◌≤◌, [], IfErr, IfSome, Some};
-ghost use Rattle.ts_model.specs.Texts.{text};
+ghost use Rattle.std.specs.Prelude.{◌≡◌, ◌≤◌, IfErr, IfSome};
 ghost use Rattle.ts_model.specs.Trial.{HasContentsApart, Trial};
-ghost use Rattle.ts_perform.specs.Faults.{fault_line, fault_number, own_path};
-ghost use Rattle.ts_perform.specs.Runs.{AnswersRun, IsRefusal, IsRunOrSync, Ran};
+ghost use Rattle.ts_perform.specs.Jobs.{IfCheck, IfPlan, IfRun, IfSync};
+ghost use Rattle.ts_perform.specs.Runs.{AnswersOne, AnswersRun, IsCarriedOut, IsSynced, Ran, Refuses};
+ghost use Rattle.ts_perform.specs.Snapshots.{IsPrintoutAt, IsVerdictAt, Prints};
 ghost use Rattle.ts_perform.specs.Trials.{Answers, IsQuiet};
-ghost use Rattle.ts_text.specs.Sources.{AppendsFront};
 ghost use Rattle.ts_trial.specs.Answers.{WritesOne};
 
 use crate::answers::{write_fault, write_fault_at, write_refusal};
 use crate::disk::Machine;
 use crate::fault::PerformFault;
-use crate::inputs::{Snapshot, read_archive, scan_folder};
+use crate::inputs::{read_archive, scan_folder};
+use crate::snapshot::Snapshot;
 use crate::task::Task;
 use std::alloc::Global;
 use std::fs::Files;
 use std::thread::Threads;
 use ts_command::{Command, Job};
-use ts_text::{Lines, Sink, Source, write_all, write_line};
+use ts_text::{Lines, Sink, Source, write_all};
 use ts_trial::trial;
 
 /// The program's own directory in a replica. It is no path of an entry.
@@ -36,7 +36,14 @@ pub fn perform<R: Machine, I: Source + Drop, O: Sink, E: Sink>(
     err: &mut E,
 ) -> u8
     ensures trial { command.now.job ≡ Job.Trial → IfSome (I.holds input) (λ bytes. HasContentsApart bytes → Answers (Trial bytes) (O.holds out.old) (O.holds out.new) result) }
-    ensures run { IsRunOrSync command.now.job → AnswersRun (O.holds out.old) (O.holds out.new) (E.holds err.old) (E.holds err.new) result }
+    ensures plan { IfPlan command.now.job (λ pair. AnswersOne (IsPrintoutAt R.is_at R.Folder.tells pair)
+        (O.holds out.old) (O.holds out.new) (E.holds err.old) (E.holds err.new) result) }
+    ensures check { IfCheck command.now.job (λ pair. AnswersOne (IsVerdictAt R.is_at R.Folder.tells pair)
+        (O.holds out.old) (O.holds out.new) (E.holds err.old) (E.holds err.new) result) }
+    ensures run { IfRun command.now.job (λ pair. AnswersRun (IsCarriedOut R.stand R.Site.content R.Site.failures R.is_at R.Folder.tells R.Folder.lets R.is_named R.has pair)
+        (O.holds out.old) (O.holds out.new) (E.holds err.old) (E.holds err.new) result) }
+    ensures sync { IfSync command.now.job (λ pair. AnswersRun (IsSynced R.stand R.Site.content R.Site.failures R.is_at R.Folder.tells R.Folder.lets R.is_named R.has pair)
+        (O.holds out.old) (O.holds out.new) (E.holds err.old) (E.holds err.new) result) }
 {
     match answer(rt, command, input, out, err) {
         Ok(status) => status,
@@ -48,9 +55,7 @@ pub fn perform<R: Machine, I: Source + Drop, O: Sink, E: Sink>(
 /// told, the exit status says so alone.
 fn refuse<O: Sink, E: Sink>(alloc: Global, fault: &PerformFault, out: &mut O, err: &mut E) -> u8
     ensures status { result ≡ 3 }
-    ensures quiet { IsQuiet fault.now → O.holds out.new ≡ O.holds out.old }
-    ensures refusal { IsRefusal (O.holds out.old) (O.holds out.new) (E.holds err.old) (E.holds err.new) result }
-    ensures own { fault.now ≡ PerformFault.Own → AppendsFront (E.holds err.old) (E.holds err.new) (text (fault_line (fault_number fault.now) (Some own_path) ∷ [])) }
+    ensures told { Refuses fault.now (O.holds out.old) (O.holds out.new) (E.holds err.old) (E.holds err.new) }
 {
     let _ = match fault {
         PerformFault::Broken { rule, place } => match write_refusal(alloc, *rule, *place, out) {
@@ -73,7 +78,12 @@ fn answer<R: Machine, I: Source + Drop, O: Sink, E: Sink>(
 ) -> Result<u8, PerformFault>
     ensures trial { command.now.job ≡ Job.Trial → IfSome (I.holds input) (λ bytes. HasContentsApart bytes → WritesOne (Trial bytes) (O.holds out.old) (O.holds out.new) result) }
     ensures quiet { command.now.job ≡ Job.Trial → IfErr result IsQuiet }
-    ensures run { IsRunOrSync command.now.job → Ran (O.holds out.old) (O.holds out.new) (E.holds err.old) (E.holds err.new) result }
+    ensures plan { IfPlan command.now.job (λ pair. Prints (IsPrintoutAt R.is_at R.Folder.tells pair) (O.holds out.old) (O.holds out.new) result × (E.holds err.new ≡ E.holds err.old)) }
+    ensures check { IfCheck command.now.job (λ pair. Prints (IsVerdictAt R.is_at R.Folder.tells pair) (O.holds out.old) (O.holds out.new) result × (E.holds err.new ≡ E.holds err.old)) }
+    ensures run { IfRun command.now.job (λ pair. Ran (IsCarriedOut R.stand R.Site.content R.Site.failures R.is_at R.Folder.tells R.Folder.lets R.is_named R.has pair)
+        (O.holds out.old) (O.holds out.new) (E.holds err.old) (E.holds err.new) result) }
+    ensures sync { IfSync command.now.job (λ pair. Ran (IsSynced R.stand R.Site.content R.Site.failures R.is_at R.Folder.tells R.Folder.lets R.is_named R.has pair)
+        (O.holds out.old) (O.holds out.new) (E.holds err.old) (E.holds err.new) result) }
 {
     let workers = command.workers;
     match &command.job {
@@ -141,11 +151,11 @@ fn show<R: Files + AllocGlobal, O: Sink>(
 }
 
 /// Prints a plan for the pair.
-fn print_plan<R: Machine, O: Sink>(task: &Task<'_, R>, out: &mut O) -> Result<u8, PerformFault> {
-    let alloc = task.rt.alloc();
-    let plan = Snapshot::read(task)?.plan(alloc)?;
-    ts_plan::encode(alloc, &plan, out)?;
-    Ok(0)
+fn print_plan<R: Machine, O: Sink>(task: &Task<'_, R>, out: &mut O) -> Result<u8, PerformFault>
+    ensures { Prints (IsPrintoutAt R.is_at R.Folder.tells task.now.pair.now) (O.holds out.old) (O.holds out.new) result }
+{
+    let snapshot = Snapshot::read(task)?;
+    snapshot.print_plan(task.rt.alloc(), out)
 }
 
 /// Says whether a plan is valid for the pair.
@@ -153,9 +163,9 @@ fn check_plan<R: Machine, O: Sink>(
     task: &Task<'_, R>,
     plan: &str,
     out: &mut O,
-) -> Result<u8, PerformFault> {
+) -> Result<u8, PerformFault>
+    ensures { Prints (IsVerdictAt R.is_at R.Folder.tells task.now.pair.now) (O.holds out.old) (O.holds out.new) result }
+{
     let (snapshot, plan) = Snapshot::read_for(task, plan)?;
-    let _checked = snapshot.check(task.rt.alloc(), &plan)?;
-    write_line(out, b"valid")?;
-    Ok(0)
+    snapshot.print_verdict(task.rt.alloc(), &plan, out)
 }

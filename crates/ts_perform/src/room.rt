@@ -1,8 +1,9 @@
 //! How many workers may carry a plan out, by the memory that they need.
 ghost use Rattle.std.specs.Prelude.{◌≡◌, ◌⊎◌, ◌+◌, ◌*◌, ◌<◌, ◌≤◌};
+ghost use Rattle.ts_perform.specs.Staging.{IsLargest, IsStaged, piece_bytes};
 
 use ts_check::Checked;
-use ts_model::plan::Kind;
+use ts_model::plan::{Action, Kind};
 
 /// How many bytes may be staged beyond one of the largest commits and a quarter of it.
 const SPARE: u64 = 52_428_800;
@@ -29,7 +30,9 @@ pub(crate) fn workers_with_room(largest: u64, workers: u32) -> u32
 }
 
 /// How many bytes the largest commit of a plan stages.
-pub(crate) fn largest_commit(checked: &Checked<'_>) -> u64 {
+pub(crate) fn largest_commit(checked: &Checked<'_>) -> u64
+    ensures { IsLargest checked.now.plan result }
+{
     let mut largest: u64 = 0;
     for commit in 0..checked.action_count() {
         largest = largest.max(staged_bytes(checked, commit));
@@ -38,15 +41,27 @@ pub(crate) fn largest_commit(checked: &Checked<'_>) -> u64 {
 }
 
 /// How many bytes the pieces of a commit have.
-fn staged_bytes(checked: &Checked<'_>, commit: u32) -> u64 {
+fn staged_bytes(checked: &Checked<'_>, commit: u32) -> u64
+    ensures { IsStaged checked.now.plan commit result }
+{
     let actions = checked.plan().actions.as_slice();
+    let pieces = checked.pieces(commit);
     let mut bytes: u64 = 0;
-    for piece in checked.pieces(commit) {
-        if let Some(action) = actions.get(*piece as usize)
-            && let Kind::Piece { length, .. } = &action.kind
-        {
-            bytes = bytes.saturating_add(*length);
-        }
+    for piece in pieces {
+        bytes = bytes.saturating_add(piece_bytes(actions, *piece));
     }
     bytes
+}
+
+/// How many bytes a piece has.
+fn piece_bytes(actions: &[Action], piece: u32) -> u64
+    ensures { result ≡ piece_bytes actions.now piece }
+{
+    match actions.get(piece as usize) {
+        Some(action) => match &action.kind {
+            Kind::Piece { length, .. } => *length,
+            Kind::Commit { .. } | Kind::Mark { .. } => 0,
+        },
+        None => 0,
+    }
 }

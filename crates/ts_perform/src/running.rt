@@ -1,13 +1,16 @@
 //! Plans carried out on two folders.
-ghost use Rattle.std.specs.Prelude.{◌≡◌, IfErr, IfOk};
+ghost use Rattle.std.specs.Prelude.{◌≡◌, ℕ, List, IfErr, IfOk};
 ghost use Rattle.ts_model.specs.Texts.{IsPlan};
-ghost use Rattle.ts_perform.specs.Runs.{BeginsNotices, Ran, RanQuietly};
+ghost use Rattle.ts_perform.specs.Runs.{BeginsNotices, IsCarriedOut, IsCarriedOutFor, IsSynced, Ran, RanQuietly};
+ghost use Rattle.ts_perform.specs.Snapshots.{checkup_of, IsPlanned};
+ghost use Rattle.ts_perform.specs.Stands.{AreScans};
+ghost use Rattle.ts_perform.specs.Trials.{IsQuiet};
 
 use crate::acting::{act, keep_archive, replica};
 use crate::disk::{Disk, Machine};
 use crate::fault::PerformFault;
-use crate::inputs::Snapshot;
 use crate::reporting::{FAILED, report_all, report_notices};
+use crate::snapshot::Snapshot;
 use crate::task::Task;
 use std::alloc::Global;
 use ts_disk::{
@@ -34,7 +37,8 @@ impl<R: Machine> Task<'_, R> {
         out: &mut O,
         err: &mut E,
     ) -> Result<u8, PerformFault>
-        ensures ran { Ran (O.holds out.old) (O.holds out.new) (E.holds err.old) (E.holds err.new) result }
+        ensures ran { Ran (IsCarriedOut R.stand R.Site.content R.Site.failures R.is_at R.Folder.tells R.Folder.lets R.is_named R.has self.now.pair.now)
+            (O.holds out.old) (O.holds out.new) (E.holds err.old) (E.holds err.new) result }
     {
         let mut claims = self.claim()?;
         let mut notices = Vec::new(self.rt.alloc());
@@ -49,7 +53,8 @@ impl<R: Machine> Task<'_, R> {
         out: &mut O,
         err: &mut E,
     ) -> Result<u8, PerformFault>
-        ensures ran { Ran (O.holds out.old) (O.holds out.new) (E.holds err.old) (E.holds err.new) result }
+        ensures ran { Ran (IsSynced R.stand R.Site.content R.Site.failures R.is_at R.Folder.tells R.Folder.lets R.is_named R.has self.now.pair.now)
+            (O.holds out.old) (O.holds out.new) (E.holds err.old) (E.holds err.new) result }
     {
         let mut claims = self.claim()?;
         let mut notices = Vec::new(self.rt.alloc());
@@ -76,7 +81,10 @@ impl<R: Machine> Task<'_, R> {
     }
 
     /// Locks both replicas and the archive, so that no other run disturbs this one.
-    fn claim(&self) -> Result<Claims<R>, PerformFault> {
+    fn claim(&self) -> Result<Claims<R>, PerformFault>
+        ensures named { IfOk result (λ claims. R.is_named claims.archive self.now.pair.now.archive.now) }
+        ensures quiet { IfErr result IsQuiet }
+    {
         let Task { rt, pair, .. } = self;
         let alloc = rt.alloc();
         let first = rt.lock(alloc, pair.first)?;
@@ -147,7 +155,9 @@ impl<R: Machine> Task<'_, R> {
 
     /// That both replicas are still there. One that went away while it was scanned may look empty, and nothing is deleted for
     /// that.
-    fn look_at_claims(&self, claims: &Claims<R>) -> Result<(), PerformFault> {
+    fn look_at_claims(&self, claims: &Claims<R>) -> Result<(), PerformFault>
+        ensures quiet { IfErr result IsQuiet }
+    {
         if self.is_in_place(&claims.first) && self.is_in_place(&claims.second) {
             Ok(())
         } else {
@@ -156,7 +166,9 @@ impl<R: Machine> Task<'_, R> {
     }
 
     /// Notes that both replicas take part in this run.
-    fn take_part(&self, claims: &Claims<R>) -> Result<(), PerformFault> {
+    fn take_part(&self, claims: &Claims<R>) -> Result<(), PerformFault>
+        ensures quiet { IfErr result IsQuiet }
+    {
         if let Some(lock) = &claims.first {
             self.rt.take_part(lock)?;
         }
@@ -168,7 +180,9 @@ impl<R: Machine> Task<'_, R> {
 
     /// Brings to its end what a stopped run left, unless something lies in one of the replicas that no plan explains. What is
     /// to be said of it is added to `notices`.
-    fn recover(&self, notices: &mut Vec<Notice>) -> Result<(), PerformFault> {
+    fn recover(&self, notices: &mut Vec<Notice>) -> Result<(), PerformFault>
+        ensures quiet { IfErr result IsQuiet }
+    {
         let Task { rt, pair, .. } = self;
         let alloc = rt.alloc();
         check_leftovers(*rt, alloc, pair.first)?;
@@ -186,7 +200,9 @@ impl<R: Machine> Task<'_, R> {
         out: &mut O,
         err: &mut E,
     ) -> Result<u8, PerformFault>
-        ensures ran { RanQuietly (O.holds out.old) (O.holds out.new) (E.holds err.old) (E.holds err.new) result }
+        requires named { R.is_named claims.old.archive self.now.pair.now.archive.now }
+        ensures ran { RanQuietly (IsCarriedOut R.stand R.Site.content R.Site.failures R.is_at R.Folder.tells R.Folder.lets R.is_named R.has self.now.pair.now)
+            (O.holds out.old) (O.holds out.new) (E.holds err.old) (E.holds err.new) result }
     {
         self.recover(notices)?;
         let (snapshot, plan) = Snapshot::read_for(self, plan)?;
@@ -202,7 +218,9 @@ impl<R: Machine> Task<'_, R> {
         out: &mut O,
         err: &mut E,
     ) -> Result<u8, PerformFault>
-        ensures ran { RanQuietly (O.holds out.old) (O.holds out.new) (E.holds err.old) (E.holds err.new) result }
+        requires named { R.is_named claims.old.archive self.now.pair.now.archive.now }
+        ensures ran { RanQuietly (IsSynced R.stand R.Site.content R.Site.failures R.is_at R.Folder.tells R.Folder.lets R.is_named R.has self.now.pair.now)
+            (O.holds out.old) (O.holds out.new) (E.holds err.old) (E.holds err.new) result }
     {
         self.recover(notices)?;
         let snapshot = Snapshot::read_of_both(self, self.is_one_new(&*claims))?;
@@ -223,7 +241,10 @@ impl<R: Machine> Task<'_, R> {
         err: &mut E,
     ) -> Result<u8, PerformFault>
         requires plan { IsPlan plan.now }
-        ensures ran { RanQuietly (O.holds out.old) (O.holds out.new) (E.holds err.old) (E.holds err.new) result }
+        requires scans { AreScans R.is_at R.Folder.tells self.now.pair.now.first.now self.now.pair.now.second.now snapshot.now.first snapshot.now.second }
+        requires named { R.is_named claims.old.archive self.now.pair.now.archive.now }
+        ensures ran { RanQuietly (IsCarriedOutFor (checkup_of snapshot.now plan.now) R.stand R.Site.content R.Site.failures R.is_at R.Folder.tells R.Folder.lets R.is_named R.has self.now.pair.now)
+            (O.holds out.old) (O.holds out.new) (E.holds err.old) (E.holds err.new) result }
     {
         let alloc = self.rt.alloc();
         let checked = snapshot.check(alloc, plan)?;
@@ -251,6 +272,7 @@ impl<R: Machine> Task<'_, R> {
     /// between is known by its plans.
     fn save(&self, alloc: Global, plan: &Plan, claims: &Claims<R>) -> Result<(), PerformFault>
         requires { IsPlan plan.now }
+        ensures quiet { IfErr result IsQuiet }
     {
         let saved = match self.save_both(alloc, plan) {
             Ok(()) => self.take_part(claims),
@@ -265,6 +287,7 @@ impl<R: Machine> Task<'_, R> {
     /// Writes the plan to both replicas.
     fn save_both(&self, alloc: Global, plan: &Plan) -> Result<(), PerformFault>
         requires { IsPlan plan.now }
+        ensures quiet { IfErr result IsQuiet }
     {
         let Task { rt, pair, .. } = self;
         save_plan(*rt, alloc, pair.first, plan)?;

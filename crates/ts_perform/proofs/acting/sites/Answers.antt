@@ -38,7 +38,7 @@ loop-action-preserved g c =
           let e = w.in-Commit.entry in let entry = w.index-entries-entry.result in
           let read : slice_get plan.entries e ≡ Some entry =
           sym (ap (λ (l : List Entry). slice_get l e) entries_are) ∙ slice_get_read c.as_slice-entries.result.now (length c.as_slice-entries.result.now) e entry refl (there e w.in-Commit.is) w.index-entries-entry.is in
-          rw w.sites-is (rw w.in_ok-push.ensures.items (with_commit g.R.Disk.stand c.loop-action.sites.items w.in_ok-site.field-0 first second plan.entries plan.actions i c.action-item.result e entry all within is w.in-Commit.is read (stands_so (g.R.Disk.stand w.in_ok-site.field-0) w.target_and_source.result.0.now w.target_and_source.result.1.now first second entry w.in_ok-site.ensures w.target_and_source.ensures.target w.target_and_source.ensures.source) c.loop-action.invariant))
+          rw w.sites-is (rw w.in_ok-push.ensures.items (with_commit g.R.Disk.stand c.loop-action.sites.items w.in_ok-site.field-0 first second plan.entries plan.actions i c.action-item.result e entry all within is w.in-Commit.is read (stands_so (g.R.Disk.stand w.in_ok-site.field-0) w.target_and_source.result.0.now w.target_and_source.result.1.now first second entry w.in_ok-site.ensures.stand w.target_and_source.ensures.target w.target_and_source.ensures.source) c.loop-action.invariant))
       | in_default w ↦
           rw w.sites-is (without_commit first second plan.entries plan.actions i c.action-item.result (map (λ s. Some (g.R.Disk.stand s)) c.loop-action.sites.items) all within is w.in_default.not-Commit c.loop-action.invariant)
     ]

@@ -1,14 +1,41 @@
+use Rattle.std.proofs.Common.{refl, sym, subst}
+use Rattle.std.proofs.lemmas.Result.{err_from_is_err_and}
+use Rattle.ts_board.specs.Calls.{slots_of, words_of}
+use Rattle.ts_check.specs.Checkup.{Checkup, snapshot_of}
+use Rattle.ts_check.specs.Verdict.{IsSafe}
+use Rattle.ts_model.specs.Plans.{Valid}
 use Rattle.ts_perform.specs.Runs.{Came, lost_by}
-use Rattle.ts_perform.proofs.Reported.{reported}
+use Rattle.ts_perform.specs.Snapshots.{checkup_of}
+use Rattle.ts_perform.proofs.Reported.{kept_in, quiet_right, reported, unchecked_right}
 use Rattle.ts_perform.proofs.task.Task.carry_out.Goals as goal
 
 pub returns-in-Ok : goal.returns-in-Ok
 returns-in-Ok g c =
-    let came : Came = record { plan = c.in_ok-checked.checked.plan; results = c.in-Ok.outcome.results.items; lost = lost_by c.keep_archive-kept.result; notices = c.as_slice-notices.result.now } in
+    let came : Came = record { checkup = c.in_ok-checked.checked; results = c.in-Ok.outcome.results.items; lost = lost_by c.keep_archive-kept.result; notices = c.as_slice-notices.result.now } in
+    let same = c.in_ok-checked.ensures.checked in
+    let words = words_of c.in-Ok.outcome.closed in
     record {
       ran = (
         came,
+        record {
+          checkup = same;
+          carried_out = record {
+            scans = rw same c.requires.scans;
+            valid = subst (λ (k : Checkup). Valid (snapshot_of k) k.plan) (sym same) c.in_ok-checked.ensures.valid;
+            safe = subst (λ (k : Checkup). IsSafe (snapshot_of k) k.plan) (sym same) c.in_ok-checked.ensures.safe;
+            words = words;
+            slots = slots_of c.in-Ok.outcome.closed;
+            run = c.in-Ok.ensures.stands;
+            archive = kept_in g.R.Disk.is_named g.R.Disk.has came.checkup words c.keep_archive-kept.new.place c.args.self.now.pair.now.archive.now c.keep_archive-kept.result
+                (c.keep_archive-kept.ensures.named c.args.self.now.pair.now.archive.now c.requires.named) c.keep_archive-kept.ensures.kept;
+          };
+        },
         reported came (g.O.Sink.holds c.args.out.now) (g.O.Sink.holds c.report_all-told.new.out) (g.E.Sink.holds c.args.err.now) (g.E.Sink.holds c.report_all-told.new.err) c.report_all-told.result c.unwrap_or.result
             c.report_all-told.ensures.report c.report_all-told.ensures.faults c.report_all-told.ensures.status c.unwrap_or.ensures,
       );
     }
+
+pub returns-in_err-checked : goal.returns-in_err-checked
+returns-in_err-checked g c =
+    let p = err_from_is_err_and c.from_residual.result c.from_residual.ensures.1 in
+    rw (p.1, p.2) (record { ran = (unchecked_right (checkup_of c.args.snapshot.now c.args.plan.now) _ c.in_err-checked.ensures.refused, refl, refl) })

@@ -1,0 +1,21 @@
+-- Paths that are too long for the system.
+--     path_bytes path         how many bytes a path has below a root: those of its names, each with a slash before it
+--     fault_below root fault  a scan's fault below this root; where the system doesn't take the path at all, that is what it is
+use Rattle.std.specs.Prelude.{ℕ, ◌+◌, List, length, sum_by, nat_lt, if◌then◌else◌}
+use Rattle.ts_name.specs.Paths.{Path}
+use Rattle.ts_scan.specs.declared.fault.Refusal.TheVariants.{TooLong}
+use Rattle.ts_scan.specs.declared.fault.ScanFault.{ScanFault}
+use Rattle.ts_scan.specs.declared.fault.ScanFault.TheVariants as scan
+use Rattle.ts_perform.specs.declared.fault.PerformFault.{PerformFault}
+use Rattle.ts_perform.specs.declared.fault.PerformFault.TheVariants as fault
+
+abbrev pub path_bytes : Path → ℕ
+path_bytes path = sum_by length path + length path
+
+-- the most that the system takes
+abbrev pub most_bytes : ℕ
+most_bytes = 4095
+
+abbrev pub fault_below : List ℕ → ScanFault → PerformFault
+fault_below root scan.OutOfMemory = fault.OutOfMemory
+fault_below root (scan.At path refusal) = fault.Scan (scan.At path (if nat_lt most_bytes (length root + path_bytes path) then TooLong else refusal))
