@@ -14,7 +14,7 @@ usage: tests/edits.py                  tries the named edits, those that have no
 
 Every edit has to apply, every name has to have an edit, and so has every line of the record. The ten are chosen by the
 commit. Libraries that aren't built, or that are older than their sources, are built first. The gate tries the named edits and
-the ten first, and begins no other once it has tried edits for 45 minutes: those that it doesn't come to it lists, and counts
+the ten first, and begins no other once it has tried edits for 30 minutes: those that it doesn't come to it lists, and counts
 neither as passed nor as failed.
 """
 import copy
@@ -41,7 +41,7 @@ from statements import statements_of, unfolded_names
 # How many of the recorded edits the gate tries again.
 SAMPLE = 10
 # For how many seconds the gate begins edits that have no record. It has three hours on two processors for all that it does.
-MOST_SECONDS = 45 * 60
+MOST_SECONDS = 30 * 60
 # A crate's edits are tried over what a check of it without any proved; where there are more, in several lanes.
 MOST_IN_A_LANE = 24
 NAME = re.compile(r"[A-Za-z0-9_-][A-Za-z0-9_.-]*\.edit")
