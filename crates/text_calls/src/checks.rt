@@ -1,4 +1,5 @@
 //! Whether a plan is valid, and what a checked plan tells.
+use crate::plans::NEW_DIRECTORY;
 use crate::shared::{Scene, World, plan_of, scene_of};
 use std::alloc::Global;
 use ts_check::{CheckFault, Checked, check};
@@ -85,6 +86,48 @@ fn verdict_of_too_many(alloc: Global) -> Option<Option<(PlanRule, u64)>> {
 #[test]
 fn too_many_entries_are_past_a_limit(rt: HostRuntime) {
     assert!(rt; verdict_of_too_many(rt.alloc()) == Some(Some((PlanRule::Limits, 0))));
+}
+
+/// A directory that both replicas have new, with one file in each.
+const TWO_NEW_FILES: World<'static> = World {
+    archive: &[],
+    first: &[
+        b"d /d",
+        b"f /d/x 1 aaaaaaaaaaaaaaaaaaaaaaaaaaaaaaaaaaaaaaaaaaaaaaaaaaaaaaaaaaaaaaaa",
+    ],
+    second: &[
+        b"d /d",
+        b"f /d/y 1 bbbbbbbbbbbbbbbbbbbbbbbbbbbbbbbbbbbbbbbbbbbbbbbbbbbbbbbbbbbbbbbb",
+    ],
+    rules: b"",
+};
+
+/// The plan for them with another byte at a place, where that is a plan.
+fn plan_with(alloc: Global, place: usize, byte: u8) -> Option<Plan> {
+    let mut text = Vec::from_slice(alloc, NEW_DIRECTORY).ok()?;
+    *text.get_mut(place)? = byte;
+    plan_of(alloc, &text)
+}
+
+/// Whether each plan that differs in a byte is refused by a rule, and the plan itself is accepted.
+fn judges(alloc: Global, scene: &Scene, place: usize, was: u8) -> bool {
+    [b'0', b' ', b'\n'].into_iter().all(|byte| match plan_with(alloc, place, byte) {
+        Some(plan) => match verdict(alloc, scene, &plan) {
+            Some(broken) => broken.is_none() == (byte == was),
+            None => false,
+        },
+        None => byte != was,
+    })
+}
+
+#[test]
+fn a_plan_with_another_byte_is_refused_by_a_rule(rt: HostRuntime) {
+    let Some(scene) = scene_of(rt.alloc(), &TWO_NEW_FILES) else {
+        panic!(rt; "no scene");
+    };
+    for (place, was) in NEW_DIRECTORY.iter().enumerate() {
+        assert!(rt; judges(rt.alloc(), &scene, place, *was), "{place}");
+    }
 }
 
 /// What the actions wait for, and what waits for them.

@@ -11,7 +11,7 @@ use ts_plan::{PlanFault, PlanLine, PlanReader, decode, encode, fits};
 use ts_text::{Counted, Lines};
 
 /// The plan for a directory that both replicas have new, with one file in each.
-const NEW_DIRECTORY: &[u8] = b"twosync-plan 1
+pub(crate) const NEW_DIRECTORY: &[u8] = b"twosync-plan 1
 entry dir /d
 entry first /d/x
 entry second /d/y
