@@ -265,9 +265,9 @@ def try_alone(rt, crate, it, flags, kept):
 
 
 def must_fail(rt, crate, edit, flags, kept):
-    """Returns whether rt says that the prover refuses an edit, and what it says."""
+    """Returns whether rt says that the prover refuses an edit, and what it says. One kit answers yes or no, another a word."""
     came, text = rt.must_fail(crate, edit, flags, kept)
-    return came in (rt.REFUSED, rt.AT_LIMIT), text
+    return came if isinstance(came, bool) else came in (rt.REFUSED, rt.AT_LIMIT), text
 
 
 def try_all(rt, crate, edits, flags, until=None):
