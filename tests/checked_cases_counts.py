@@ -1,4 +1,4 @@
-"""Counts what `crates/checked_cases/stdout` wants: makes the same 2,000 cases from the same dice, and judges them by
+"""Counts what `crates/cases/stdout` wants of the checker: makes the same 2,000 cases from the same dice, and judges them by
 a reading of the rules of its own. No code is shared with the checker, and the numbers were written down before the
 checker ran over the cases.
 usage: tests/checked_cases_counts.py [SEED]

@@ -7,7 +7,7 @@ set -u
 cd "$(dirname "$0")/.."
 . tests/program.sh
 program=$(program_of twosync "${1:-}") || exit 1
-bundles=crates/worked_bundles/data
+bundles=tests/worked_bundles
 work=$(mktemp -d)
 trap 'rm -rf "$work"' EXIT
 ${CC:-cc} -O1 -shared -fPIC -o "$work/refuse.so" tests/failing_allocations.c -ldl || exit 1

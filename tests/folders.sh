@@ -1,16 +1,16 @@
 #!/usr/bin/env bash
-# Runs the program folder_listing on real folders, with what a test in Rattle can't make among it: a fifo, a name that isn't
-# UTF-8, a folder that must not be listed, a file that must not be read. Wanted digests are those of `sha256sum`.
+# Has the built program scan real folders, with what a test in Rattle can't make among it: a fifo, a name that isn't UTF-8, a
+# folder that must not be listed, a file that must not be read. Wanted digests are those of `sha256sum`.
 # usage: tests/folders.sh [PROGRAM]
 set -u
 umask 022
 cd "$(dirname "$0")/.."
 . tests/program.sh
-program=$(program_of folder_listing "${1:-}") || exit 1
+program=$(program_of twosync "${1:-}") || exit 1
 work=$(mktemp -d)
 trap 'chmod -R u+rwx "$work"; rm -rf "$work"' EXIT
 chmod 755 "$work"
-cp "$program" "$work/listing" && chmod 755 "$work/listing"
+cp "$program" "$work/twosync" && chmod 755 "$work/twosync"
 passed=0
 failed=0
 
@@ -26,23 +26,19 @@ if [ "$(id -u)" = 0 ]; then
   fi
 fi
 
-# expect ANSWER COMMAND FOLDER [WORD]: what the program says of a folder
-expect() {
-  local want=$1 got
-  shift
-  got=$("${as[@]}" "$work/listing" "$1" "$work/$2" "${@:3}" 2>&1)
-  if [ "$got" = "$want" ]; then
-    passed=$((passed + 1))
-  else
-    failed=$((failed + 1))
-    echo "FAILED: $*"
-    diff <(echo "$want") <(echo "$got") | head -n 5
-  fi
-}
-# The same of a scan, with 1, 2 and 64 workers
+# expect_scan ANSWER STATUS FOLDER: what the program says of a folder, with 1, 2 and 64 workers, and its exit status
 expect_scan() {
-  local workers
-  for workers in 1 2 64; do expect "$1" scan "$2" "$workers"; done
+  local workers got
+  for workers in 1 2 64; do
+    got=$("${as[@]}" "$work/twosync" scan "$work/$3" --workers "$workers" 2>&1; echo "status $?")
+    if [ "$got" = "$1"$'\n'"status $2" ]; then
+      passed=$((passed + 1))
+    else
+      failed=$((failed + 1))
+      echo "FAILED: scan $3 by $workers"
+      diff <(echo "$1"; echo "status $2") <(echo "$got") | head -n 5
+    fi
+  done
 }
 
 # The line of a file: its path in the folder, and where it stands
@@ -81,24 +77,24 @@ wanted() {
     file_line "/many/$number" "$good/many/$number"
   done
 }
-all=$(wanted)
-expect_scan "$all" good
-expect $'d /d\nf /empty\nf /large\nd /many' list good
-expect $'f /a%09\nf /a%0A\nf /a%20b\nf /a%25\nd /e\nf /ä' list good /d
-expect '' list good /d/e/f
-expect 'size 5' list good /d/a%20b
-expect 'size 0' list good /empty
-expect 'size 1048576' list good /large
-expect 'fault 9' list good /none
-expect 'fault 9' list good /empty/none
-expect 'fault 9' list nowhere
+# The archive's text: its header, the lines, how many these are, and the digest of all before
+archive() {
+  local lines text digest
+  lines=$(wanted)
+  text="twosync-archive 1"$'\n'"$lines"$'\n'
+  digest=$(printf %s "$text" | sha256sum)
+  printf '%send %s %s\n' "$text" "$(wc -l <<<"$lines")" "${digest%% *}"
+}
+all=$(archive)
+expect_scan "$all" 0 good
+expect_scan 'twosync: fault 9' 3 nowhere
 
 # refused NAME ANSWER PATH_OF_FAULT: the folder NAME, in which only what is at /x isn't lawful; it is readable up to there
 refused() {
   mkdir -p "$work/$1/a" "$work/$1/x"
   : >"$work/$1/a/b"
   "make_$1" "$work/$1/x"
-  expect_scan "fault $2 $3" "$1"
+  expect_scan "twosync: fault $2 $3" 3 "$1"
 }
 make_fifo() { mkfifo "$1/p"; }
 make_bytes() { : >"$1/$(printf 'a\377')"; }
@@ -110,14 +106,9 @@ refused bytes 10 /x
 refused link 10 /x
 refused broken_link 10 /x
 refused own 10 /x
-expect 'fault 10' list fifo /x
-expect 'fault 10' list fifo /x/p
-expect 'fault 10' list bytes /x
-expect 'fault 10' list link /x/to_a
-expect 'fault 10' list link /x/to_a/b
 # The folder itself may be reached by a link.
 ln -s good "$work/good_by_link"
-expect_scan "$all" good_by_link
+expect_scan "$all" 0 good_by_link
 
 if [ "$may_be_refused" = 1 ]; then
   make_shut() { mkdir "$1/shut"; chmod 000 "$1/shut"; }
@@ -127,8 +118,6 @@ if [ "$may_be_refused" = 1 ]; then
   refused secret 8 /x/secret
   # its names may be read, but what they name may not be looked at
   refused closed 10 /x/shut
-  expect 'fault 10' list shut /x/shut
-  expect 'fault 8' list secret /x/secret
 fi
 echo "folders: $passed passed, $failed failed"
 [ "$failed" = 0 ]

@@ -1,4 +1,4 @@
-"""Counts what `crates/planner_meets_checker/stdout` wants: makes the same 2,000 cases from the same dice, and finds the
+"""Counts what `crates/cases/stdout` wants of the planner: makes the same 2,000 cases from the same dice, and finds the
 reasons of all paths by the reading of `checked_cases_counts.py`, which shares no code with the planner. The numbers were
 written down before the program printed them.
 usage: tests/planned_cases_counts.py

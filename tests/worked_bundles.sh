@@ -1,11 +1,12 @@
 #!/usr/bin/env bash
-# Runs the built program on every worked bundle, as a user would, and compares what it writes and its status.
+# Runs the built program on every worked bundle, as a user would, with 1, 2 and 64 workers, and compares what it writes and its
+# status.
 # usage: tests/worked_bundles.sh [PROGRAM]
 set -u
 cd "$(dirname "$0")/.."
 . tests/program.sh
 program=$(program_of twosync "${1:-}") || exit 1
-bundles=crates/worked_bundles/data
+bundles=tests/worked_bundles
 # The versions of texts that the program knows. Bundles of others are malformed to it.
 known=plan_1
 passed=0
@@ -19,16 +20,18 @@ part() { if [ -f "$bundles/$1" ]; then cat "$bundles/$1"; else gzip -dc "$bundle
 while IFS=$'\t' read -r name level status size title; do
   part "$name.in" >"$work/in"
   if [[ " $known " == *" $level "* ]]; then part "$name.out" >"$work/want"; else echo malformed >"$work/want"; status=3; fi
-  "$program" trial <"$work/in" >"$work/got" 2>"$work/err"
-  got=$?
-  if [ "$got" = "$status" ] && cmp -s "$work/got" "$work/want" && [ ! -s "$work/err" ]; then
-    passed=$((passed + 1))
-  else
-    failed=$((failed + 1))
-    echo "FAILED: $name ($title): status $got, wanted $status"
-    head -c 300 "$work/err"
-    diff "$work/want" "$work/got" | head -n 5
-  fi
+  for workers in 1 2 64; do
+    "$program" trial --workers "$workers" <"$work/in" >"$work/got" 2>"$work/err"
+    got=$?
+    if [ "$got" = "$status" ] && cmp -s "$work/got" "$work/want" && [ ! -s "$work/err" ]; then
+      passed=$((passed + 1))
+    else
+      failed=$((failed + 1))
+      echo "FAILED: $name ($title), $workers workers: status $got, wanted $status"
+      head -c 300 "$work/err"
+      diff "$work/want" "$work/got" | head -n 5
+    fi
+  done
 done <"$bundles/index.tsv"
 echo "worked bundles: $passed passed, $failed failed"
 [ "$failed" = 0 ]

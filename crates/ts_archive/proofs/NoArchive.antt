@@ -205,6 +205,13 @@ pub at_end : (old now new : Reading) (fed : List Line) (n : ℕ) → Rows old no
 at_end old now new fed n r ends =
     reading old now fed n (λ y. y ≡ []) IsNoArchive r (kept_end now.left new.left ends.kept ends.ended) (λ x y read none. no_archive x (ended_early x y fed n read none))
 
+-- whatever a print's reader refuses lines for
+pub only_refused : (reason : Type 0) (e : PrintFault) → Refuses reason e → Refuses (Unit {0}) e
+only_refused reason print_fault.OutOfMemory refuses = tt
+only_refused reason print_fault.TooLong refuses = refuses
+only_refused reason print_fault.Failed refuses = refuses
+only_refused reason print_fault.NotCanonical refuses = tt
+
 -- the line is neither a row's nor an end line
 pub at_line_refused : (old now next : Reading) (fed : List Line) (n : ℕ) (e : PrintFault) → Rows old now fed n → GivesLine now next
     → Refuses (BeginsNoPrint (fed ++ next.line ∷ [])) e → ((count : ℕ) (digest : List ℕ) → EndFits count digest → next.line ≢ end_line count digest) → FindsNoArchive old next (fault_of_reader e)

@@ -20,7 +20,7 @@ fault_of_text text.OutOfMemory = fault.OutOfMemory
 fault_of_text text.Failed = fault.Failed
 fault_of_text text.NotCanonical = fault.NotCanonical
 
--- the fault of a print's reader
+-- the fault of a print's reader, which is only one of two: no other is asked for
 abbrev pub fault_of_reader : PrintFault → ArchiveFault
 fault_of_reader print.OutOfMemory = fault.OutOfMemory
 fault_of_reader print.TooLong = fault.OutOfMemory

@@ -44,7 +44,7 @@ pub fn decode<S: Source>(alloc: Global, lines: &mut Lines<S>) -> Result<Print, A
             }
             return match reader.finish() {
                 Ok(print) => Ok(print),
-                Err(fault) => Err(of_reader(fault)),
+                Err(_) => unreachable!(),
             };
         }
         if let Err(fault) = reader.line(alloc, line) {

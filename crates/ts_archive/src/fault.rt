@@ -1,5 +1,6 @@
 ghost use Rattle.std.specs.Prelude.{◌≡◌};
 ghost use Rattle.ts_archive.specs.Faults.{fault_number, fault_of_reader};
+ghost use Rattle.ts_print.specs.Faults.{Refuses};
 
 use std::alloc::{AllocError, AllocFailed};
 use thiserror::Error;
@@ -74,13 +75,14 @@ impl From<TextFault> for ArchiveFault {
     }
 }
 
-/// The fault of a print's reader, which touches no device.
+/// The fault of a print's reader, which is given lines: it touches no device, and a path that is too long is no line of a print.
 pub(crate) fn of_reader(fault: PrintFault) -> ArchiveFault
+    requires { Refuses (Unit {0}) fault }
     ensures { result ≡ fault_of_reader fault }
 {
     match fault {
+        PrintFault::OutOfMemory => ArchiveFault::OutOfMemory,
         PrintFault::NotCanonical => ArchiveFault::NotCanonical,
-        PrintFault::OutOfMemory | PrintFault::TooLong | PrintFault::Failed =>
-            ArchiveFault::OutOfMemory,
+        PrintFault::TooLong | PrintFault::Failed => unreachable!(),
     }
 }

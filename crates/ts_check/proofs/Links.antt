@@ -13,7 +13,7 @@ use Rattle.ts_check.specs.Places.{IsIndex, no_action}
 use Rattle.ts_check.specs.Waiting.{IsLinked, LacksCommit, LacksDir, LacksLink}
 use Rattle.ts_check.specs.Nearest.{IsDirAbove, IsNearestIndex, IsNearestOf}
 use Rattle.ts_check.proofs.Scans.{same_kind}
-use Rattle.ts_check.proofs.Waits.{IsFirst-same}
+use Rattle.ts_need.proofs.Lacking.{IsFirst-same}
 use Rattle.ts_name.proofs.Basics.{element_at}
 
 -- a mark that lacks what stands at its entry among the commits lacks its commit

@@ -16,7 +16,7 @@ use Rattle.ts_model.specs.declared.plan.PlanRule.TheVariants.{Limits, EntriesAsc
 use Rattle.ts_model.specs.declared.row.Stamp.{Stamp}
 use Rattle.ts_need.specs.declared.broken.Broken.{Broken as NeedBroken}
 use Rattle.ts_need.specs.Needs.{IsNeedAnswer}
-use Rattle.ts_check.proofs.Waits.{IsFirst-same}
+use Rattle.ts_need.proofs.Lacking.{IsFirst-same}
 use Rattle.ts_check.specs.Places.{IsFirst, Never, NotOneOf}
 use Rattle.ts_check.specs.Pieces.{on_side, IsPieceIn, IsUnlawful, NotEachOnce, HasNoRoot}
 use Rattle.ts_check.specs.Verdict.{HoldBelow}

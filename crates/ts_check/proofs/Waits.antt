@@ -15,6 +15,7 @@ use Rattle.ts_check.proofs.Scans.{same_kind}
 use Rattle.ts_check.specs.Places.{IsFirst, IsIndex}
 use Rattle.ts_check.specs.Waiting.{AscendFrom, HasBadPreds, IsLateFor, IsLinked, LacksLink, LacksPiece, least}
 use Rattle.ts_laws.proofs.Lists.{decide_ascend}
+use Rattle.ts_need.proofs.Lacking.{IsFirst-same}
 
 -- ---- ascending numbers
 
@@ -49,10 +50,6 @@ never_falls low n (x ∷ xs) h (suc i) (suc j) less within = never_falls (x + 1)
 -- ---- the first of several places
 
 -- where nothing new is wrong, the first wrong place stays
-pub IsFirst-same : (A B : ℕ → Type 0) → ((k : ℕ) → A k → B k) → ((k : ℕ) → B k → A k) → (o : Option ℕ) → IsFirst A o → IsFirst B o
-IsFirst-same A B to from None h = λ k wrong. h k (from k wrong)
-IsFirst-same A B to from (Some i) h = (to i h.0, λ j less wrong. h.1 j less (from j wrong))
-
 -- where one place more is wrong, the lesser is the first
 pub IsFirst-least : (A B : ℕ → Type 0) (k : ℕ) → ((j : ℕ) → A j → B j) → B k → ((j : ℕ) → B j → A j ⊎ (j ≡ k)) → (o : Option ℕ) → IsFirst A o → IsFirst B (least o k)
 IsFirst-least A B k keeps new only None h = (new, λ j less wrong. elim (only j wrong) [ inl old ↦ h j old | inr same ↦ omega arith ])
@@ -130,7 +127,7 @@ unlinked_right plan links i action is none h = none h.0 (same_kind plan i action
 abbrev pub IsLate : Plan → ℕ → ℕ → Type 0
 IsLate plan n place = (i : ℕ) × (i < n) × IsLateFor plan i place
 
-same_piece : (a b c d e f : ℕ) (p q : Path) → Piece a b c p ≡ Piece d e f q → a ≡ d
+pub same_piece : (a b c d e f : ℕ) (p q : Path) → Piece a b c p ≡ Piece d e f q → a ≡ d
 same_piece a b c d e f p q h = cc
 
 -- an action that is no piece makes no commit late

@@ -18,6 +18,7 @@ use Rattle.ts_exec.specs.declared.fault.ActFault.{ActFault}
 use Rattle.ts_name.proofs.Utf8.{all_append}
 use Rattle.ts_exec.proofs.Reading.{may_later, told_later}
 use Rattle.ts_exec.proofs.Steps.{has_cases, has_left}
+use Rattle.ts_name.proofs.Basics.{got_last}
 
 -- ---- places of lists
 
@@ -25,10 +26,6 @@ pub got_left : {A : Type 0} (xs ys : List A) (m : ℕ) (e : A) → slice_get xs 
 got_left [] ys m e h = absurd (cc)
 got_left (x ∷ xs) ys zero e h = h
 got_left (x ∷ xs) ys (suc m) e h = got_left xs ys m e h
-
-pub got_last : {A : Type 0} (xs : List A) (x : A) → slice_get (xs ++ x ∷ []) (length xs) ≡ Some x
-got_last [] x = refl
-got_last (y ∷ ys) x = got_last ys x
 
 pub got_cases : {A : Type 0} (xs : List A) (x : A) (m : ℕ) (e : A) → slice_get (xs ++ x ∷ []) m ≡ Some e → (slice_get xs m ≡ Some e) ⊎ (x ≡ e)
 got_cases [] x zero e h = inr (cc)

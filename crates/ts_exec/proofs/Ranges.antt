@@ -1,7 +1,6 @@
 -- The pieces of a file that a folder tells: where each begins and ends.
 use Rattle.std.proofs.Common.{◌≡◌, ◌⊎◌, ℕ, ◌+◌, ◌-◌, ◌%◌, ◌<◌, ◌≤◌, min, List, [], length, Some, sym, refl, ap, ◌∙◌, subst, inl, inr, arith}
 use Rattle.std.proofs.lemmas.Option.{same_Some}
-use Rattle.std.proofs.Math.Decide.{map_dec}
 use Rattle.ts_name.specs.Paths.{Path, IsAbove, IsBefore}
 use Rattle.ts_model.specs.Trees.{Tree, print_of, stamp_of, stamped}
 use Rattle.ts_model.specs.Sync.{Snapshot, replica}
@@ -15,13 +14,13 @@ use Rattle.ts_model.specs.declared.plan.PlanRule.TheVariants.{PiecesLawful, Piec
 use Rattle.ts_model.specs.declared.row.Content.{Content}
 use Rattle.ts_model.specs.declared.row.Content.TheVariants.{Absent, Dir, File}
 use Rattle.ts_model.specs.declared.row.Stamp.{Stamp}
-use Rattle.ts_laws.proofs.Basics.{stable, same_number, Dec-both}
+use Rattle.ts_laws.proofs.Basics.{stable, Dec-both}
 use Rattle.ts_name.proofs.Prefixes.{decide_above}
 use Rattle.ts_name.proofs.Order.{before_itself}
 use Rattle.ts_name.proofs.Basics.{at_each}
-use Rattle.ts_laws.proofs.Search.{decide_less}
 use Rattle.ts_laws.proofs.Steps.{same_kind, same_entry}
 use Rattle.ts_check.specs.Pieces.{IsEarlierPiece}
+use Rattle.ts_laws.proofs.Rules.{decide_range}
 
 -- ---- files and their stamps
 
@@ -41,12 +40,6 @@ decide_file : (x : Content (List ℕ)) (P : List ℕ → Type 0) → ((bytes : L
 decide_file Absent P d = no (λ h. let f = h.1 in cc)
 decide_file Dir P d = no (λ h. let f = h.1 in cc)
 decide_file (File x) P d = elim (d x) [ yes h ↦ yes (x, refl, h) | no n ↦ no (λ h. n (subst P (same_file h.0 x (sym h.1)) h.2)) ]
-
-decide_range : (size offset len : ℕ) → Dec (IsRange size offset len)
-decide_range size offset len = map_dec
-    (λ h. record { aligned = h.0; within = h.1.0; full = h.1.1 })
-    (λ (h : IsRange size offset len). (h.aligned, (h.within, h.full)))
-    (Dec-both (same_number (offset % piece_size) 0) (Dec-both (decide_less offset size) (same_number len (min piece_size (size - offset)))))
 
 -- ---- numbers
 

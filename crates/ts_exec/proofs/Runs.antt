@@ -38,7 +38,7 @@ fail_is : (i : ℕ) (step : Step) → fails i step ≡ true → step ≡ Fail i
 fail_is i (Fail j) e = ap Fail (sym (eqb-true i j e))
 fail_is i _ e = cc
 
-take_is : (k : ℕ) (step : Step) → takes k step ≡ true → (c : ℕ) × (step ≡ Take c k)
+pub take_is : (k : ℕ) (step : Step) → takes k step ≡ true → (c : ℕ) × (step ≡ Take c k)
 take_is k (Take c j) e = (c, ap (Take c) (sym (eqb-true k j e)))
 take_is k _ e = absurd (true≢false (sym e))
 

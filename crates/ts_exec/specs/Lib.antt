@@ -4,3 +4,4 @@ pub mod Acts
 pub mod Tidy
 pub mod Outcomes
 pub mod Sharing
+pub mod Ends

@@ -15,6 +15,7 @@ use ts_board::calls::{DONE, FAILED};
 use ts_check::Checked;
 use ts_model::plan::{Kind, Plan};
 use ts_print::Print;
+use ts_report::{Ending, Results};
 use ts_site::Site;
 
 /// What came of an action.
@@ -82,6 +83,24 @@ impl<S: Site> Outcome<S> {
         ensures { IfOk result (λ print. LeftArchive checked.now (words_of self.now.closed) print) }
     {
         self.closed.archive(alloc, checked)
+    }
+}
+
+/// The report of a run is written by this.
+impl<S: Site> Results for Outcome<S> {
+    ghost use Rattle.std.specs.Prelude.{length};
+    ghost use Rattle.ts_exec.specs.Ends.{ending_at};
+
+    ghost count = { λ outcome. length outcome.results.items };
+
+    ghost endings = { λ outcome i. ending_at outcome.results.items i };
+
+    fn ending(&self, action: u32) -> Ending {
+        match self.results[action as usize] {
+            ActionResult::Done => Ending::Done,
+            ActionResult::Failed(_) => Ending::Failed,
+            ActionResult::Blocked(_) => Ending::Left,
+        }
     }
 }
 

@@ -108,7 +108,7 @@ decide_some_reason P d = decide_within P d all (λ r h. Contains-from_Among all 
     among reason.Dir = inr (inr (inr (inr (inr (inl refl)))))
 
 -- whether a range is lawful
-decide_range : (size offset len : ℕ) → Dec (IsRange size offset len)
+pub decide_range : (size offset len : ℕ) → Dec (IsRange size offset len)
 decide_range size offset len = map_dec
     (λ h. record { aligned = h.0; within = h.1.0; full = h.1.1 })
     (λ (h : IsRange size offset len). (h.aligned, (h.within, h.full)))

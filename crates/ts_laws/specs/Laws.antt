@@ -7,24 +7,16 @@
 --     CanFinish s plan                 a legal run without a failure goes on until each action is done
 --     FindsPieces, CountsOpen          what the words of a legal run say
 --     EndsAlike s plan                 a stopped run is resumed to the same end
---     AreDecided bytes                 whether the bytes are the text of a value, of each kind
---     HasAnswer b, IsAnswered bytes    `trial` writes something for a bundle, for any bytes
---     OneToOne IsText                  a text is of one value at most, and a value has one text at most
---     IsResultText bytes told          the bytes are what `trial` writes of this result
 use Rattle.std.specs.Prelude.{◌≡◌, ◌≢◌, ◌⊎◌, ◌↔◌, ℕ, Bool, not, List, [], ◌∷◌, ◌++◌, length, take, drop, count_by, Contains}
-use Rattle.std.specs.List.{AllByRecursion, list_any}
+use Rattle.std.specs.List.{list_any}
 use Rattle.ts_name.specs.Paths.{Name, Path}
-use Rattle.ts_model.specs.Trees.{Listing, Tree, listed, sub, print_of, HasContent, AreApart, IsSubListing}
+use Rattle.ts_model.specs.Trees.{Tree, listed, sub, print_of, HasContent, AreApart, IsSubListing}
 use Rattle.ts_model.specs.Sync.{Snapshot, IsSnapshot, AreReplicas, replica, TouchesHeld, IsDirty, HasReason, Synced}
 use Rattle.ts_model.specs.Plans.{EntryIs, ActionIs, KindIs, Copies, NearestDir, Wrong, Broken, Valid}
 use Rattle.ts_model.specs.Runs.{Run, Has, HasNot, claims, finishes, fails, releases, IsPieceOf, open_count, Legal, after, start}
 use Rattle.ts_model.specs.Headline.{AllDone, FinalArchive, Meets, Premises}
 use Rattle.ts_model.specs.Resume.{IsClosedPart, archive_of_part, stopped}
-use Rattle.ts_model.specs.Texts.{text, IsTreeBody, IsPrintBody, PathFits, IsTreeText, IsPrintText, IsArchiveText, IsRulesText, IsPlanText, Bundle, IsBundleText}
-use Rattle.ts_model.specs.Trial.{result_lines, IsRefused, IsResult, Trial}
 use Rattle.ts_model.specs.declared.row.Content.TheVariants.{File}
-use Rattle.ts_model.specs.declared.row.Stamp.{Stamp}
-use Rattle.ts_model.specs.declared.hold.Rule.{Rule}
 use Rattle.ts_model.specs.declared.plan.Side.{Side}
 use Rattle.ts_model.specs.declared.plan.Side.TheVariants as side
 use Rattle.ts_model.specs.declared.plan.Reason.{Reason}
@@ -133,45 +125,6 @@ EndsAlike s plan = (a b c d : Tree) (r : Run) (part : ℕ → Bool) → Premises
     (next : Plan) (more : Run) → Valid t next → Legal t next more → AreApart (Meets w.first w.second more) → AllDone next more
     → let v = after t next (start t w.first w.second) more in
     (v.first ≡ c) × (v.second ≡ d) × FinalArchive s c v.archive
-
--- ---- texts
-
--- a text is of one value at most, and a value has one text at most
-pub record OneToOne {V : Type 0} (IsText : List ℕ → V → Type 0) : Type 0 where
-  pub one_value : (bytes : List ℕ) (x y : V) → IsText bytes x → IsText bytes y → x ≡ y
-  pub one_text : (bytes more : List ℕ) (x : V) → IsText bytes x → IsText more x → bytes ≡ more
-
--- what `trial` tells of a run in which every action was done
-pub record TrialResult : Type 0 where
-  pub first : Listing (List ℕ)
-  pub second : Listing (List ℕ)
-  pub archive : Listing Stamp
-  pub entries : List Entry
-
--- the bytes are its text
-pub record IsResultText (bytes : List ℕ) (told : TrialResult) : Type 0 where
-  pub bodies : IsTreeBody told.first × IsTreeBody told.second × IsPrintBody told.archive
-  pub entries_fit : AllByRecursion (λ e. PathFits e.path) told.entries
-  pub spelled : bytes ≡ text (result_lines told.first told.second told.archive told.entries)
-
--- whether bytes are the text of a value, of each kind
-pub record AreDecided (bytes : List ℕ) : Type 0 where
-  pub tree : Dec ((rows : Listing (List ℕ)) × IsTreeText bytes rows)
-  pub print : Dec ((rows : Listing Stamp) × IsPrintText bytes rows)
-  pub archive : Dec ((rows : Listing Stamp) × IsArchiveText bytes rows)
-  pub rules : Dec ((rules : List Rule) × IsRulesText bytes rules)
-  pub plan : Dec ((plan : Plan) × IsPlanText bytes plan)
-  pub bundle : Dec ((b : Bundle) × IsBundleText bytes b)
-
--- ---- trials
-
--- `trial` writes something for the bundle, with some status
-abbrev pub HasAnswer : Bundle → Type 0
-HasAnswer b = (written : List ℕ) × (status : ℕ) × (IsRefused b written status ⊎ IsResult b written status)
-
--- `trial` writes something for the bytes
-abbrev pub IsAnswered : List ℕ → Type 0
-IsAnswered bytes = (written : List ℕ) × (status : ℕ) × Trial bytes written status
 
 -- ---- the premises can be met
 

@@ -7,7 +7,7 @@ use Rattle.ts_model.specs.Texts.{Line, text}
 use Rattle.ts_model.specs.declared.plan.Plan.{Plan}
 use Rattle.ts_tree.proofs.Writing.{begun_after, sent_more}
 use Rattle.ts_report.specs.Reports.{report_text}
-use Rattle.ts_perform.specs.Ends.{ending_at}
+use Rattle.ts_exec.specs.Ends.{ending_at}
 use Rattle.ts_perform.specs.Faults.{fault_line}
 use Rattle.ts_exec.specs.declared.outcome.ActionResult.{ActionResult}
 use Rattle.ts_model.specs.declared.plan.Action.{Action}
@@ -22,10 +22,9 @@ failures_step entries actions results i action other within within' is =
     rw (add-one, drop-cons actions i action within, drop-cons results i other within')
     (ap (λ (a : Action). failure_line entries a (get_or results i other) ++ failure_lines entries (drop (suc i) actions) (drop (suc i) results)) (sym is))
 
--- what a plan and its results are read as
-pub report_same : (plan plan' : Plan) (results results' : List ActionResult) → plan' ≡ plan → results' ≡ results
-    → report_text (ending_at results') plan' ≡ report_text (ending_at results) plan
-report_same plan plan' results results' same same' = ap₂ (λ (p : Plan) (r : List ActionResult). report_text (ending_at r) p) same same'
+-- what a plan is read as
+pub report_same : (plan plan' : Plan) (results : List ActionResult) → plan' ≡ plan → report_text (ending_at results) plan' ≡ report_text (ending_at results) plan
+report_same plan plan' results same = ap (report_text (ending_at results)) same
 
 pub lines_same : (plan plan' : Plan) (results results' : List ActionResult) → plan' ≡ plan → results' ≡ results
     → failure_lines plan'.entries plan'.actions results' ≡ failure_lines plan.entries plan.actions results

@@ -11,8 +11,6 @@ use Rattle.ts_hold.specs.declared.faults.HoldFault.{HoldFault}
 use Rattle.ts_hold.specs.declared.faults.HoldFault.TheVariants as hold
 use Rattle.ts_plan.specs.declared.fault.PlanFault.{PlanFault}
 use Rattle.ts_plan.specs.declared.fault.PlanFault.TheVariants as plan
-use Rattle.ts_print.specs.declared.fault.PrintFault.{PrintFault}
-use Rattle.ts_print.specs.declared.fault.PrintFault.TheVariants as print
 use Rattle.ts_report.specs.declared.fault.ReportFault.{ReportFault}
 use Rattle.ts_report.specs.declared.fault.ReportFault.TheVariants as report
 use Rattle.ts_plan_build.specs.declared.fault.BuildFault.{BuildFault}
@@ -105,12 +103,6 @@ fault_of_check (check.Broken rule place) = fault.Broken rule place
 abbrev pub fault_of_trial : TrialFault → PerformFault
 fault_of_trial trial.OutOfMemory = fault.OutOfMemory
 fault_of_trial trial.Failed = fault.Failed
-
-abbrev pub fault_of_print : PrintFault → PerformFault
-fault_of_print print.OutOfMemory = fault.OutOfMemory
-fault_of_print print.TooLong = fault.OutOfMemory
-fault_of_print print.Failed = fault.Failed
-fault_of_print print.NotCanonical = fault.NotCanonical
 
 abbrev pub fault_of_disk : DiskFault → PerformFault
 fault_of_disk disk.OutOfMemory = fault.OutOfMemory

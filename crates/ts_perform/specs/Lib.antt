@@ -1,4 +1,3 @@
-pub mod Ends
 pub mod Faults
 pub mod Jobs
 pub mod Lengths

@@ -41,7 +41,7 @@ use Rattle.ts_model.specs.declared.row.Stamp.{Stamp}
 use Rattle.ts_report.specs.Reports.{entry_of, fates, report_text, status_of, totals_of}
 use Rattle.ts_text.specs.Sources.{AppendsFront}
 use Rattle.ts_trial.specs.Answers.{refusal}
-use Rattle.ts_perform.specs.Ends.{ending_at}
+use Rattle.ts_exec.specs.Ends.{ending_at}
 use Rattle.ts_perform.specs.Faults.{fault_line, fault_number, kept_line, mount_line, own_path, place_of}
 use Rattle.ts_perform.specs.Snapshots.{IsBegun, IsPlanned}
 use Rattle.ts_perform.specs.Stands.{AreScans, IsRunOf, Stand}

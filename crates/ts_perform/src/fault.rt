@@ -1,7 +1,7 @@
 //! Why a command ends without its answer.
 ghost use Rattle.std.specs.Option.{option_copied};
 ghost use Rattle.std.specs.Prelude.{◌≡◌};
-ghost use Rattle.ts_perform.specs.Faults.{fault_number, fault_of_archive, fault_of_check, fault_of_disk, fault_of_hold, fault_of_plan, fault_of_print};
+ghost use Rattle.ts_perform.specs.Faults.{fault_number, fault_of_archive, fault_of_check, fault_of_disk, fault_of_hold, fault_of_plan};
 ghost use Rattle.ts_perform.specs.Faults.{fault_of_report, fault_of_build, fault_of_text, fault_of_trial, place_of};
 ghost use Rattle.ts_perform.specs.declared.fault.PerformFault.TheVariants as fault;
 
@@ -16,7 +16,6 @@ use ts_model::plan::PlanRule;
 use ts_name::Path;
 use ts_plan::PlanFault;
 use ts_plan_build::BuildFault;
-use ts_print::PrintFault;
 use ts_report::ReportFault;
 use ts_scan::ScanFault;
 use ts_text::TextFault;
@@ -192,19 +191,6 @@ impl From<TrialFault> for PerformFault {
         match fault {
             TrialFault::OutOfMemory => PerformFault::OutOfMemory,
             TrialFault::Failed => PerformFault::Failed,
-        }
-    }
-}
-
-/// A writer's fault, or memory ran out.
-impl From<PrintFault> for PerformFault {
-    ghost from_gives = { λ p e. e ≡ fault_of_print p };
-
-    fn from(fault: PrintFault) -> PerformFault {
-        match fault {
-            PrintFault::OutOfMemory | PrintFault::TooLong => PerformFault::OutOfMemory,
-            PrintFault::Failed => PerformFault::Failed,
-            PrintFault::NotCanonical => PerformFault::NotCanonical,
         }
     }
 }

@@ -17,6 +17,7 @@ use std::alloc::Global;
 use std::fs::Files;
 use std::thread::Threads;
 use ts_command::{Command, Job};
+use ts_print::PrintFault;
 use ts_text::{Lines, Sink, Source, write_all};
 use ts_trial::trial;
 
@@ -146,8 +147,12 @@ fn show<R: Files + AllocGlobal, O: Sink>(
     let Some(archive) = read_archive(rt, name)? else {
         return Err(PerformFault::NotThere);
     };
-    ts_print::encode(rt.alloc(), &archive, out)?;
-    Ok(0)
+    match ts_print::encode(rt.alloc(), &archive, out) {
+        Ok(()) => Ok(0),
+        Err(PrintFault::OutOfMemory) => Err(PerformFault::OutOfMemory),
+        Err(PrintFault::Failed) => Err(PerformFault::Failed),
+        Err(PrintFault::TooLong | PrintFault::NotCanonical) => unreachable!(),
+    }
 }
 
 /// Prints a plan for the pair.

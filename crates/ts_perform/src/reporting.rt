@@ -2,7 +2,7 @@
 ghost use Rattle.std.specs.Option.{option_copied};
 ghost use Rattle.std.specs.Prelude.{◌≡◌, ◌∷◌, ◌++◌, [], length, IfOk};
 ghost use Rattle.ts_model.specs.Texts.{text};
-ghost use Rattle.ts_perform.specs.Ends.{ending_at};
+ghost use Rattle.ts_exec.specs.Ends.{ending_at};
 ghost use Rattle.ts_perform.specs.Runs.{failure_line, failure_lines, notice_line, notice_lines, lost_by, lost_lines, path_for, status_with};
 ghost use Rattle.ts_report.specs.Reports.{fates, report_text, status_of, totals_of};
 ghost use Rattle.ts_text.specs.Sources.{Writes};
@@ -15,7 +15,6 @@ use ts_disk::Notice;
 use ts_exec::{ActionResult, Outcome};
 use ts_model::plan::{Action, Kind, Plan};
 use ts_name::Path;
-use ts_report::{Ending, Results};
 use ts_site::Site;
 use ts_text::Sink;
 
@@ -40,7 +39,7 @@ pub(crate) fn report_outcome<S: Site, O: Sink, E: Sink>(
     let plan = checked.plan();
     let _count = checked.action_count();
     let results = outcome.results();
-    let totals = ts_report::write(alloc, plan, &Report { results }, out)?;
+    let totals = ts_report::write(alloc, plan, outcome, out)?;
     report_failures(alloc, plan, results, err)?;
     match kept {
         Ok(()) => Ok(totals.status()),
@@ -142,28 +141,5 @@ fn path_of<'a>(plan: &'a Plan, kind: &Kind) -> Option<&'a Path>
     match plan.entries.as_slice().get(*entry as usize) {
         Some(entry) => Some(&entry.path),
         None => None,
-    }
-}
-
-/// How the actions of a run ended, for the report.
-#[derive(Drop)]
-struct Report<'a> {
-    results: &'a [ActionResult],
-}
-
-impl Results for Report<'_> {
-    ghost use Rattle.std.specs.Prelude.{length};
-    ghost use Rattle.ts_perform.specs.Ends.{ending_at};
-
-    ghost count = { λ r. length r.results.now };
-
-    ghost endings = { λ r i. ending_at r.results.now i };
-
-    fn ending(&self, action: u32) -> Ending {
-        match self.results[action as usize] {
-            ActionResult::Done => Ending::Done,
-            ActionResult::Failed(_) => Ending::Failed,
-            ActionResult::Blocked(_) => Ending::Left,
-        }
     }
 }

@@ -33,7 +33,7 @@ use Rattle.ts_exec.specs.Failures.{of_side, setting_with}
 use Rattle.ts_exec.specs.Outcomes.{IsOutcome}
 use Rattle.ts_exec.specs.declared.outcome.ActionResult.{ActionResult}
 use Rattle.ts_exec.specs.declared.outcome.ActionResult.TheVariants.{Done}
-use Rattle.ts_exec.proofs.Runs.{is_run}
+use Rattle.ts_exec.proofs.Runs.{is_run, take_is}
 use Rattle.ts_exec.proofs.Steps.{not_some}
 use Rattle.ts_through.specs.Parts.{AreHeld, AreLaid, AreTaken, KeepsOthers}
 
@@ -76,10 +76,6 @@ committed opening all (Bytes bytes) made work told = cc
 act_is : (i : ℕ) (step : Step) → acts i step ≡ true → (w : Work) × (step ≡ Act i w)
 act_is i (Act j w) e = (w, ap (λ j. Act j w) (sym (eqb-true i j e)))
 act_is i _ e = absurd (true≢false (sym e))
-
-take_is : (k : ℕ) (step : Step) → takes k step ≡ true → (c : ℕ) × (step ≡ Take c k)
-take_is k (Take c j) e = (c, ap (Take c) (sym (eqb-true k j e)))
-take_is k _ e = absurd (true≢false (sym e))
 
 -- what acted did what fits it, and what was taken are pieces
 record IsWorked (s : Snapshot) (plan : Plan) (r : Run) : Type 0 where

@@ -23,10 +23,10 @@ use Rattle.ts_model.specs.declared.row.Stamp.{Stamp}
 use Rattle.ts_laws.specs.Carried.{copied, marked_all, IsCarriedOut}
 use Rattle.ts_laws.proofs.Carried.{carried_out}
 use Rattle.ts_laws.proofs.Listings.{IsTree-from_listing, one_listing}
-use Rattle.ts_laws.proofs.ReadTexts.{some_trial}
+use Rattle.ts_text_laws.proofs.ReadTexts.{some_trial}
 use Rattle.ts_laws.proofs.Results.{Start-from_bundle}
 use Rattle.ts_laws.proofs.Rows.{IsListingOf, listing_of}
-use Rattle.ts_laws.proofs.Trials.{some_answer, archive_fits, listed_fits}
+use Rattle.ts_text_laws.proofs.Trials.{some_answer, archive_fits, listed_fits}
 use Rattle.ts_bundle.specs.Bundles.{values}
 use Rattle.ts_bundle.specs.Decoding.{FindsNoBundle, IsSpelled}
 use Rattle.ts_text.specs.Lines.{Reading}

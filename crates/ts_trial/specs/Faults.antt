@@ -4,8 +4,6 @@
 --     HasCause old new before after r             a fault of the reader or the writer, by both counts
 use Rattle.std.specs.Prelude.{◌≡◌, ◌≢◌, ◌⊎◌, ℕ, Result, Ok, Err}
 use Rattle.ts_text.specs.Lines.{Reading}
-use Rattle.ts_text.specs.declared.fault.TextFault.{TextFault}
-use Rattle.ts_text.specs.declared.fault.TextFault.TheVariants as text
 use Rattle.ts_tree.specs.Decoding.{SourceFailed}
 use Rattle.ts_bundle.specs.declared.fault.BundleFault.{BundleFault}
 use Rattle.ts_bundle.specs.declared.fault.BundleFault.TheVariants as bundle
@@ -15,11 +13,6 @@ use Rattle.ts_trial.specs.declared.fault.TrialFault.TheVariants.{OutOfMemory, Fa
 abbrev pub fault_number : TrialFault → ℕ
 fault_number OutOfMemory = 1
 fault_number Failed = 5
-
-abbrev pub fault_of_text : TextFault → TrialFault
-fault_of_text text.OutOfMemory = OutOfMemory
-fault_of_text text.Failed = Failed
-fault_of_text text.NotCanonical = Failed
 
 abbrev pub fault_of_bundle : BundleFault → TrialFault
 fault_of_bundle bundle.OutOfMemory = OutOfMemory

@@ -4,7 +4,6 @@ ghost use Rattle.ts_trial.specs.Faults.{fault_number};
 use std::alloc::{AllocError, AllocFailed};
 use thiserror::Error;
 use ts_bundle::BundleFault;
-use ts_text::TextFault;
 
 /// Why `trial` ended without an answer.
 #[derive(Clone, Copy, Debug, PartialEq, Eq, Error)]
@@ -48,20 +47,6 @@ impl<T: Drop> From<AllocFailed<T>> for TrialFault {
 
     fn from(_fault: AllocFailed<T>) -> TrialFault {
         TrialFault::OutOfMemory
-    }
-}
-
-impl From<TextFault> for TrialFault {
-    ghost use Rattle.std.specs.Prelude.{◌≡◌};
-    ghost use Rattle.ts_trial.specs.Faults.{fault_of_text};
-
-    ghost from_gives = { λ t e. e ≡ fault_of_text t };
-
-    fn from(fault: TextFault) -> TrialFault {
-        match fault {
-            TextFault::OutOfMemory => TrialFault::OutOfMemory,
-            TextFault::Failed | TextFault::NotCanonical => TrialFault::Failed,
-        }
     }
 }
 

@@ -16,7 +16,7 @@ use ts_bundle::{Bundle, BundleFault, count_skipped, decode, write_result};
 use ts_check::{CheckFault, Checked, check};
 use ts_model::plan::{Entry, PlanRule};
 use ts_print::Print;
-use ts_text::{Lines, Sink, Source, push_decimal, write_line};
+use ts_text::{Lines, Sink, Source, TextFault, push_decimal, write_line};
 use ts_through::carry_through;
 
 /// The exit status of a refusal.
@@ -150,6 +150,9 @@ fn refuse<W: Sink>(line: &[u8], writer: &mut W) -> Result<u8, TrialFault>
     ensures status { IfOk result (λ status. status ≡ 3) }
     ensures failures { FailuresFit (W.failures writer.old) (W.failures writer.new) result }
 {
-    write_line(writer, line)?;
-    Ok(REFUSED)
+    match write_line(writer, line) {
+        Ok(()) => Ok(REFUSED),
+        Err(TextFault::Failed) => Err(TrialFault::Failed),
+        Err(TextFault::OutOfMemory | TextFault::NotCanonical) => unreachable!(),
+    }
 }

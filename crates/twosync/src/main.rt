@@ -11,9 +11,8 @@ use std::env;
 use std::io::{self, BufWriter, ErrorKind, Input, Write};
 use std::process::ExitCode;
 use std::rt::Env;
-use ts_command::{Command, CommandFault, Job, command};
-use ts_perform::{FAILED, Machine, REFUSED, perform};
 use ts_text::{Counted, Sink, write_all};
+use twosync_library::{Command, CommandFault, FAILED, Job, Machine, REFUSED, command, perform};
 
 /// What is said of words that aren't UTF-8.
 const NOT_TEXT: &[u8] = b"error: a word of the command isn't UTF-8\n";

@@ -8,7 +8,7 @@ use Rattle.ts_print.specs.Readers.{BeginsNoPrint}
 use Rattle.ts_tree.proofs.Taken.{Taken, taken_more, taken_none}
 use Rattle.ts_archive.specs.Endings.{header}
 use Rattle.ts_archive.proofs.Archives.{counted_more, hashed_more, right_end}
-use Rattle.ts_archive.proofs.NoArchive.{at_end, at_header_fault, at_header_other, at_line_fault, at_line_refused, at_more, at_more_fault, ends_wrong}
+use Rattle.ts_archive.proofs.NoArchive.{at_end, at_header_fault, at_header_other, at_line_fault, at_line_refused, at_more, at_more_fault, ends_wrong, only_refused}
 use Rattle.ts_archive.proofs.decoding.decode.Goals as goal
 
 -- The header's reading failed.
@@ -63,12 +63,15 @@ returns-then-branch-clause-refused g c =
     (record { taken = c.loop-count.invariant.taken; rows = c.reader.inside.print; print = c.reader.invariant; lines = c.reader.view_is; number = c.loop-count.invariant.counted; small = omega arith })
     gives (sym c.line-line.ensures ∙ told.1) more
 
+pub of_reader-requires : goal.of_reader-requires
+of_reader-requires g c = only_refused (BeginsNoPrint (c.loop-count.reader ++ c.line-line.result.now ∷ [])) c.in-Err-line.fault c.in-Err-line.ensures.refused
+
 -- The line is neither a row's nor an end line.
 pub returns-in-Err-line-clause-refused : goal.returns-in-Err-line-clause-refused
 returns-in-Err-line-clause-refused g c =
     let gives = rw c.if-not-branch-2.false at c.in_ok-advance-2.ensures.answers in
     let refused = c.in-Err-line.ensures.refused in
-    rw c.of_reader-in-Err-line.ensures
+    rw c.of_reader.ensures
     (at_line_refused c.args.lines.now c.loop-count.lines c.advance-in-loop-count.new.self c.loop-count.reader c.loop-count.count c.in-Err-line.fault
     (record { taken = c.loop-count.invariant.taken; rows = c.reader.inside.print; print = c.reader.invariant; lines = c.reader.view_is; number = c.loop-count.invariant.counted; small = omega arith })
     gives (subst (λ z. Refuses (BeginsNoPrint (c.loop-count.reader ++ z ∷ [])) c.in-Err-line.fault) c.line-line.ensures refused)
@@ -120,8 +123,8 @@ returns-then-not-is_same-clause-refused g c =
     gives c.line-line.ensures ends told.1 told.0 (inr (λ e. false≢true (sym c.if-not-is_same.true ∙ c.is_same.ensures.1 (e ∙ sym sum))))
 
 -- Both are right.
-pub returns-in-Ok-clause-found : goal.returns-in-Ok-clause-found
-returns-in-Ok-clause-found g c =
+pub returns-in-Some-clause-found : goal.returns-in-Some-clause-found
+returns-in-Some-clause-found g c =
     let fed = c.loop-count.reader in
     let line = c.line-line.result.now in
     let told = c.in-Some.ensures.found in

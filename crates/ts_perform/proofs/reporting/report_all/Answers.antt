@@ -1,7 +1,7 @@
 use Rattle.std.proofs.Common.{◌++◌}
 use Rattle.std.proofs.lemmas.Result.{err_from_is_err_and}
 use Rattle.ts_tree.proofs.Writing.{begun_after, begun_first, sent_more}
-use Rattle.ts_perform.specs.Ends.{ending_at}
+use Rattle.ts_exec.specs.Ends.{ending_at}
 use Rattle.ts_perform.specs.Runs.{failure_lines, notice_lines, lost_by, lost_lines}
 use Rattle.ts_perform.proofs.Failures.{whole_begun}
 use Rattle.ts_report.specs.Reports.{report_text}

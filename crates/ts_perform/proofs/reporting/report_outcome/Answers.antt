@@ -2,11 +2,10 @@ use Rattle.std.proofs.Common.{List, ◌++◌, ap, ◌∙◌, subst}
 use Rattle.std.proofs.lemmas.Result.{err_from_is_err_and}
 use Rattle.std.specs.Io.KnownBytes.{Appends}
 use Rattle.ts_text.specs.Sources.{AppendsFront}
-use Rattle.ts_exec.specs.declared.outcome.ActionResult.{ActionResult}
 use Rattle.ts_model.specs.Texts.{Line, text}
 use Rattle.ts_model.specs.declared.plan.Plan.{Plan}
 use Rattle.ts_tree.proofs.Writing.{begun_first, nothing_sent}
-use Rattle.ts_perform.specs.Ends.{ending_at}
+use Rattle.ts_exec.specs.Ends.{ending_at}
 use Rattle.ts_perform.specs.Faults.{fault_number}
 use Rattle.ts_perform.specs.Runs.{failure_lines, lost_by, lost_lines}
 use Rattle.ts_perform.proofs.Failures.{lines_same, lost_begun, lost_told, none_lost, report_same, whole_begun}
@@ -16,7 +15,7 @@ use Rattle.ts_perform.proofs.reporting.report_outcome.Goals as goal
 pub returns-in-Ok-clause-report : goal.returns-in-Ok-clause-report
 returns-in-Ok-clause-report g c =
     subst (λ z. Appends (g.O.Sink.holds c.args.out.now) (g.O.Sink.holds c.write.new.sink) z)
-    (report_same c.args.checked.now.plan c.plan-plan.result.now c.args.outcome.now.results.items c.results-results.result.now c.plan-plan.ensures.plan c.results-results.ensures) c.in_ok-totals.ensures.written
+    (report_same c.args.checked.now.plan c.plan-plan.result.now c.args.outcome.now.results.items c.plan-plan.ensures.plan) c.in_ok-totals.ensures.written
 
 pub returns-in-Ok-clause-faults : goal.returns-in-Ok-clause-faults
 returns-in-Ok-clause-faults g c =
@@ -28,15 +27,14 @@ returns-in-Ok-clause-faults g c =
 
 pub returns-in-Ok-clause-status : goal.returns-in-Ok-clause-status
 returns-in-Ok-clause-status g c =
-    let totals = c.in_ok-totals.ensures.totals ∙ ap (λ (p : Plan). totals_of (fates (ending_at c.results-results.result.now) p)) c.plan-plan.ensures.plan
-    ∙ ap (λ (r : List ActionResult). totals_of (fates (ending_at r) c.args.checked.now.plan)) c.results-results.ensures in
+    let totals = c.in_ok-totals.ensures.totals ∙ ap (λ (p : Plan). totals_of (fates (ending_at c.args.outcome.now.results.items) p)) c.plan-plan.ensures.plan in
     rw c.in-Ok.is (c.status.ensures ∙ ap status_of totals)
 
 pub returns-in_err-totals-clause-report : goal.returns-in_err-totals-clause-report
 returns-in_err-totals-clause-report g c =
     let p = err_from_is_err_and c.from_residual.result c.from_residual.ensures.1 in
     rw p.1 (subst (λ z. AppendsFront (g.O.Sink.holds c.args.out.now) (g.O.Sink.holds c.write.new.sink) z)
-    (report_same c.args.checked.now.plan c.plan-plan.result.now c.args.outcome.now.results.items c.results-results.result.now c.plan-plan.ensures.plan c.results-results.ensures) c.in_err-totals.ensures.written)
+    (report_same c.args.checked.now.plan c.plan-plan.result.now c.args.outcome.now.results.items c.plan-plan.ensures.plan) c.in_err-totals.ensures.written)
 
 pub returns-in_err-totals-clause-faults : goal.returns-in_err-totals-clause-faults
 returns-in_err-totals-clause-faults g c =
@@ -49,7 +47,7 @@ returns-in_err-report_failures-clause-report g c =
     let p = err_from_is_err_and c.from_residual-in_err-report_failures.result c.from_residual-in_err-report_failures.ensures.1 in
     let plan = c.args.checked.now.plan in let results = c.args.outcome.now.results.items in
     let written = subst (λ z. Appends (g.O.Sink.holds c.args.out.now) (g.O.Sink.holds c.write.new.sink) z)
-    (report_same plan c.plan-plan.result.now results c.results-results.result.now c.plan-plan.ensures.plan c.results-results.ensures) c.in_ok-totals.ensures.written in
+    (report_same plan c.plan-plan.result.now results c.plan-plan.ensures.plan) c.in_ok-totals.ensures.written in
     rw p.1 (whole_begun (g.O.Sink.holds c.args.out.now) (g.O.Sink.holds c.write.new.sink) (report_text (ending_at results) plan) written)
 
 pub returns-in_err-report_failures-clause-faults : goal.returns-in_err-report_failures-clause-faults
@@ -66,7 +64,7 @@ returns-in_err-write_fault-in-Err-clause-report g c =
     let p = err_from_is_err_and c.from_residual-in_err-write_fault-in-Err.result c.from_residual-in_err-write_fault-in-Err.ensures.1 in
     let plan = c.args.checked.now.plan in let results = c.args.outcome.now.results.items in
     let written = subst (λ z. Appends (g.O.Sink.holds c.args.out.now) (g.O.Sink.holds c.write.new.sink) z)
-    (report_same plan c.plan-plan.result.now results c.results-results.result.now c.plan-plan.ensures.plan c.results-results.ensures) c.in_ok-totals.ensures.written in
+    (report_same plan c.plan-plan.result.now results c.plan-plan.ensures.plan) c.in_ok-totals.ensures.written in
     rw p.1 (whole_begun (g.O.Sink.holds c.args.out.now) (g.O.Sink.holds c.write.new.sink) (report_text (ending_at results) plan) written)
 
 pub returns-in_err-write_fault-in-Err-clause-faults : goal.returns-in_err-write_fault-in-Err-clause-faults
@@ -81,7 +79,7 @@ returns-in_err-write_fault-in-Err-clause-faults g c =
 pub returns-in_ok-write_fault-in-Err-clause-report : goal.returns-in_ok-write_fault-in-Err-clause-report
 returns-in_ok-write_fault-in-Err-clause-report g c =
     subst (λ z. Appends (g.O.Sink.holds c.args.out.now) (g.O.Sink.holds c.write.new.sink) z)
-    (report_same c.args.checked.now.plan c.plan-plan.result.now c.args.outcome.now.results.items c.results-results.result.now c.plan-plan.ensures.plan c.results-results.ensures) c.in_ok-totals.ensures.written
+    (report_same c.args.checked.now.plan c.plan-plan.result.now c.args.outcome.now.results.items c.plan-plan.ensures.plan) c.in_ok-totals.ensures.written
 
 pub returns-in_ok-write_fault-in-Err-clause-faults : goal.returns-in_ok-write_fault-in-Err-clause-faults
 returns-in_ok-write_fault-in-Err-clause-faults g c =

@@ -1,0 +1,107 @@
+//! The plans, and the prints that they are made for.
+ghost use Rattle.std.specs.Prelude.{◌≡◌, IfOk};
+ghost use Rattle.cases.specs.Worked.{IsWorked, removal, worked};
+ghost use Rattle.ts_model.specs.declared.plan.Kind.TheVariants as kind;
+
+use anyhow::Result;
+use std::alloc::{AllocError, Global};
+use ts_model::items::Items;
+use ts_model::plan::{Action, Entry, Kind, Plan, Reason};
+use ts_name::Path;
+use ts_print::{Print, PrintReader};
+
+/// The print that these lines spell.
+pub fn print_of(alloc: Global, lines: &str) -> Result<Print> {
+    let mut reader = PrintReader::new(alloc);
+    for line in lines.lines() {
+        reader.line(alloc, line.as_bytes())?;
+    }
+    Ok(reader.finish()?)
+}
+
+fn path(alloc: Global, text: &str) -> Result<Path> {
+    Ok(Path::parse_text(alloc, text.as_bytes())?)
+}
+
+fn entry(alloc: Global, text: &str, reason: Reason) -> Result<Entry> {
+    let path = path(alloc, text)?;
+    Ok(Entry { path, reason })
+}
+
+/// The piece of a file of one byte.
+fn piece(entry: u32, path: Path) -> Kind
+    ensures { result ≡ kind.Piece entry 0 1 path }
+{
+    Kind::Piece {
+        entry,
+        offset: 0,
+        length: 1,
+        path,
+    }
+}
+
+/// The actions that copy one new file of one byte: a piece, a commit and a mark.
+#[tactic(auto, unfolding(crate::board::specs::Worked::worked))]
+fn worked_actions(alloc: Global, path: Path) -> Result<Vec<Action>, AllocError>
+    ensures { IfOk result (λ actions. actions.items ≡ worked path) }
+{
+    let kind = piece(0, path);
+    let commit_waits = vec![in alloc; 0]?;
+    let mark_waits = vec![in alloc; 1]?;
+    Ok(vec![in alloc;
+        Action {
+            kind,
+            preds: Items::new(Vec::new(alloc))
+        },
+        Action {
+            kind: Kind::Commit { entry: 0 },
+            preds: Items::new(commit_waits)
+        },
+        Action {
+            kind: Kind::Mark { entry: 0 },
+            preds: Items::new(mark_waits)
+        },
+    ]?)
+}
+
+/// The plan that copies one new file of one byte from the first replica.
+pub fn worked_plan(alloc: Global) -> Result<Plan>
+    ensures { IfOk result (λ plan. IsWorked plan.actions) }
+{
+    let entries = vec![in alloc; entry(alloc, "/a", Reason::First)?]?;
+    let actions = worked_actions(alloc, path(alloc, "/a")?)?;
+    Ok(Plan {
+        entries: Items::new(entries),
+        actions: Items::new(actions),
+    })
+}
+
+/// The actions that delete a file: a commit and a mark.
+#[tactic(auto, unfolding(crate::board::specs::Worked::removal))]
+fn removal_actions(alloc: Global) -> Result<Vec<Action>, AllocError>
+    ensures { IfOk result (λ actions. actions.items ≡ removal) }
+{
+    let mark_waits = vec![in alloc; 0]?;
+    Ok(vec![in alloc;
+        Action {
+            kind: Kind::Commit { entry: 0 },
+            preds: Items::new(Vec::new(alloc))
+        },
+        Action {
+            kind: Kind::Mark { entry: 0 },
+            preds: Items::new(mark_waits)
+        },
+    ]?)
+}
+
+/// The plan that deletes a file, as in the first replica.
+pub fn removal_plan(alloc: Global) -> Result<Plan>
+    ensures { IfOk result (λ plan. plan.actions ≡ removal) }
+{
+    let entries = vec![in alloc; entry(alloc, "/a", Reason::First)?]?;
+    let actions = removal_actions(alloc)?;
+    Ok(Plan {
+        entries: Items::new(entries),
+        actions: Items::new(actions),
+    })
+}

@@ -1,0 +1,13 @@
+pub mod Trials
+pub mod Words
+pub mod ReadWords
+pub mod TreeTexts
+pub mod ReadTrees
+pub mod RuleTexts
+pub mod ReadRules
+pub mod PlanTexts
+pub mod ReadPlans
+pub mod Bundles
+pub mod ResultTexts
+pub mod Texts
+pub mod ReadTexts
