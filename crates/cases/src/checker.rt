@@ -9,15 +9,15 @@ mod draft;
 mod world;
 mod written;
 
-use anyhow::{Result, bail, ensure};
 use crate::checker::cases::{Dice, break_one, crowd, plan_of};
 use crate::checker::draft::{Draft, RULES};
+use crate::checker::world::World;
+use crate::checker::written::{Prints, holds_of, prints_of, written};
+use anyhow::{Result, bail, ensure};
 use std::alloc::Global;
 use ts_check::{CheckFault, check};
 use ts_hold::Holds;
 use ts_model::plan::{Plan, PlanRule};
-use crate::checker::world::World;
-use crate::checker::written::{Prints, holds_of, prints_of, written};
 
 const CASES: u32 = 2_000;
 

@@ -11,10 +11,11 @@ mod gate;
 mod named;
 mod world;
 
-use anyhow::{Context, Result, bail, ensure};
 use crate::executor::expected::{done_marks, expected};
 use crate::executor::gate::Meeting;
 use crate::executor::named::{CASES, Case, came_of};
+use crate::executor::world::{Files, World};
+use anyhow::{Context, Result, bail, ensure};
 use rand_core::utils::NextWord;
 use rand_pcg::Pcg32;
 use std::alloc::Global;
@@ -25,7 +26,6 @@ use ts_folder::{Failing, FaultyFolder, MemFolder, Trouble};
 use ts_model::plan::Kind;
 use ts_site::FaultySite;
 use ts_tree::{SubTree, Tree};
-use crate::executor::world::{Files, World};
 
 const RUNS: u32 = 200;
 

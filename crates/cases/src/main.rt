@@ -8,14 +8,20 @@ mod executor;
 mod planner;
 
 use anyhow::Result;
+use std::thread::Threads;
+
+/// Tries all cases, and says what came of them.
+fn try_all<R: Threads + Print + AllocGlobal + Sync>(rt: &R) -> Result<()> {
+    println!(rt; "== the checker")?;
+    checker::try_cases(rt)?;
+    println!(rt; "== the planner")?;
+    planner::try_cases(rt)?;
+    println!(rt; "== the executor")?;
+    executor::try_cases(rt)?;
+    println!(rt; "== the board")?;
+    board::try_cases(rt)
+}
 
 fn main(rt: HostRuntime) -> Result<()> {
-    println!(rt; "== the checker")?;
-    checker::try_cases(&rt)?;
-    println!(rt; "== the planner")?;
-    planner::try_cases(&rt)?;
-    println!(rt; "== the executor")?;
-    executor::try_cases(&rt)?;
-    println!(rt; "== the board")?;
-    board::try_cases(&rt)
+    try_all(&rt)
 }

@@ -5,10 +5,10 @@
 mod cases;
 mod reasons;
 
-use anyhow::{Result, bail, ensure};
 use crate::planner::cases::{Case, places};
-use rand_pcg::Pcg32;
 use crate::planner::reasons::{is_same, searched};
+use anyhow::{Result, bail, ensure};
+use rand_pcg::Pcg32;
 use std::alloc::Global;
 use ts_check::check;
 use ts_dirty::detect;

@@ -3,3 +3,4 @@ pub mod Refusals
 pub mod Growth
 pub mod Lines
 pub mod NoBundle
+mod Fates

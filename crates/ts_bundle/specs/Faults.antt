@@ -10,6 +10,8 @@ use Rattle.ts_hold.specs.declared.faults.HoldFault.{HoldFault}
 use Rattle.ts_hold.specs.declared.faults.HoldFault.TheVariants as hold
 use Rattle.ts_plan.specs.declared.fault.PlanFault.{PlanFault}
 use Rattle.ts_plan.specs.declared.fault.PlanFault.TheVariants as plan
+use Rattle.ts_report.specs.declared.fault.ReportFault.{ReportFault}
+use Rattle.ts_report.specs.declared.fault.ReportFault.TheVariants as report
 use Rattle.ts_bundle.specs.declared.fault.BundleFault.{BundleFault}
 use Rattle.ts_bundle.specs.declared.fault.BundleFault.TheVariants.{OutOfMemory, Failed, Malformed}
 
@@ -46,6 +48,10 @@ fault_of_plan plan.OutOfMemory = OutOfMemory
 fault_of_plan plan.Failed = Failed
 fault_of_plan plan.NotCanonical = Malformed
 fault_of_plan plan.PastLimit = Malformed
+
+abbrev pub fault_of_report : ReportFault → BundleFault
+fault_of_report report.OutOfMemory = OutOfMemory
+fault_of_report report.Failed = Failed
 
 -- a line or a text is refused for this reason, unless memory ran out
 abbrev pub Refuses : Type 0 → BundleFault → Type 0

@@ -6,6 +6,7 @@ use thiserror::Error;
 use ts_hold::HoldFault;
 use ts_plan::PlanFault;
 use ts_print::PrintFault;
+use ts_report::ReportFault;
 use ts_text::TextFault;
 use ts_tree::TreeFault;
 
@@ -128,6 +129,20 @@ impl From<PlanFault> for BundleFault {
             PlanFault::OutOfMemory => BundleFault::OutOfMemory,
             PlanFault::Failed => BundleFault::Failed,
             PlanFault::NotCanonical | PlanFault::PastLimit => BundleFault::Malformed,
+        }
+    }
+}
+
+impl From<ReportFault> for BundleFault {
+    ghost use Rattle.std.specs.Prelude.{◌≡◌};
+    ghost use Rattle.ts_bundle.specs.Faults.{fault_of_report};
+
+    ghost from_gives = { λ t e. e ≡ fault_of_report t };
+
+    fn from(e: ReportFault) -> BundleFault {
+        match e {
+            ReportFault::OutOfMemory => BundleFault::OutOfMemory,
+            ReportFault::Failed => BundleFault::Failed,
         }
     }
 }

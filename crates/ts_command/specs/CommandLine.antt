@@ -35,6 +35,39 @@ pair_rules = place_rule (codes "FIRST") ∷ place_rule (codes "SECOND") ∷ plac
 abbrev pub planned_pair_rules : List Rule
 planned_pair_rules = place_rule (codes "FIRST") ∷ place_rule (codes "SECOND") ∷ place_rule (codes "ARCHIVE") ∷ holds_rule ∷ workers_rule ∷ place_rule (codes "PLAN") ∷ []
 
+-- the subcommands that work on no pair
+abbrev pub trial_shape : Shape
+trial_shape = taking (codes "trial") (workers_rule ∷ [])
+
+abbrev pub scan_shape : Shape
+scan_shape = taking (codes "scan") (place_rule (codes "DIR") ∷ workers_rule ∷ [])
+
+abbrev pub show_shape : Shape
+show_shape = taking (codes "show") (place_rule (codes "ARCHIVE") ∷ [])
+
+-- the command line before its subcommands, with those that work on no pair, and with those that make or check a plan, too
+abbrev pub line_head : App
+line_head = record {
+  top = record (new_shape (codes "twosync")) {
+    has_version = true;
+    subcommand_required = true;
+    disable_help_subcommand = true;
+  };
+  subs = [];
+}
+
+abbrev pub single_line : App
+single_line = record {
+  top = record line_head.top { is_leaf = false };
+  subs = trial_shape ∷ scan_shape ∷ show_shape ∷ [];
+}
+
+abbrev pub planning_line : App
+planning_line = record {
+  top = record line_head.top { is_leaf = false };
+  subs = trial_shape ∷ scan_shape ∷ show_shape ∷ taking (codes "plan") pair_rules ∷ taking (codes "check") planned_pair_rules ∷ [];
+}
+
 abbrev pub command_line : App
 command_line = record {
   top = record (new_shape (codes "twosync")) {

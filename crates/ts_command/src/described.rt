@@ -1,7 +1,7 @@
 //! The command line as clap reads it, with its help.
 ghost use Rattle.std.specs.Prelude.{◌≡◌, [], false, IfOk};
 ghost use Rattle.clap.specs.Words.{app_of, rule_of};
-ghost use Rattle.ts_command.specs.CommandLine.{IsLocal, command_line, holds_rule, pair_rules, place_rule, planned_pair_rules, taking, workers_rule};
+ghost use Rattle.ts_command.specs.CommandLine.{IsLocal, command_line, holds_rule, line_head, pair_rules, place_rule, planned_pair_rules, planning_line, scan_shape, show_shape, single_line, taking, trial_shape, workers_rule};
 
 use clap::builder::ValueParser;
 use clap::{Arg, Command, value_parser};
@@ -90,43 +90,74 @@ fn on_pair_with_plan<'a>(
     on_pair(alloc, name, about)?.arg(place(alloc, "PLAN", "A plan, as `plan` prints it"))
 }
 
-/// The whole command line.
-pub(crate) fn described<'a>(alloc: Global) -> Result<Command<'a>, AllocError>
-    ensures { IfOk result (λ c. app_of c ≡ command_line) }
+/// The subcommand that answers a bundle.
+fn trial<'a>(alloc: Global) -> Result<Command<'a>, AllocError>
+    ensures shape { IfOk result (λ c. app_of c ≡ record { top = trial_shape; subs = [] }) }
+    ensures local { IfOk result IsLocal }
 {
-    let trial = Command::new(alloc, "trial")
+    Command::new(alloc, "trial")
         .about("Answers a bundle of archive, folders, rules and plan on standard input")
-        .arg(workers(alloc))?;
-    let scan = Command::new(alloc, "scan")
+        .arg(workers(alloc))
+}
+
+/// The subcommand that prints what a folder has.
+fn scan<'a>(alloc: Global) -> Result<Command<'a>, AllocError>
+    ensures shape { IfOk result (λ c. app_of c ≡ record { top = scan_shape; subs = [] }) }
+    ensures local { IfOk result IsLocal }
+{
+    Command::new(alloc, "scan")
         .about("Prints the archive of a folder as it is now")
         .arg(place(alloc, "DIR", "A folder"))?
-        .arg(workers(alloc))?;
-    let show = Command::new(alloc, "show")
+        .arg(workers(alloc))
+}
+
+/// The subcommand that prints what an archive has.
+fn show<'a>(alloc: Global) -> Result<Command<'a>, AllocError>
+    ensures shape { IfOk result (λ c. app_of c ≡ record { top = show_shape; subs = [] }) }
+    ensures local { IfOk result IsLocal }
+{
+    Command::new(alloc, "show")
         .about("Prints what an archive has, a path a line")
-        .arg(place(alloc, "ARCHIVE", "An archive"))?;
+        .arg(place(alloc, "ARCHIVE", "An archive"))
+}
+
+/// The command line before its subcommands.
+fn head<'a>(alloc: Global) -> Command<'a>
+    ensures { app_of result ≡ line_head }
+{
     Command::new(alloc, "twosync")
         .about("Keeps two folders alike, by plans that are checked before they are carried out")
         .version("0.1.0")
         .after_help(EXAMPLE)
         .subcommand_required(true)
         .disable_help_subcommand(true)
-        .subcommand(trial)?
-        .subcommand(scan)?
-        .subcommand(show)?
-        .subcommand(on_pair(
-            alloc,
-            "plan",
-            "Prints what has to be done to make both folders alike",
-        )?)?
-        .subcommand(on_pair_with_plan(
-            alloc,
-            "check",
-            "Says whether a plan is valid for what is there",
-        )?)?
-        .subcommand(on_pair_with_plan(
-            alloc,
-            "run",
-            "Checks a plan, carries it out, and writes the archive",
-        )?)?
-        .subcommand(on_pair(alloc, "sync", "Plans and runs: makes both folders alike")?)
+}
+
+/// The command line with the subcommands that work on no pair.
+fn with_single<'a>(alloc: Global) -> Result<Command<'a>, AllocError>
+    ensures { IfOk result (λ c. app_of c ≡ single_line) }
+{
+    let line = head(alloc).subcommand(trial(alloc)?)?;
+    let line = line.subcommand(scan(alloc)?)?;
+    line.subcommand(show(alloc)?)
+}
+
+/// The command line with those that make or check a plan, too.
+fn with_planning<'a>(alloc: Global) -> Result<Command<'a>, AllocError>
+    ensures { IfOk result (λ c. app_of c ≡ planning_line) }
+{
+    let about = "Prints what has to be done to make both folders alike";
+    let line = with_single(alloc)?.subcommand(on_pair(alloc, "plan", about)?)?;
+    let about = "Says whether a plan is valid for what is there";
+    line.subcommand(on_pair_with_plan(alloc, "check", about)?)
+}
+
+/// The whole command line.
+pub(crate) fn described<'a>(alloc: Global) -> Result<Command<'a>, AllocError>
+    ensures { IfOk result (λ c. app_of c ≡ command_line) }
+{
+    let about = "Checks a plan, carries it out, and writes the archive";
+    let line = with_planning(alloc)?.subcommand(on_pair_with_plan(alloc, "run", about)?)?;
+    let about = "Plans and runs: makes both folders alike";
+    line.subcommand(on_pair(alloc, "sync", about)?)
 }

@@ -131,12 +131,12 @@ fn read_job<'a>(name: &str, matches: &ArgMatches<'a>) -> Option<Job<'a>>
             pair: read_pair(matches)?,
         }),
         "check" => Some(Job::Check {
-            pair: read_pair(matches)?,
             plan: value(matches, "PLAN")?,
+            pair: read_pair(matches)?,
         }),
         "run" => Some(Job::Run {
-            pair: read_pair(matches)?,
             plan: value(matches, "PLAN")?,
+            pair: read_pair(matches)?,
         }),
         "sync" => Some(Job::Sync {
             pair: read_pair(matches)?,

@@ -1,7 +1,5 @@
 -- The faults of reports.
 use Rattle.std.specs.Prelude.{◌≡◌, ◌≢◌, ℕ, Result, Ok, Err}
-use Rattle.ts_text.specs.declared.fault.TextFault.{TextFault}
-use Rattle.ts_text.specs.declared.fault.TextFault.TheVariants as text
 use Rattle.ts_report.specs.declared.fault.ReportFault.{ReportFault}
 use Rattle.ts_report.specs.declared.fault.ReportFault.TheVariants.{OutOfMemory, Failed}
 
@@ -9,12 +7,6 @@ use Rattle.ts_report.specs.declared.fault.ReportFault.TheVariants.{OutOfMemory, 
 abbrev pub fault_number : ReportFault → ℕ
 fault_number OutOfMemory = 1
 fault_number Failed = 5
-
--- a writer of lines answers no other
-abbrev pub fault_of_text : TextFault → ReportFault
-fault_of_text text.OutOfMemory = OutOfMemory
-fault_of_text text.Failed = Failed
-fault_of_text text.NotCanonical = Failed
 
 -- the sink's count of failures changes where the sink failed, and only there; else memory ran out
 abbrev pub FailuresFit : {A : Type 0} → ℕ → ℕ → Result A ReportFault → Type 0

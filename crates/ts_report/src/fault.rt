@@ -4,7 +4,6 @@ ghost use Rattle.ts_report.specs.Faults.{fault_number};
 
 use std::alloc::{AllocError, AllocFailed};
 use thiserror::Error;
-use ts_text::TextFault;
 
 /// Why a report wasn't written. A beginning of it was.
 #[derive(Clone, Copy, Debug, PartialEq, Eq, Error)]
@@ -48,19 +47,5 @@ impl<T: Drop> From<AllocFailed<T>> for ReportFault {
 
     fn from(_e: AllocFailed<T>) -> ReportFault {
         ReportFault::OutOfMemory
-    }
-}
-
-impl From<TextFault> for ReportFault {
-    ghost use Rattle.std.specs.Prelude.{◌≡◌};
-    ghost use Rattle.ts_report.specs.Faults.{fault_of_text};
-
-    ghost from_gives = { λ t e. e ≡ fault_of_text t };
-
-    fn from(e: TextFault) -> ReportFault {
-        match e {
-            TextFault::OutOfMemory => ReportFault::OutOfMemory,
-            TextFault::Failed | TextFault::NotCanonical => ReportFault::Failed,
-        }
     }
 }

@@ -9,4 +9,4 @@ mod writing;
 pub use fate::Fate;
 pub use fault::ReportFault;
 pub use results::{Ending, Results};
-pub use writing::{Totals, write};
+pub use writing::{Totals, write, write_fates};

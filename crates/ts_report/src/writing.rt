@@ -4,7 +4,7 @@ ghost use Rattle.ts_model.specs.Plans.{action_limit};
 ghost use Rattle.ts_model.specs.Texts.{text};
 ghost use Rattle.ts_report.specs.Fates.{first_fate, same_fate};
 ghost use Rattle.ts_report.specs.Faults.{FailuresFit};
-ghost use Rattle.ts_report.specs.Reports.{entry_of, fate_line, fate_lines, fates, fates_from, is_mark, report_text, status_of, step_from, total_line, totals_of};
+ghost use Rattle.ts_report.specs.Reports.{entry_of, fate_line, fate_lines, fates, fates_from, is_mark, report_lines, report_text, status_of, step_from, total_line, totals_of};
 ghost use Rattle.ts_text.specs.Sources.{Writes};
 
 use crate::fate::Fate;
@@ -13,9 +13,9 @@ use crate::results::{Ending, Results};
 use std::alloc::Global;
 use ts_model::plan::{Action, Entry, Kind, Plan};
 use ts_plan::reason_word;
-use ts_text::Sink;
 use ts_text::field::{push_decimal, push_word};
 use ts_text::write::write_line;
+use ts_text::{Sink, TextFault};
 
 /// How many entries ended how.
 #[derive(Clone, Copy, Debug, PartialEq, Eq, Drop)]
@@ -60,8 +60,26 @@ pub fn write<E: Results, W: Sink>(
 {
     let entries = plan.entries.as_slice();
     let fates = find_fates(alloc, entries, plan.actions.as_slice(), results)?;
-    write_entries(alloc, entries, &fates, sink)?;
-    let totals = count(&fates);
+    write_fates(alloc, entries, &fates, sink)
+}
+
+/// Writes the report of a run by what became of each entry: a line for each entry in their order, and the line of totals, which
+/// are answered.
+///
+/// It fails where memory runs out or the sink fails. After a fault a beginning of the report was written.
+pub fn write_fates<W: Sink>(
+    alloc: Global,
+    entries: &[Entry],
+    fates: &[Fate],
+    sink: &mut W,
+) -> Result<Totals, ReportFault>
+    requires { length fates.now ≡ length entries.now }
+    ensures written { Writes (W.holds sink.old) (W.holds sink.new) (text (report_lines entries.now fates.now)) result }
+    ensures failures { FailuresFit (W.failures sink.old) (W.failures sink.new) result }
+    ensures totals { IfOk result (λ totals. totals ≡ totals_of fates.now) }
+{
+    write_entries(alloc, entries, fates, sink)?;
+    let totals = count(fates);
     write_total(alloc, entries.len(), &totals, sink)?;
     Ok(totals)
 }
@@ -195,8 +213,11 @@ fn put_line<W: Sink>(line: &[u8], sink: &mut W) -> Result<(), ReportFault>
     ensures written { Writes (W.holds sink.old) (W.holds sink.new) (text (line.now ∷ [])) result }
     ensures failures { FailuresFit (W.failures sink.old) (W.failures sink.new) result }
 {
-    write_line(sink, line)?;
-    Ok(())
+    match write_line(sink, line) {
+        Ok(()) => Ok(()),
+        Err(TextFault::Failed) => Err(ReportFault::Failed),
+        Err(TextFault::OutOfMemory | TextFault::NotCanonical) => unreachable!(),
+    }
 }
 
 /// Writes the line of totals.

@@ -41,7 +41,7 @@ fn piece(entry: u32, path: Path) -> Kind
 }
 
 /// The actions that copy one new file of one byte: a piece, a commit and a mark.
-#[tactic(auto, unfolding(crate::board::specs::Worked::worked))]
+#[tactic(auto, unfolding(crate::specs::Worked::worked))]
 fn worked_actions(alloc: Global, path: Path) -> Result<Vec<Action>, AllocError>
     ensures { IfOk result (λ actions. actions.items ≡ worked path) }
 {
@@ -77,7 +77,7 @@ pub fn worked_plan(alloc: Global) -> Result<Plan>
 }
 
 /// The actions that delete a file: a commit and a mark.
-#[tactic(auto, unfolding(crate::board::specs::Worked::removal))]
+#[tactic(auto, unfolding(crate::specs::Worked::removal))]
 fn removal_actions(alloc: Global) -> Result<Vec<Action>, AllocError>
     ensures { IfOk result (λ actions. actions.items ≡ removal) }
 {
