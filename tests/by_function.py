@@ -25,6 +25,9 @@ OF_A_PROOF = re.compile(r"note: `([\w-]+)` of (proofs/\S+)/\w+\.antt must prove:
 # A proof file that names what an edit took away says little of the contract.
 SAYS_LITTLE = re.compile(r"has no field|is not in scope|has no `|was not admitted")
 LITTLE = "only because a proof file names what the edit took away"
+# The clauses that an edit is told to break, and those among them that say least of the contract.
+TOLD = re.compile(r"refused, as it must be: breaks (.+?): ")
+WEAK = ["invariant", "loop", "safety"]
 # The clause in an edit that it has to break.
 BREAKS = re.compile(r"(?m)^breaks: (.+?) *$")
 # How many edits the prover tries in one check: its memory grows with them.
@@ -202,6 +205,22 @@ def clause_of(goal):
         if goal.startswith(start):
             return clause
     return "safety"
+
+
+def name_clause(edit, told):
+    """Writes to an edit without a line `breaks: CLAUSE` the one that says most of those that were told to be broken, and returns
+    whether there was one."""
+    found = TOLD.search(told)
+    if not found or clauses_to_break(edit):
+        return False
+    clauses = found[1].split(", ")
+    clause = next((it for it in clauses if not it.endswith(" requires") and it not in WEAK), None)
+    clause = clause or next((it for it in clauses if it.endswith(" requires")), None) or min(clauses, key=WEAK.index)
+    with open(edit, encoding="utf-8") as it:
+        text = it.read()
+    with open(edit, "w", encoding="utf-8") as it:
+        it.write(f"breaks: {clause}\n{text}")
+    return True
 
 
 def judged(it, said):

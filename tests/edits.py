@@ -2,15 +2,18 @@
 """The edits that the prover must refuse: tests/edits/CRATE/NAME.edit.
 
 Those that docs/WRONG_BODIES.md names are tried on each run. The others are tried where something that their check reads has
-changed. Refusals that were seen are kept in tests/edits.record. A line there has an edit and a digest of all that its check
-reads: the edit, the files of its crate, the statements of the crates below it, their lines of crates.txt, and which kit it
-is. While the digest stays the same the answer does too, and the edit stands on its record. Only this program writes the
-record.
+changed. Refusals that were seen are kept in tests/edits.record. A line there has an edit, the kit that refused it, and a digest
+of all that its check reads: the edit, the files of its crate, the statements of the crates below it, their lines of crates.txt,
+and what the kit was made from. While the digest stays the same the answer does too, and the edit stands on its record. An edit
+has a line for each kit that it was tried with, since machines have different ones. Only this program writes the record.
 
 usage: tests/edits.py                  tries the named edits, those that have no record, and ten of the others
        tests/edits.py --look           says which edits these are, and tries none
        tests/edits.py --try CRATE ..   tries all edits of these crates
        tests/edits.py --try-all        tries all edits, which takes hours
+
+An edit that is tried by hand and has no line `breaks: CLAUSE` gets one, with a clause that the prover named; where it only named
+a stored proof, the edit says little of the contract and gets none.
 
 Every edit has to apply, every name has to have an edit, and so has every line of the record. The ten are chosen by the
 commit. Libraries that aren't built, or that are older than their sources, are built first. The gate tries the named edits and
@@ -45,7 +48,7 @@ MOST_SECONDS = 30 * 60
 # A crate's edits are tried over what a check of it without any proved; where there are more, in several lanes.
 MOST_IN_A_LANE = 24
 NAME = re.compile(r"[A-Za-z0-9_-][A-Za-z0-9_.-]*\.edit")
-LINE = re.compile(r"(\w+/\S+\.edit) ([0-9a-f]{64})")
+LINE = re.compile(r"(\w+/\S+\.edit) (\S+) ([0-9a-f]{64})")
 # A wrong body that has to be refused on each run, as docs/WRONG_BODIES.md names its edit.
 NAMED = re.compile(r"`(\w+/\w+)`")
 # What is said of a refusal that shows little of the contract.
@@ -89,6 +92,11 @@ def digest_of(parts):
     return made.hexdigest()
 
 
+def name_of_kit(rt):
+    """Returns the name of the kit, as `rattle-kit-1`, without a space."""
+    return read_bytes(f"{rt.KIT}/KIT-ID").decode().split()[0]
+
+
 class Digests:
     """Digests of what the checks of edits read. The files of a crate are read once: to look again, make a new one."""
 
@@ -129,37 +137,37 @@ class Digests:
 
 
 class Record:
-    """The file of refusals that were seen: the digest of each edit, by its key."""
+    """The file of refusals that were seen: the digest of each edit, by its key and the name of the kit that refused it."""
 
-    def __init__(self, file):
-        self.file = file
+    def __init__(self, file, kit):
+        self.file, self.kit = file, kit
         self.writing = threading.Lock()
         self.digests, self.faults = self.read()
 
     def read(self):
-        """Returns the digests by key, and what is wrong with the file."""
-        digests, faults, last = {}, [], ""
+        """Returns the digests by key and kit, and what is wrong with the file."""
+        digests, faults, last = {}, [], ("", "")
         lines = read_bytes(self.file).decode(errors="replace").splitlines() if os.path.isfile(self.file) else []
         for line in lines:
             found = LINE.fullmatch(line)
             if not found:
                 faults.append(f"the record has a line that isn't an edit and its digest: {line[:120]}")
-            elif found[1] <= last:
+            elif (found[1], found[2]) <= last:
                 faults.append(f"the record isn't sorted, or names an edit twice: {found[1]}")
             else:
-                digests[found[1]] = found[2]
-                last = found[1]
+                last = (found[1], found[2])
+                digests[last] = found[3]
         return digests, faults
 
     def keep(self, seen, gone=()):
-        """Adds what was seen: by key a digest, or None where the edit wasn't refused. Drops the lines of those gone."""
+        """Adds what this kit answered: by key a digest, or None where the edit wasn't refused. Drops the lines of those gone."""
         folder = os.open(os.path.dirname(self.file), os.O_RDONLY)
         try:
             fcntl.flock(folder, fcntl.LOCK_EX)
             with self.writing:
                 # another run may have added lines meanwhile
-                kept = {**self.read()[0], **seen}
-                self.digests = {key: kept[key] for key in sorted(kept) if kept[key] and key not in gone}
+                kept = {**self.read()[0], **{(key, self.kit): digest for key, digest in seen.items()}}
+                self.digests = {it: kept[it] for it in sorted(kept) if kept[it] and it[0] not in gone}
                 self.write()
         finally:
             os.close(folder)
@@ -167,7 +175,7 @@ class Record:
     def write(self):
         """Writes the file whole, in one step, so that a run that is killed leaves the old one or the new one."""
         with open(f"{self.file}.new", "w", encoding="utf-8") as it:
-            it.writelines(f"{key} {digest}\n" for key, digest in self.digests.items())
+            it.writelines(f"{key} {kit} {digest}\n" for (key, kit), digest in self.digests.items())
             it.flush()
             os.fsync(it.fileno())
         os.replace(f"{self.file}.new", self.file)
@@ -180,7 +188,7 @@ class Repository:
         self.rt, self.root = rt, root
         os.environ.pop(rt.rtlib.ALLOW_C, None)
         self.crates = {it.name: it for it in rt.rtlib.crates_below(root)}
-        self.record = Record(f"{root}/tests/edits.record")
+        self.record = Record(f"{root}/tests/edits.record", name_of_kit(rt))
         self.printing = threading.Lock()
         self.edits, self.faults = self.find_edits()
         self.named = self.find_named()
@@ -215,12 +223,12 @@ class Repository:
 
     def unknown(self):
         """Returns the keys of the record that no edit has."""
-        return sorted({*self.record.digests} - {it.key for it in self.edits} - {*self.faults})
+        return sorted({key for key, _ in self.record.digests} - {it.key for it in self.edits} - {*self.faults})
 
     def standing(self):
         """Returns the edits whose record fits what their checks would read now."""
-        digests, kept = Digests(self), self.record.digests
-        return [it for it in self.edits if kept.get(it.key) == digests.of_edit(it, self.crates[it.crate])]
+        digests, kept, kit = Digests(self), self.record.digests, self.record.kit
+        return [it for it in self.edits if kept.get((it.key, kit)) == digests.of_edit(it, self.crates[it.crate])]
 
     def sample(self, edits):
         """Returns some of the edits, others for each commit, so that over time each is tried again."""
@@ -313,11 +321,11 @@ class Libraries:
 
 
 class Trial:
-    """Has the prover try some edits, and notes what it answers."""
+    """Has the prover try some edits, and notes what it answers. Where it is told to, it names in each edit a clause that it breaks."""
 
-    def __init__(self, repository, edits, until=None):
+    def __init__(self, repository, edits, until=None, names_clauses=False):
         self.repository, self.rt = repository, repository.rt
-        self.edits, self.until = edits, until
+        self.edits, self.until, self.names_clauses = edits, until, names_clauses
         self.refused, self.little, self.failed, self.left = set(), [], [], []
 
     def run(self):
@@ -358,8 +366,8 @@ class Trial:
         if lacking:
             self.note([(it, False, f"{it.key}: not tried, since {lacking[0]} isn't proved") for it in edits], {})
             return
-        before = Digests(self.repository)
-        before = {it.key: before.of_edit(it, crate) for it in edits}
+        read = Digests(self.repository)
+        before = {it.key: read.of_edit(it, crate) for it in edits}
         answers = by_function.try_all(self.rt, crate, [it.file for it in edits], ["--jobs", "1"], self.until)
         self.left += [edit.key for edit, answer in zip(edits, answers) if answer is None]
         after, seen, tried = Digests(self.repository), {}, []
@@ -368,6 +376,8 @@ class Trial:
                 tried.append((edit, False, f"{edit.key}: a file that its check reads was changed meanwhile: try it again"))
             else:
                 tried.append((edit, is_refused, text))
+                if is_refused and self.names_clauses and by_function.name_clause(edit.file, text):
+                    before[edit.key] = read.of_edit(edit, crate)
                 seen[edit.key] = before[edit.key] if is_refused else None
         self.note(tried, seen)
 
@@ -421,7 +431,8 @@ def step(repository, words):
     new, again = chosen(repository, words)
     first = [it for it in new if it.key in repository.named] + again
     keys = {it.key for it in first}
-    trials = [Trial(repository, first), Trial(repository, [it for it in new if it.key not in keys], until)]
+    others = [it for it in new if it.key not in keys]
+    trials = [Trial(repository, first, names_clauses=is_by_hand), Trial(repository, others, until, is_by_hand)]
     for it in trials:
         it.run()
     return tell(repository, trials, len(again), is_by_hand, wrong)

@@ -68,6 +68,10 @@ class World:
         with open(f"{self.root}/{name}", "w", encoding="utf-8") as it:
             it.write(text)
 
+    def read(self, name):
+        with open(f"{self.root}/{name}", encoding="utf-8") as it:
+            return it.read()
+
     def record(self):
         file = f"{self.root}/tests/edits.record"
         return open(file, encoding="utf-8").read() if os.path.isfile(file) else ""
@@ -281,8 +285,42 @@ def a_record_that_was_not_written_by_the_tool_fails(world):
 
 
 def a_digest_that_was_made_up_does_not_count(world):
-    world.put("tests/edits.record", f"low/a.edit {'0' * 64}\n")
+    world.put("tests/edits.record", f"low/a.edit {edits.name_of_kit(RT)} {'0' * 64}\n")
     same((world.run(), sorted(world.asked)), ((4, 0), ALL))
+
+
+def what_another_kit_refused_is_kept_beside(world):
+    other = "".join(f"{it} a-kit {'0' * 64}\n" for it in ALL)
+    world.put("tests/edits.record", other)
+    same((world.run(), sorted(world.asked)), ((4, 0), ALL))
+    same(([it for it in world.record().splitlines(True) if " a-kit " in it], world.record().count("\n")), (other.splitlines(True), 8))
+    same((world.run(), world.asked), ((4, 0), []))
+    # one that isn't refused any more loses the line of this kit alone
+    world.put("tests/edits/low/a.edit", "file: src/lib.rt\nold: 1\nnew: 8\n")
+    world.answers = {"low/a.edit": "NOT REFUSED: the crate is still proved with this edit"}
+    same(world.run(), (3, 1))
+    same([it.split(" ")[1] for it in world.record().splitlines() if it.startswith("low/a.edit ")], ["a-kit"])
+
+
+def by_hand_an_edit_is_given_the_clause_that_it_breaks(world):
+    told = "refused, as it must be: breaks {}: note: src/lib.rt:1:1: it is not proved"
+    cases = [
+        ("safety, found, get requires", "found"),
+        ("get requires, safety", "get requires"),
+        ("safety, loop", "loop"),
+        ("ensures", "ensures"),
+    ]
+    for clauses, wanted in cases:
+        text = "file: src/lib.rt\nold: 1\nnew: 7\n"
+        world.put("tests/edits/low/a.edit", text)
+        world.answers = {"low/a.edit": told.format(clauses)}
+        # the gate writes to no edit
+        same((world.run()[1], world.read("tests/edits/low/a.edit")), (0, text))
+        same(world.run("--try", "low"), (1, 0))
+        same(world.read("tests/edits/low/a.edit"), f"breaks: {wanted}\n{text}")
+        # its line of the record is of the edit as it is now
+        same((world.run(), world.asked), ((4, 0), []))
+    same((world.run("--try", "low"), world.read("tests/edits/low/a.edit").count("breaks:")), ((1, 0), 1))
 
 
 def an_edit_that_does_not_apply_fails_untried(world):
@@ -489,6 +527,8 @@ TESTS = [
     a_record_of_no_edit_fails,
     a_record_that_was_not_written_by_the_tool_fails,
     a_digest_that_was_made_up_does_not_count,
+    what_another_kit_refused_is_kept_beside,
+    by_hand_an_edit_is_given_the_clause_that_it_breaks,
     an_edit_that_does_not_apply_fails_untried,
     a_file_that_is_changed_meanwhile_leaves_no_record,
     refusals_that_say_little_are_listed,
