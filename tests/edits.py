@@ -51,6 +51,8 @@ NAME = re.compile(r"[A-Za-z0-9_-][A-Za-z0-9_.-]*\.edit")
 LINE = re.compile(r"(\w+/\S+\.edit) (\S+) ([0-9a-f]{64})")
 # A wrong body that has to be refused on each run, as docs/WRONG_BODIES.md names its edit.
 NAMED = re.compile(r"`(\w+/\w+)`")
+# The crates of laws: their functions have empty bodies, so an edit there turns a statement.
+LAWS = ("ts_laws", "ts_text_laws")
 # What is said of a refusal that shows little of the contract.
 SAYS_LITTLE = by_function.LITTLE
 
@@ -453,6 +455,9 @@ def tell(repository, trials, sample, is_by_hand, wrong):
     others = len(repository.edits) - chosen_ones
     stand = "were left alone" if is_by_hand else "stand on their record"
     print(f"{tried} edits were tried, {sample} of them as a sample; {others} others {stand}")
+    laws = sum(it.crate in LAWS for it in repository.edits)
+    if laws:
+        print(f"{laws} of all turn the statement of a law, and not a body")
     passed = sum(len(it.refused) for it in trials) + (0 if is_by_hand else others)
     return passed, sum(len(it.failed) for it in trials) + wrong
 
