@@ -1,7 +1,8 @@
 //! The command line as clap reads it, with its help.
 ghost use Rattle.std.specs.Prelude.{◌≡◌, [], false, IfOk};
 ghost use Rattle.clap.specs.Words.{app_of, rule_of};
-ghost use Rattle.ts_command.specs.CommandLine.{IsLocal, command_line, holds_rule, line_head, pair_rules, place_rule, planned_pair_rules, planning_line, scan_shape, show_shape, single_line, taking, trial_shape, workers_rule};
+ghost use Rattle.ts_command.specs.CommandLine.{IsLocal, command_line, holds_rule, line_head, pair_rules, place_rule, planned_pair_rules, planning_line};
+ghost use Rattle.ts_command.specs.CommandLine.{scan_shape, show_shape, single_line, taking, trial_shape, workers_rule};
 
 use clap::builder::ValueParser;
 use clap::{Arg, Command, value_parser};
