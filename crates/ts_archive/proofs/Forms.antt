@@ -20,7 +20,7 @@ use Rattle.ts_model.specs.declared.row.Content.{Content}
 use Rattle.ts_model.specs.declared.row.Content.TheVariants.{Absent, Dir, File}
 use Rattle.ts_model.specs.declared.row.Stamp.{Stamp}
 use Rattle.ts_tree.proofs.Lines.{AreTextLines}
-use Rattle.ts_print.proofs.PrintTexts.{RowFits, rows_fit, print_text_lines}
+use Rattle.ts_print.proofs.PrintTexts.{RowFits, rows_fit, print_are_lines}
 use Rattle.ts_archive.specs.Endings.{header, end_line, EndFits, IsNoArchive}
 
 -- a print's lines, and an end line that may tell a wrong count or digest
@@ -73,9 +73,6 @@ row_no_end p (File x) fits =
 pub print_no_end : (rows : Listing Stamp) → IsPrintBody rows → AllByRecursion IsNoEnd (print_lines rows)
 print_no_end rows is = each_line print_row_lines RowFits IsNoEnd row_no_end rows (rows_fit rows is)
 
-pub are_lines : (rows : Listing Stamp) → IsPrintBody rows → AreTextLines (print_lines rows)
-are_lines rows is = print_text_lines rows (rows_fit rows is)
-
 -- ---- the header and the end line are lines
 
 letters_header : HasNo 10 header
@@ -120,7 +117,7 @@ stands bytes f fed left are no_end e =
     let cut = cut_at 10 header header (text (print_lines f.rows) ++ ends) (text fed ++ left) letters_header letters_header
     (sym (append_assoc header (10 ∷ text (print_lines f.rows)) ends) ∙ ap (λ z. z ++ ends) (sym (text_cons header (print_lines f.rows))) ∙ first
     ∙ ap (λ z. z ++ left) (text_cons header fed) ∙ append_assoc header (10 ∷ text fed) left) in
-    go (fronts IsLine (λ x is. is.one) (print_lines f.rows) fed ends left (are_lines f.rows f.print) are cut.1)
+    go (fronts IsLine (λ x is. is.one) (print_lines f.rows) fed ends left (print_are_lines f.rows f.print) are cut.1)
   where
     go : Fronts (print_lines f.rows) fed (end_line f.count f.digest ++ 10 ∷ []) left → Stands bytes f fed left
     go (longer more lines rest) = record { more = more; lines = lines; left_is = rest }

@@ -24,7 +24,6 @@ use Rattle.ts_model.specs.declared.plan.Kind.TheVariants.{Mark}
 use Rattle.ts_model.specs.declared.plan.Plan.{Plan}
 use Rattle.ts_table.specs.Tables.{IsPlace}
 use Rattle.ts_laws.proofs.Settings.{Setting}
-use Rattle.ts_laws.proofs.Basics.{same_stamp_at}
 use Rattle.ts_name.proofs.Order.{before_itself, before_trans, before_below}
 use Rattle.ts_laws.proofs.Grafts.{graft_at}
 use Rattle.ts_laws.proofs.Reasons.{still_not_Dir, new_dir_reason}
@@ -37,7 +36,7 @@ use Rattle.ts_laws.proofs.Marks.{mark_kept, mark_over_mark, archive_from_marks}
 use Rattle.ts_laws.proofs.Places.{over_old_dir, not_root, parent_dirs, dir_before, ascends_to, apart_from}
 use Rattle.ts_laws.proofs.Carried.{AreFrom, first_from, rest_from}
 use Rattle.ts_board.specs.Edits.{marks, left_by, with_put, ComesFirst, MayFollow, marks_by}
-use Rattle.ts_board.proofs.Edits.{first_marks, are_trees}
+use Rattle.ts_board.proofs.Edits.{first_marks}
 use Rattle.ts_check.specs.Checkup.{Checkup, snapshot_of}
 use Rattle.ts_board.specs.declared.law.Terms.{Terms}
 use Rattle.ts_board.specs.Checks.{IsFromCheck}
@@ -45,6 +44,8 @@ use Rattle.ts_board.specs.Kept.{HasLeft}
 use Rattle.ts_board.specs.Archives.{AreMarked, picked}
 use Rattle.ts_board.proofs.Words.{done_word, few_open, true_from_bit}
 use Rattle.ts_board.specs.Runs.{bit}
+use Rattle.ts_laws.proofs.Listings.{listed_lawful}
+use Rattle.ts_model.proofs.Deciding.{same_stamp_at}
 
 -- the mark of the entry at this place has acted
 abbrev pub IsMarkedIn : Plan → Run → ℕ → Type 0
@@ -221,7 +222,7 @@ nowhere p = Absent
 module _ (k : Checkup) (words : List ℕ) (flags : List Bool) (archive : IsListing k.archive) (first : IsListing k.first) (second : IsListing k.second) (valid : Valid (snapshot_of k) k.plan)
     (long : length flags ≡ length k.plan.entries) (marked : AreMarked k.plan words flags) (t : Terms) (run : Run) (from : IsFromCheck t k) (left : HasLeft t words run) where
   lawful : IsSnapshot (snapshot_of k)
-  lawful = are_trees k.archive k.first k.second k.rules archive first second
+  lawful = listed_lawful k.archive k.first k.second k.rules archive first second
 
   abbrev setting : Tree → Tree → Setting
   setting a b = record { s = snapshot_of k; plan = k.plan; valid = valid; lawful = lawful; a = a; b = b }

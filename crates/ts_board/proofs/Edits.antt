@@ -2,10 +2,10 @@
 use Rattle.std.proofs.Common.{◌≡◌, ◌≢◌, ◌⊎◌, inl, inr, ℕ, Bool, true, false, cond, List, [], ◌∷◌, ◌++◌, Option, Some, None, refl, sym, ap, ◌∙◌, subst, append-nil}
 use Rattle.std.specs.List.{AllByRecursion}
 use Rattle.ts_name.specs.Paths.{Path, IsPath, IsBefore}
-use Rattle.ts_model.specs.Trees.{Listing, Tree, Print, IsListing, at, listed, print_of, sub}
+use Rattle.ts_model.specs.Trees.{Listing, Tree, Print, at, listed, print_of, sub}
 use Rattle.ts_model.specs.Runs.{graft, bare_directory}
 use Rattle.ts_model.specs.Plans.{is_from}
-use Rattle.ts_model.specs.Sync.{IsSnapshot, AreReplicas, listed_snapshot, treatment}
+use Rattle.ts_model.specs.Sync.{AreReplicas, listed_snapshot, treatment}
 use Rattle.ts_model.specs.declared.row.Content.{Content}
 use Rattle.ts_model.specs.declared.row.Content.TheVariants.{Absent}
 use Rattle.ts_model.specs.Texts.{IsTreeBody}
@@ -26,7 +26,6 @@ use Rattle.ts_name.proofs.Basics.{weaker, all_both, all_map, at_each}
 use Rattle.ts_tree.specs.Trees.{EditFits}
 use Rattle.ts_tree.proofs.Parts.{lists_each, part_fits}
 use Rattle.ts_laws.specs.Carried.{copied}
-use Rattle.ts_laws.proofs.Listings.{IsTree-from_listing}
 use Rattle.ts_board.specs.Edits.{copies, marks, marks_by, with_put, left_by, ComesFirst, MayFollow, IsPart, IsEditAt, Gives, Begins, AreEdits}
 
 -- ---- what the laws call what entries leave
@@ -190,11 +189,6 @@ edits_fit from rows body (entry ∷ entries) edits h = go (λ es k. edits_fit fr
     go rest false edits h = rest edits h
     go rest true [] h = absurd h
     go rest true (edit ∷ edits) h = (part_fits rows edit.part entry.path body h.0.part.rows h.0.part.lists, rest edits h.1)
-
--- listed prints are a lawful snapshot
-pub are_trees : (archive first second : Listing Stamp) (rules : List Rule) → IsListing archive → IsListing first → IsListing second → IsSnapshot (listed_snapshot archive first second rules)
-are_trees archive first second rules of_archive of_first of_second =
-    record { archive = IsTree-from_listing archive of_archive; first = IsTree-from_listing first of_first; second = IsTree-from_listing second of_second }
 
 pub are_replicas : (archive first second : Listing Stamp) (rules : List Rule) (a b : Listing (List ℕ)) → at first ≡ print_of (at a) → at second ≡ print_of (at b)
     → AreReplicas (listed_snapshot archive first second rules) (at a) (at b)

@@ -17,7 +17,7 @@ use Rattle.ts_model.specs.Runs as model
 use Rattle.ts_model.specs.declared.step.Step.TheVariants.{Act}
 use Rattle.ts_model.specs.declared.step.Work.{Work}
 use Rattle.ts_model.specs.declared.step.Work.TheVariants.{Put}
-use Rattle.ts_laws.proofs.Basics.{stable, same_stamp_at}
+use Rattle.ts_laws.proofs.Basics.{stable}
 use Rattle.ts_print.specs.Assemblies.{Assembly, IsComplete}
 use Rattle.ts_print.specs.Parts.{Part}
 use Rattle.ts_print.proofs.Assembling.{print-listed}
@@ -25,6 +25,7 @@ use Rattle.ts_check.specs.Checkup.{Checkup, IsSourcePart, snapshot_of}
 use Rattle.ts_board.specs.declared.law.Terms.{Terms}
 use Rattle.ts_board.specs.Terms.{IsFor, Suits}
 use Rattle.ts_board.specs.Checks.{IsFromCheck}
+use Rattle.ts_model.proofs.Deciding.{same_stamp_at}
 
 same_replica : (s : Snapshot) (t : Terms) (k : Checkup) → IsFor t s → IsFromCheck t k → (from : Side) → replica s from ≡ replica (snapshot_of k) from
 same_replica s t k f e side.First = f.0 ∙ ap at e.1

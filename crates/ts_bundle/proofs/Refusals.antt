@@ -29,6 +29,7 @@ use Rattle.ts_bundle.specs.Parts.{archive_lines, first_lines, second_lines, hold
 use Rattle.ts_bundle.specs.declared.reader.Part.{Part}
 use Rattle.ts_bundle.specs.declared.reader.Part.TheVariants as part
 use Rattle.ts_bundle.proofs.Titles.{before_title, first_title, holds_title, print_without, rules_without, second_title, tree_without}
+use Rattle.ts_name.proofs.Basics.{five_parts}
 
 -- ---- what a bundle's lines go on with
 
@@ -43,10 +44,6 @@ from_first b = tree_lines b.first ++ codes "second" ∷ from_second b
 
 abbrev pub from_archive : Bundle → List Line
 from_archive b = print_lines b.archive ++ codes "first" ∷ from_first b
-
--- five lists in a row
-five_parts : {A : Type 0} (p f s h l : List A) → (((p ++ f) ++ s) ++ h) ++ l ≡ p ++ (f ++ (s ++ (h ++ l)))
-five_parts p f s h l = append_assoc ((p ++ f) ++ s) h l ∙ append_assoc (p ++ f) s (h ++ l) ∙ append_assoc p f (s ++ (h ++ l))
 
 pub parted : (b : Bundle) → bundle_lines b ≡ archive_lines (from_archive b)
 parted b = ap archive_lines (five_parts (print_lines b.archive) (codes "first" ∷ tree_lines b.first) (codes "second" ∷ tree_lines b.second) (codes "holds" ∷ map rule_line b.rules) (codes "plan" ∷ plan_lines b.plan))

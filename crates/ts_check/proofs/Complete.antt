@@ -4,7 +4,6 @@ use Rattle.std.specs.BTreeMap.{BTreeMap, get}
 use Rattle.std.proofs.lemmas.Bool.{cases_eq, cases_lt, cases_order}
 use Rattle.std.proofs.lemmas.Option.{none-some, same_Some, slice_get_within}
 use Rattle.ts_name.specs.Paths.{Path, IsAbove, IsBefore}
-use Rattle.ts_laws.proofs.Basics.{same_stamp_at, same_names}
 use Rattle.ts_name.proofs.Order.{before_itself, before_trans, before_from_above, above_between}
 use Rattle.ts_laws.proofs.Grafts.{IsRooted-from_tree, nothing_below}
 use Rattle.ts_laws.proofs.Listings.{IsTree-from_listing}
@@ -16,9 +15,11 @@ use Rattle.ts_model.specs.declared.row.Stamp.{Stamp}
 use Rattle.ts_model.specs.declared.plan.Entry.{Entry}
 use Rattle.ts_model.specs.declared.plan.Kind.TheVariants.{Piece}
 use Rattle.ts_model.specs.declared.plan.Plan.{Plan}
-use Rattle.ts_check.proofs.Rowed.{row_is, at_row, dir_row, file_row, rows_order}
+use Rattle.ts_check.proofs.Rowed.{row_is, dir_row, file_row, rows_order}
 use Rattle.ts_check.proofs.Staging.{IsPieceOf-from, IsPieceIn-from, one_source}
 use Rattle.ts_check.specs.Pieces.{IsSourceOf, IsRowOf, IsStagedMap, HasAll, HasAllBelow, LacksBelow, LacksSome, NotEachOnce, IsAgain, Place, place_cmp}
+use Rattle.ts_table.proofs.Listings.{at_row}
+use Rattle.ts_model.proofs.Deciding.{same_stamp_at, same_names}
 
 -- ---- the ranges of one file
 

@@ -26,8 +26,8 @@ use Rattle.ts_check.proofs.Placing.{place_eq}
 use Rattle.ts_check.proofs.Succeeding.{contains_cons, contains_tail, contains_none, at_key-yes, at_key-no}
 use Rattle.ts_check.specs.Lists.{at_key, AreKeysBelow}
 use Rattle.ts_check.specs.Pieces.{IsSourceOf, IsRowOf, IsStagedMap, Place, place_cmp, by_entry, IsPieceFor, IsEarlierPiece, ArePieces, AreAllPieces}
-use Rattle.ts_name.proofs.Order.{is_eq_Equal}
 use Rattle.ts_name.proofs.Basics.{element_at}
+use Rattle.ts_name.specs.Laws.{is_eq_Equal}
 
 -- ---- places in order
 

@@ -18,7 +18,7 @@ use Rattle.ts_check.proofs.Scans.{same_kind}
 use Rattle.ts_check.proofs.Rowed.{file_row, one_row}
 use Rattle.ts_check.proofs.Staging.{IsPieceOf-from, one_source, source_lists, same_piece}
 use Rattle.ts_check.specs.Pieces.{on_side, IsSourceOf, IsPieceIn, IsRowOf, IsUnlawful, IsAgain, NotEachOnce, IsPlaceOf, IsStagedMap, Place, place_cmp}
-use Rattle.ts_name.proofs.Order.{is_eq_Equal}
+use Rattle.ts_name.specs.Laws.{is_eq_Equal}
 
 -- places that compare equal are equal
 pub place_eq : (x y : Place) → place_cmp x y ≡ Equal → x ≡ y

@@ -16,10 +16,8 @@ use Rattle.ts_table.proofs.Found.{rises}
 use Rattle.ts_name.specs.Laws.{path_total, tied_paths, same_path_equal}
 use Rattle.ts_name.proofs.Order.{before_itself}
 use Rattle.ts_table.proofs.Rows.{ascend_pair}
-use Rattle.ts_table.proofs.Listings.{listed_at}
 use Rattle.ts_check.specs.Pieces.{IsRowOf}
 use Rattle.ts_name.proofs.Basics.{all_at, element_at}
-use Rattle.ts_model.proofs.Rows.{at_listed}
 
 -- what a search by path finds
 pub row_found : (rows : Listing Stamp) (p : Path) (r : Result ℕ ℕ) → Ascend rows → IsSearchInRange r (length rows) → IsBinarySearchResult (λ row. path_cmp row.path p) rows r
@@ -41,13 +39,6 @@ row_found rows p (Err i) up within h = λ k is.
 -- a row's path isn't the root, and something is there
 pub row_is : (rows : Listing Stamp) → IsListing rows → (k : ℕ) (row : Row Stamp) → slice_get rows k ≡ Some row → (row.path ≢ []) × (row.content ≢ Absent)
 row_is rows lists k row is = let h = all_at _ rows lists.rows_are k row is in (h.1, h.2)
-
--- a row says what is at its path
-pub at_row : (rows : Listing Stamp) → IsListing rows → (k : ℕ) (row : Row Stamp) → slice_get rows k ≡ Some row → at rows row.path ≡ row.content
-at_row rows lists k row is =
-    let within = slice_get_within rows k row is in
-    let here = get_or_from_slice_get rows k row row is in
-    at_listed rows row.path (row_is rows lists k row is).0 ∙ subst (λ (z : Row Stamp). listed rows z.path ≡ z.content) here (listed_at rows k row lists.ascending within)
 
 -- and whatever is listed has a row
 listed_row : (rows : Listing Stamp) (p : Path) → listed rows p ≢ Absent → (k : ℕ) × IsRowOf rows k p

@@ -14,8 +14,9 @@ use Rattle.ts_model.specs.declared.plan.Action.{Action}
 use Rattle.ts_model.specs.declared.plan.Kind.TheVariants.{Piece}
 use Rattle.ts_model.specs.declared.plan.Plan.{Plan}
 use Rattle.ts_check.proofs.Scans.{same_kind}
-use Rattle.ts_check.proofs.Rowed.{file_row, at_row}
+use Rattle.ts_check.proofs.Rowed.{file_row}
 use Rattle.ts_check.specs.Pieces.{on_side, IsSourceOf, IsPieceIn, IsRowOf, IsUnlawful}
+use Rattle.ts_table.proofs.Listings.{at_row}
 
 -- either side is a listing
 pub side_lists : (xs ys : Listing Stamp) (from : Side) → IsListing xs → IsListing ys → IsListing (on_side xs ys from)

@@ -1,6 +1,6 @@
 -- What is found below and above a path by halving, and what it says of dirt.
-use Rattle.std.proofs.Common.{◌≡◌, ◌≢◌, ◌⊎◌, ◌↔◌, ℕ, ◌+◌, ◌-◌, ◌<◌, ◌≤◌, Bool, true, false, List, [], ◌∷◌, ◌++◌, length, get_or, Contains, Less, refl, sym, ap, ◌∙◌, subst, inl, inr, arith, IsTrue, not}
-use Rattle.std.proofs.lemmas.Bool.{cases_lt, cases_eq, cases_order}
+use Rattle.std.proofs.Common.{◌≡◌, ◌≢◌, ◌⊎◌, ◌↔◌, ℕ, ◌+◌, ◌-◌, ◌<◌, ◌≤◌, Bool, true, false, List, ◌++◌, length, get_or, Contains, Less, refl, sym, ap, ◌∙◌, subst, inl, inr, arith, IsTrue, not}
+use Rattle.std.proofs.lemmas.Bool.{cases_lt, cases_order}
 use Rattle.std.proofs.lemmas.List.Elements.{at_read}
 use Rattle.std.specs.List.{HoldsAt}
 use Rattle.std.specs.List.Sorted.{IsPartitionedBy, IsPartitionPoint}
@@ -9,13 +9,13 @@ use Rattle.ts_name.specs.Paths.{Path, IsAbove, IsBefore, path_cmp}
 use Rattle.ts_model.specs.Trees.{sub}
 use Rattle.ts_model.specs.Sync.{Snapshot, Agree, IsChanged, TouchesHeld}
 use Rattle.ts_model.specs.declared.row.Content.{Content}
-use Rattle.ts_model.specs.declared.row.Content.TheVariants.{Absent, Dir, File}
 use Rattle.ts_model.specs.declared.row.Stamp.{Stamp}
 use Rattle.ts_model.specs.declared.plan.Side.TheVariants as side
 use Rattle.ts_dirty.specs.Found.{AreAscending, AreTopmost, HasBelow, HasAbove, Found, IsFoundOf}
 use Rattle.ts_name.proofs.Order.{before_trans, before_cases, before_turned, is_lt_Less}
 use Rattle.ts_name.proofs.Prefixes.{above_itself, above_trans, above_either}
 use Rattle.ts_dirty.proofs.Order.{above_upto, above_between}
+use Rattle.ts_model.proofs.Deciding.{same_stamp_at}
 
 -- ---- by halving
 
@@ -123,37 +123,6 @@ above_first ps p at ascending topmost parts none l =
 
 -- ---- what is found says what is dirty
 
--- whether two contents are one
-pub same_numbers : (xs ys : List ℕ) → Dec (xs ≡ ys)
-same_numbers [] [] = yes refl
-same_numbers [] (y ∷ ys) = no (λ e. cc)
-same_numbers (x ∷ xs) [] = no (λ e. cc)
-same_numbers (x ∷ xs) (y ∷ ys) = joined (cases_eq x y) (same_numbers xs ys)
-  where
-    joined : (x ≡ y) ⊎ (x ≢ y) → Dec (xs ≡ ys) → Dec (x ∷ xs ≡ y ∷ ys)
-    joined (inl e) (yes f) = yes cc
-    joined (inr n) f = no (λ e. n cc)
-    joined (inl e) (no n) = no (λ e. n cc)
-
-same_stamp : (x y : Stamp) → Dec (x ≡ y)
-same_stamp x y = joined (cases_eq x.size y.size) (same_numbers x.digest y.digest)
-  where
-    joined : (x.size ≡ y.size) ⊎ (x.size ≢ y.size) → Dec (x.digest ≡ y.digest) → Dec (x ≡ y)
-    joined (inl e) (yes f) = yes (λ i. record { size = e i; digest = f i })
-    joined (inr n) f = no (λ e. n (ap (λ (s : Stamp). s.size) e))
-    joined (inl e) (no n) = no (λ e. n (ap (λ (s : Stamp). s.digest) e))
-
-pub same_content : (x y : Content Stamp) → Dec (x ≡ y)
-same_content Absent Absent = yes refl
-same_content Dir Dir = yes refl
-same_content (File x) (File y) = elim (same_stamp x y) [ yes e ↦ yes (ap File e) | no n ↦ no (λ e. n cc) ]
-same_content Absent Dir = no (λ e. cc)
-same_content Absent (File y) = no (λ e. cc)
-same_content Dir Absent = no (λ e. cc)
-same_content Dir (File y) = no (λ e. cc)
-same_content (File x) Absent = no (λ e. cc)
-same_content (File x) Dir = no (λ e. cc)
-
 -- paths where two prints differ tell whether they differ below a path
 pub differ_below : (t u : Path → Content Stamp) (ps : List Path) (p : Path) → ((q : Path) → Contains ps q ↔ (t q ≢ u q)) → HasBelow ps p ↔ ((rest : Path) × (sub t p rest ≢ sub u p rest))
 differ_below t u ps p all = (
@@ -176,7 +145,7 @@ says_agree s m p h false is = (λ e. by_each, λ agree. refl)
     false_true e = cc
 
     none : (rest : Path) → sub s.first p rest ≡ sub s.second p rest
-    none rest = elim (same_content (sub s.first p rest) (sub s.second p rest)) [
+    none rest = elim (same_stamp_at (sub s.first p rest) (sub s.second p rest)) [
       | yes e ↦ e
       | no n ↦ absurd (false_true (is.1 ((differ_below s.first s.second m.apart p h.apart).1 (rest, n))))
     ]

@@ -1,13 +1,12 @@
 -- Rows that ascend, one after another.
 use Rattle.std.proofs.Common.{◌≡◌, ◌≢◌, ◌⊎◌, true, false, [], ◌∷◌, ◌∙◌, refl, sym, ap, subst, inl, inr}
-use Rattle.std.specs.List.{AllByRecursion}
 use Rattle.std.proofs.Common.{◌≤◌, ◌-◌, length, take, drop, get_or, ◌<◌, arith, Ordering, Equal, Greater, Option, Some, None, Less, Bor, MatchOption, IfSome}
 use Rattle.std.specs.Option.{option_copied}
 use Rattle.std.specs.Ordering.{is_lt, is_eq}
 use Rattle.ts_model.specs.declared.row.Stamp.{Stamp}
 use Rattle.std.proofs.lemmas.Grind.{common_steps}
 use Rattle.std.proofs.lemmas.Cmp.{tied_itself}
-use Rattle.ts_name.specs.Paths.{Path, IsPath, IsBefore, path_cmp}
+use Rattle.ts_name.specs.Paths.{Path, IsBefore, path_cmp}
 use Rattle.ts_model.specs.Trees.{Listing, listed, at, Ascend, IsListing}
 use Rattle.ts_model.specs.declared.row.Content.{Content}
 use Rattle.ts_model.specs.declared.row.Content.TheVariants.{Absent}
@@ -17,6 +16,7 @@ use Rattle.ts_name.specs.Laws.{path_total, tied_paths, same_path_itself, same_pa
 use Rattle.ts_name.proofs.Order.{before_itself, before_trans, before_cases, before_turned, decide_before}
 use Rattle.ts_dirty.proofs.Order.{before_upto, upto_before}
 use Rattle.ts_model.proofs.Rows.{listed_here, listed_there}
+use Rattle.ts_model.proofs.Listings.{root_not_listed}
 
 -- what is left after the first row is plain
 pub plain_rest : {F : Type 0} (row : Row F) (rows : Listing F) → ArePlain (row ∷ rows) → ArePlain rows
@@ -70,11 +70,6 @@ step_left {F} row rows p h less = record {
 pub step_none : {F : Type 0} (p : Path) → IsStep {F = F} p Absent [] []
 step_none p = record { here = refl; before = λ q h. refl; later = λ q h. refl; gone = λ q h. refl; no_more = omega arith; less = λ there. absurd (there refl) }
 
--- the root is not listed
-pub root_not_listed : {F : Type 0} (rows : Listing F) → AllByRecursion (λ row. IsPath row.path × (row.path ≢ []) × (row.content ≢ Absent)) rows → listed rows [] ≡ Absent
-root_not_listed [] h = refl
-root_not_listed (row ∷ rows) h = listed_there row rows [] h.0.1 ∙ root_not_listed rows h.1
-
 -- ---- from a whole listing to what is left of it
 
 -- rest has what stands in whole after b, and nothing else
@@ -91,7 +86,7 @@ rest_all {F} whole lists = record { later = later; gone = gone }
     later (x ∷ q) h = refl
 
     gone : (q : Path) → ¬ IsBefore [] q → listed whole q ≡ Absent
-    gone [] n = root_not_listed whole lists.rows_are
+    gone [] n = root_not_listed whole lists
     gone (x ∷ q) n = absurd (n refl)
 
 -- a step goes on from there, and tells the content of its path

@@ -21,7 +21,7 @@ use Rattle.ts_folder.specs.declared.folder.Kind.{Kind}
 use Rattle.ts_folder.specs.declared.folder.Kind.TheVariants as kind
 use Rattle.ts_scan.proofs.Printed.{IsClosed, there_above}
 use Rattle.ts_disk.specs.Compared.{Has, HasAt, HasOnly, HasPart, Says}
-use Rattle.ts_model.proofs.Rows.{listed_here}
+use Rattle.ts_model.proofs.Rows.{listed_here, stamped_absent, stamped_dir}
 
 -- ---- what a part's rows list
 
@@ -184,16 +184,6 @@ nothing_has_part t part closed lent below_root gone = by_each _ _ (λ q. ap (λ 
     none q (File bytes) e = absurd (there_above t part.top q closed (λ f. let g : ◌≡◌ {A = Content (List ℕ)} (File bytes) Absent = sym e ∙ f in cc) gone)
 
 -- ---- and back
-
-stamped_absent : (x : Content (List ℕ)) → stamped x ≡ Absent → x ≡ Absent
-stamped_absent Absent e = refl
-stamped_absent Dir e = cc
-stamped_absent (File bytes) e = cc
-
-stamped_dir : (x : Content (List ℕ)) → stamped x ≡ Dir → x ≡ Dir
-stamped_dir Absent e = cc
-stamped_dir Dir e = refl
-stamped_dir (File bytes) e = cc
 
 -- nothing is there where the part is empty
 pub part_is_nothing : (t : Tree) (part : Part) → AreLent part [] → part.top ≢ [] → HasPart t part → t part.top ≡ Absent

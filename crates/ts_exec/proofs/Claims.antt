@@ -16,8 +16,9 @@ use Rattle.ts_board.specs.Calls.{seen, mine, Makes}
 use Rattle.ts_board.specs.Checks.{IsFromCheck}
 use Rattle.ts_board.proofs.Orderly.{orderly}
 use Rattle.ts_exec.specs.Tidy.{IsTidy}
-use Rattle.ts_exec.proofs.Steps.{own_seen, has_left, not_some, hasnot_both}
+use Rattle.ts_exec.proofs.Steps.{own_seen, not_some}
 use Rattle.ts_exec.proofs.Runs.{is_run, legal_front, last_allowed}
+use Rattle.ts_laws.proofs.Cuts.{any_in_longer, none_in_both}
 
 -- a run that is legal on the board is legal for what was checked
 pub for_check : (t : Terms) (k : Checkup) → IsFromCheck t k → IsFor t (snapshot_of k)
@@ -39,7 +40,7 @@ module _ {S : Type 0} (t : Terms) (k : Checkup) (from : IsFromCheck t k) (valid 
 
   in_before : (test : Step → Bool) → Has (mine p) test → Has before test
   unfolding before
-  in_before test h = has_left test (seen p) makes.0 (own_seen test p.seat.me.0.sight.claims p.seat.me.0.sight.seen h)
+  in_before test h = any_in_longer test (seen p) makes.0 (own_seen test p.seat.me.0.sight.claims p.seat.me.0.sight.seen h)
 
   -- it was the first claim
   pub not_claimed : HasNot (mine p) (claims i)
@@ -54,7 +55,7 @@ module _ {S : Type 0} (t : Terms) (k : Checkup) (from : IsFromCheck t k) (valid 
   -- none of its pieces was taken
   pub not_taken : IsTidy k.plan (mine p) → (piece : ℕ) → IsPieceOf k.plan i piece → HasNot (mine q) (takes piece)
   not_taken tidy piece is = subst (λ (own : Run). HasNot own (takes piece)) (sym makes.2)
-      (hasnot_both (takes piece) (mine p) (Claim i ∷ [])
+      (none_in_both (takes piece) (mine p) (Claim i ∷ [])
       (not_some (list_any (takes piece) (mine p)) (λ h.
       let at = tidy.taken piece h in
       let same : at.0 ≡ i = (orderly (snapshot_of k) k.plan valid).one_commit at.0 i piece at.1 is in

@@ -17,9 +17,10 @@ use Rattle.ts_laws.proofs.Runs.{same_action}
 use Rattle.ts_board.specs.Runs.{StartsWith}
 use Rattle.ts_board.proofs.Words.{done_word, failed_word, false_from_bit, true_from_bit}
 use Rattle.ts_exec.specs.Tidy.{IsTidy, WasTried}
-use Rattle.ts_exec.proofs.Steps.{has_left, not_some, none_or_some}
+use Rattle.ts_exec.proofs.Steps.{not_some, none_or_some}
 use Rattle.ts_exec.proofs.Runs.{free_word, legal_front}
 use Rattle.ts_name.proofs.Basics.{element_at}
+use Rattle.ts_laws.proofs.Cuts.{any_in_longer}
 
 -- ---- what an unclaimed action waits for
 
@@ -51,14 +52,14 @@ open_pred s plan valid r legal i within none tried = ⊎_elim
     prefix w = legal_front s plan [] w.0 w.1.0 (subst (λ (z : Run). Legal s plan z) w.1.1 legal)
 
     at_end : (w : (then : Run) × StartsWith r then × (word_after plan then i ≢ 0) × ((k : ℕ) → Waits plan i k → Has r (finishes k) → Has then (releases k i))) → Has w.0 (claims i) → Has r (claims i)
-    at_end w h = subst (λ (z : Run). Has z (claims i)) (sym w.1.1) (has_left (claims i) w.0 w.1.0 h)
+    at_end w h = subst (λ (z : Run). Has z (claims i)) (sym w.1.1) (any_in_longer (claims i) w.0 w.1.0 h)
 
     among : (action : (a : Action) × ActionIs plan i a) {k : ℕ} → Waits plan i k → Among k action.0.preds
     among action {k} waits = subst (λ (a : Action). Among k a.preds) (same_action plan i waits.0 action.0 waits.1 action.1) (Among-from_Contains waits.0.preds k waits.2)
 
 -- ---- tests of a word
 
-bit_some : (w k : ℕ) → bit_and w (2 ^ k) ≢ 0 → bit_at w k ≡ 1
+pub bit_some : (w k : ℕ) → bit_and w (2 ^ k) ≢ 0 → bit_at w k ≡ 1
 bit_some w k some = ⊎_elim
     (λ (e : bit_at w k ≡ 0). absurd (some (and_pow w k ∙ ap (λ (z : ℕ). z * 2 ^ k) e ∙ zero-mul (2 ^ k))))
     (λ (n : bit_at w k ≢ 0). let few = bit_at-lt w k in omega arith)
@@ -87,9 +88,6 @@ module _ (plan : Plan) (r : Run) (words : List ℕ) (i : ℕ) (is : slice_index 
 
   pub not_failed_is : (w : ℕ) → w ≡ slice_index words i → bit_and w 17179869184 ≡ 0 → HasNot r (fails i)
   not_failed_is w e none = false_from_bit (list_any (fails i) r) (λ one. bit_none w 34 none (ap (λ (z : ℕ). bit_at z 34) (e ∙ is) ∙ failed_word plan r i small ∙ one))
-
-pub seen_some : (w k : ℕ) → bit_and w (2 ^ k) ≢ 0 → bit_at w k ≡ 1
-seen_some w k some = bit_some w k some
 
 -- what is neither done nor failed was never claimed
 pub never_claimed : (plan : Plan) (r : Run) (i : ℕ) → IsTidy plan r → HasNot r (finishes i) → HasNot r (fails i) → HasNot r (claims i)

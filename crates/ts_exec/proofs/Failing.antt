@@ -17,7 +17,7 @@ use Rattle.ts_model.specs.Runs as model
 use Rattle.ts_model.specs.Runs.{Run, IsPending, IsPieceOf, acts, claims, fails}
 use Rattle.ts_laws.proofs.Steps.{same_kind}
 use Rattle.ts_exec.specs.Tidy.{AreTakes}
-use Rattle.ts_exec.proofs.Steps.{has_left, hasnot_both, takes_none}
+use Rattle.ts_exec.proofs.Steps.{takes_none}
 use Rattle.ts_model.specs.declared.step.Step.TheVariants.{Act}
 use Rattle.ts_model.specs.declared.step.Work.{Work}
 use Rattle.ts_model.specs.declared.step.Work.TheVariants.{Staged, Marked}
@@ -36,6 +36,7 @@ use Rattle.ts_board.specs.Checks.{IsFromCheck}
 use Rattle.ts_exec.specs.declared.fault.ActFault.TheVariants.{Misfit}
 use Rattle.ts_exec.specs.Faults.{of_folder, of_site}
 use Rattle.ts_exec.specs.Failures.{Setting, PieceFails, CommitFails, IsChanged, IsMisfit, MayBreak}
+use Rattle.ts_laws.proofs.Cuts.{any_in_longer, none_in_both}
 
 -- a fault that `?` made of another
 pub exit_maps : {U A : Type 0} (r : Result U A) (P Q : A → Type 0) → IsErrAnd r P → ((a : A) → P a → Q a) → IfErr r Q
@@ -142,7 +143,7 @@ no_pieces plan i k kind is other piece = other piece.entry (same_kind plan i kin
 -- takes leave an action pending
 pub pending_takes : (plan : Plan) (own more : Run) (c : ℕ) → IsPending own c → AreTakes plan c more → IsPending (own ++ more) c
 pending_takes plan own more c p a = (
-  has_left (claims c) own more p.0,
-  hasnot_both (acts c) own more p.1 (takes_none (acts c) plan c (λ k. refl) more a),
-  hasnot_both (fails c) own more p.2 (takes_none (fails c) plan c (λ k. refl) more a),
+  any_in_longer (claims c) own more p.0,
+  none_in_both (acts c) own more p.1 (takes_none (acts c) plan c (λ k. refl) more a),
+  none_in_both (fails c) own more p.2 (takes_none (fails c) plan c (λ k. refl) more a),
 )

@@ -22,11 +22,12 @@ use Rattle.ts_print.specs.Assemblies.{begun, begun_rows, more, with_more}
 use Rattle.ts_print.specs.Prints.{stamped_rows}
 use Rattle.ts_print.proofs.Assembling.{KeepsKinds, listed-changed}
 use Rattle.ts_print.proofs.Stamping.{ascend-stamped, listed-stamped}
-use Rattle.ts_table.proofs.Listings.{one_listed}
 use Rattle.ts_check.specs.Pieces.{IsEarlierPiece}
 use Rattle.ts_exec.proofs.Rows.{among_take}
 use Rattle.ts_exec.proofs.Ranges.{aligned_end, earlier_offset, end_before, lawful, no_gap, offset_in, path_in, range_within, same_bytes, size_in, some_bytes}
 use Rattle.ts_model.proofs.Rows.{stamped_absent}
+use Rattle.ts_name.proofs.Basics.{take_part}
+use Rattle.ts_model.proofs.Listings.{one_listed}
 
 -- ---- rows whose files have these bytes
 
@@ -122,13 +123,6 @@ same_place zero k d (x ∷ xs) l e = e
 same_place (suc i) k d (x ∷ xs) l e = same_place i k d xs (omega arith) e
 
 -- ---- lists of bytes
-
-take_and_range : (offset size : ℕ) (bytes : List ℕ) → take offset bytes ++ take size (drop offset bytes) ≡ take (offset + size) bytes
-take_and_range zero size bytes = let on : size ≡ zero + size = omega arith in ap (λ n. take n bytes) on
-take_and_range (suc offset) zero [] = let on : suc offset ≡ suc offset + zero = omega arith in ap (λ n. take n []) on
-take_and_range (suc offset) (suc size) [] = let on : suc (offset + suc size) ≡ suc offset + suc size = omega arith in ap (λ n. take n []) on
-take_and_range (suc offset) size (x ∷ bytes) =
-    let on : suc (offset + size) ≡ suc offset + size = omega arith in ap (λ z. x ∷ z) (take_and_range offset size bytes) ∙ ap (λ n. take n (x ∷ bytes)) on
 
 -- ---- what pieces of one entry have put of a file
 
@@ -227,7 +221,7 @@ module _ (s : Snapshot) (plan : Plan) (valid : Valid s plan) (e : ℕ) (entry : 
   }
     where
       whole : had ++ bytes ≡ take (offset + size) file
-      whole = ap₂ ◌++◌ (put.begins file there ∙ ap (λ (z : ℕ). take z file) long) is ∙ take_and_range offset size file
+      whole = ap₂ ◌++◌ (put.begins file there ∙ ap (λ (z : ℕ). take z file) long) is ∙ take_part offset size file
 
       reach : length (had ++ bytes) ≡ offset + size
       reach =

@@ -17,15 +17,11 @@ use Rattle.ts_exec.specs.declared.crew.Failure.{Failure}
 use Rattle.ts_exec.specs.declared.fault.ActFault.{ActFault}
 use Rattle.ts_name.proofs.Utf8.{all_append}
 use Rattle.ts_exec.proofs.Reading.{may_later, told_later}
-use Rattle.ts_exec.proofs.Steps.{has_cases, has_left}
-use Rattle.ts_name.proofs.Basics.{got_last}
+use Rattle.ts_exec.proofs.Steps.{has_cases}
+use Rattle.ts_name.proofs.Basics.{got_last, got_front}
+use Rattle.ts_laws.proofs.Cuts.{any_in_longer}
 
 -- ---- places of lists
-
-pub got_left : {A : Type 0} (xs ys : List A) (m : ℕ) (e : A) → slice_get xs m ≡ Some e → slice_get (xs ++ ys) m ≡ Some e
-got_left [] ys m e h = absurd (cc)
-got_left (x ∷ xs) ys zero e h = h
-got_left (x ∷ xs) ys (suc m) e h = got_left xs ys m e h
 
 pub got_cases : {A : Type 0} (xs : List A) (x : A) (m : ℕ) (e : A) → slice_get (xs ++ x ∷ []) m ≡ Some e → (slice_get xs m ≡ Some e) ⊎ (x ≡ e)
 got_cases [] x zero e h = inr (cc)
@@ -54,7 +50,7 @@ pub listed_failed : (x : Setting) (own seen more b : Run) (fs : List Failure) (i
     → i < length x.checkup.plan.actions → Listed x (own ++ b) more (fs ++ record { action = i; fault = f } ∷ [])
 listed_failed x own seen more b fs i f l later t told may within = record {
   each = λ j h. ⊎_elim
-      (λ (a : Has own (fails j)). let e = l.each j a in (e.0, e.1, got_left fs (record { action = i; fault = f } ∷ []) e.0 e.1 e.2, e.3))
+      (λ (a : Has own (fails j)). let e = l.each j a in (e.0, e.1, got_front fs (record { action = i; fault = f } ∷ []) e.0 e.1 e.2, e.3))
       (λ (a : Has b (fails j)). (length fs, record { action = i; fault = f }, got_last fs (record { action = i; fault = f }), sym (t.failed j a).0))
       (has_cases (fails j) own b h);
   may = λ m e at. ⊎_elim
@@ -131,7 +127,7 @@ swept_more s plan valid n own seen own' seen' b tidy is later only within tried 
         tried
 
     old : (j : ℕ) → j < n → WasTried plan own seen j → WasTried plan own' seen' j
-    old j l (inl h) = inl (subst (λ (z : Run). Has z (claims j)) (sym is) (has_left (claims j) own b h))
+    old j l (inl h) = inl (subst (λ (z : Run). Has z (claims j)) (sym is) (any_in_longer (claims j) own b h))
     old j l (inr w) = inr (
       w.0,
       (w.1.0 ++ later.0, later.1 ∙ ap (λ (z : Run). z ++ later.0) w.1.1 ∙ append_assoc w.0 w.1.0 later.0),

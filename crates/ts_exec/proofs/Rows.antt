@@ -17,8 +17,9 @@ use Rattle.ts_name.proofs.Order.{before_itself}
 use Rattle.ts_laws.proofs.Steps.{same_kind}
 use Rattle.ts_check.specs.Pieces.{IsEarlierPiece}
 use Rattle.ts_exec.specs.Tidy.{AreTakes, AreReleases}
-use Rattle.ts_exec.proofs.Steps.{or_none, or_left, or_right, has_left, hasnot_both}
+use Rattle.ts_exec.proofs.Steps.{or_none, or_left, or_right}
 use Rattle.std.proofs.lemmas.Option.{slice_get_within}
+use Rattle.ts_laws.proofs.Cuts.{any_in_longer, none_in_both}
 
 abbrev pub takes_for : ℕ → List ℕ → Run
 takes_for c ks = map (λ k. Take c k) ks
@@ -143,7 +144,7 @@ piece_within plan c k is = slice_get_within plan.actions k is.piece.0 is.piece.1
 -- takes leave an action pending
 pub taking_pending : (own : Run) (c : ℕ) (ks : List ℕ) → IsPending own c → IsPending (own ++ takes_for c ks) c
 taking_pending own c ks p = (
-  has_left (claims c) own (takes_for c ks) p.0,
-  hasnot_both (acts c) own (takes_for c ks) p.1 (map_none (acts c) (λ k. Take c k) ks (λ k g. refl)),
-  hasnot_both (fails c) own (takes_for c ks) p.2 (map_none (fails c) (λ k. Take c k) ks (λ k g. refl)),
+  any_in_longer (claims c) own (takes_for c ks) p.0,
+  none_in_both (acts c) own (takes_for c ks) p.1 (map_none (acts c) (λ k. Take c k) ks (λ k g. refl)),
+  none_in_both (fails c) own (takes_for c ks) p.2 (map_none (fails c) (λ k. Take c k) ks (λ k g. refl)),
 )

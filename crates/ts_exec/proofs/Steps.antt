@@ -30,14 +30,8 @@ or_none false b e f = f
 pub has_cases : (t : Step → Bool) (xs ys : Run) → Has (xs ++ ys) t → Has xs t ⊎ Has ys t
 has_cases t xs ys h = or_cases (list_any t xs) (list_any t ys) (sym (list_any-append t xs ys) ∙ h)
 
-pub has_left : (t : Step → Bool) (xs ys : Run) → Has xs t → Has (xs ++ ys) t
-has_left t xs ys h = list_any-append t xs ys ∙ or_left (list_any t xs) (list_any t ys) h
-
 pub has_right : (t : Step → Bool) (xs ys : Run) → Has ys t → Has (xs ++ ys) t
 has_right t xs ys h = list_any-append t xs ys ∙ or_right (list_any t xs) (list_any t ys) h
-
-pub hasnot_both : (t : Step → Bool) (xs ys : Run) → HasNot xs t → HasNot ys t → HasNot (xs ++ ys) t
-hasnot_both t xs ys h k = list_any-append t xs ys ∙ or_none (list_any t xs) (list_any t ys) h k
 
 pub not_both : (b : Bool) → b ≡ true → b ≡ false → ⊥
 not_both b h k = true≢false (sym h ∙ k)

@@ -11,7 +11,8 @@ use Rattle.ts_model.specs.declared.step.Work.{Work}
 use Rattle.ts_board.specs.Kept.{IsMerged}
 use Rattle.ts_exec.specs.Tidy.{AreTakes, AreReleases, IsTidy, IsTry}
 use Rattle.ts_exec.specs.declared.fault.ActFault.{ActFault}
-use Rattle.ts_exec.proofs.Steps.{or_cases, or_left, or_none, has_cases, has_left, has_right, merged_cases, merged_left, merged_right, takes_none, releases_none}
+use Rattle.ts_exec.proofs.Steps.{or_cases, or_left, or_none, has_cases, has_right, merged_cases, merged_left, merged_right, takes_none, releases_none}
+use Rattle.ts_laws.proofs.Cuts.{any_in_longer}
 
 pub tidy_start : (plan : Plan) → IsTidy plan []
 tidy_start plan = record { ended = λ i h. absurd (true≢false (sym h)); released = λ k j h w. absurd (true≢false (sym h)); taken = λ k h. absurd (true≢false (sym h)) }
@@ -19,15 +20,15 @@ tidy_start plan = record { ended = λ i h. absurd (true≢false (sym h)); releas
 pub tidy_append : (plan : Plan) (xs ys : Run) → IsTidy plan xs → IsTidy plan ys → IsTidy plan (xs ++ ys)
 tidy_append plan xs ys x y = record {
   ended = λ i h. ⊎_elim
-      (λ (l : Has xs (claims i)). ⊎_elim (λ (d : Has xs (finishes i)). inl (has_left (finishes i) xs ys d)) (λ (d : Has xs (fails i)). inr (has_left (fails i) xs ys d)) (x.ended i l))
+      (λ (l : Has xs (claims i)). ⊎_elim (λ (d : Has xs (finishes i)). inl (any_in_longer (finishes i) xs ys d)) (λ (d : Has xs (fails i)). inr (any_in_longer (fails i) xs ys d)) (x.ended i l))
       (λ (r : Has ys (claims i)). ⊎_elim (λ (d : Has ys (finishes i)). inl (has_right (finishes i) xs ys d)) (λ (d : Has ys (fails i)). inr (has_right (fails i) xs ys d)) (y.ended i r))
       (has_cases (claims i) xs ys h);
   released = λ k j h w. ⊎_elim
-      (λ (l : Has xs (finishes k)). has_left (releases k j) xs ys (x.released k j l w))
+      (λ (l : Has xs (finishes k)). any_in_longer (releases k j) xs ys (x.released k j l w))
       (λ (r : Has ys (finishes k)). has_right (releases k j) xs ys (y.released k j r w))
       (has_cases (finishes k) xs ys h);
   taken = λ k h. ⊎_elim
-      (λ (l : Has xs (takes k)). let t = x.taken k l in (t.0, t.1, has_left (claims t.0) xs ys t.2))
+      (λ (l : Has xs (takes k)). let t = x.taken k l in (t.0, t.1, any_in_longer (claims t.0) xs ys t.2))
       (λ (r : Has ys (takes k)). let t = y.taken k r in (t.0, t.1, has_right (claims t.0) xs ys t.2))
       (has_cases (takes k) xs ys h);
 }

@@ -17,13 +17,13 @@ use Rattle.ts_table.specs.Tables.{is_above, rows_below}
 use Rattle.ts_name.specs.Laws.{same_path_equal, same_path_differ}
 use Rattle.ts_name.proofs.Utf8.{all_parts}
 use Rattle.ts_name.proofs.Basics.{weaker}
-use Rattle.ts_table.proofs.Rows.{ascend_first, listed_none}
 use Rattle.ts_table.proofs.Listings.{not_above_gives}
 use Rattle.ts_folder.specs.Children.{children, child_of, kind_of, named}
 use Rattle.ts_folder.specs.Folders.{AreChildren, HasKind, InOrder}
 use Rattle.ts_folder.specs.declared.folder.Kind.{Kind}
 use Rattle.ts_folder.specs.declared.folder.Kind.TheVariants as kind
 use Rattle.ts_model.proofs.Rows.{listed_here, ascend_rest}
+use Rattle.ts_model.proofs.Listings.{ascend_first, listed_none}
 
 -- ---- one row
 

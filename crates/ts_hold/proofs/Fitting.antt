@@ -5,6 +5,7 @@ use Rattle.ts_model.specs.Holds.{Fits}
 use Rattle.ts_model.specs.declared.hold.Symbol.{Symbol}
 use Rattle.ts_model.specs.declared.hold.Symbol.TheVariants.{Star, Byte}
 use Rattle.ts_hold.specs.Fronts.{Passed}
+use Rattle.std.proofs.lemmas.List.{nil_from_length}
 
 -- bytes in front of both may be taken off
 pub take_front : (front : Name) (pattern : List Symbol) (name : Name) → Fits (map Byte front ++ pattern) (front ++ name) → Fits pattern name
@@ -81,16 +82,11 @@ latest pattern name rest left passed fits = at_first pattern name (fits_whole pa
 
 -- ---- what one step over the pattern finds
 
--- an empty list
-nothing : {A : Type 0} (xs : List A) → length xs ≡ 0 → xs ≡ []
-nothing [] e = refl
-nothing (x ∷ xs) e = absurd (omega arith)
-
 -- no byte of the name is left for the pattern's
 pub name_ends : (pattern : List Symbol) (name : Name) (symbols : List Symbol) (bytes : Name) (b : ℕ) (rest : List Symbol) → Passed pattern name symbols bytes
     → symbols ≡ Byte b ∷ rest → length bytes ≡ 0 → ¬ Fits pattern name
 name_ends pattern name symbols bytes b rest passed is none fits =
-    subst (λ z. Fits z []) is (subst (λ z. Fits symbols z) (nothing bytes none) (fits_rest pattern name symbols bytes passed fits))
+    subst (λ z. Fits z []) is (subst (λ z. Fits symbols z) (nil_from_length bytes none) (fits_rest pattern name symbols bytes passed fits))
 
 -- the next bytes differ
 pub bytes_differ : (pattern : List Symbol) (name : Name) (symbols : List Symbol) (bytes : Name) (b x : ℕ) (rest : List Symbol) (left : Name) → Passed pattern name symbols bytes
@@ -108,12 +104,12 @@ bytes_agree pattern name symbols bytes b x rest left passed is is_bytes same =
 -- the pattern ends, with the name
 pub both_end : (pattern : List Symbol) (name : Name) (symbols : List Symbol) (bytes : Name) → Passed pattern name symbols bytes → length symbols ≡ 0 → length bytes ≡ 0 → Fits pattern name
 both_end pattern name symbols bytes passed none none_left =
-    fits_whole pattern name symbols bytes passed (subst (λ z. Fits z bytes) (sym (nothing symbols none)) (subst (λ z. Fits [] z) (sym (nothing bytes none_left)) tt))
+    fits_whole pattern name symbols bytes passed (subst (λ z. Fits z bytes) (sym (nil_from_length symbols none)) (subst (λ z. Fits [] z) (sym (nil_from_length bytes none_left)) tt))
 
 -- the pattern ends before the name
 pub pattern_ends : (pattern : List Symbol) (name : Name) (symbols : List Symbol) (bytes : Name) → Passed pattern name symbols bytes → length symbols ≡ 0 → length bytes ≢ 0 → ¬ Fits pattern name
 pattern_ends pattern name symbols bytes passed none some fits =
-    go bytes some (subst (λ z. Fits z bytes) (nothing symbols none) (fits_rest pattern name symbols bytes passed fits))
+    go bytes some (subst (λ z. Fits z bytes) (nil_from_length symbols none) (fits_rest pattern name symbols bytes passed fits))
   where
     go : (bytes : Name) → length bytes ≢ 0 → ¬ Fits [] bytes
     go [] some fits = some refl

@@ -7,8 +7,9 @@ use Rattle.ts_model.specs.Runs.{IsPieceOf}
 use Rattle.ts_model.specs.declared.plan.Kind.{Kind}
 use Rattle.ts_model.specs.declared.plan.Kind.TheVariants.{Piece, Commit, Mark}
 use Rattle.ts_model.specs.declared.plan.Plan.{Plan}
-use Rattle.ts_laws.proofs.Basics.{Dec-both, Dec-either, Dec-not, same_number}
+use Rattle.ts_laws.proofs.Basics.{Dec-both, Dec-either, Dec-not}
 use Rattle.ts_laws.proofs.Search.{decide_at, decide_number, decide_place, decide_more}
+use Rattle.ts_model.proofs.Deciding.{same_number}
 
 -- ---- kinds
 

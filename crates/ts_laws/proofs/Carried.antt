@@ -19,7 +19,7 @@ use Rattle.ts_laws.specs.Laws.{Finishes}
 use Rattle.ts_model.proofs.Reasons.{decide_from, source_from_test, test_from_source}
 use Rattle.ts_laws.specs.Carried.{copied, marked_all, IsCarriedOut, LeavesCarried}
 use Rattle.ts_laws.proofs.Settings.{Setting, Begun, Ran, begun_at, ran_at, ran_from}
-use Rattle.ts_laws.proofs.Basics.{Dec-both, Dec-either, Dec-not, IsTree-from_print, Start-from, stable, same_names}
+use Rattle.ts_laws.proofs.Basics.{Dec-both, Dec-either, Dec-not, IsTree-from_print, Start-from, stable}
 use Rattle.ts_name.proofs.Prefixes.{decide_above}
 use Rattle.ts_name.proofs.Order.{before_below, before_itself, before_trans}
 use Rattle.ts_name.proofs.Basics.{by_each, at_each}
@@ -36,6 +36,7 @@ use Rattle.ts_laws.proofs.Completion.{complete, done_acts}
 use Rattle.ts_laws.proofs.Parts.{archive_is_closed}
 use Rattle.ts_laws.proofs.Resume.{asks_for_same}
 use Rattle.ts_laws.proofs.Finishing.{finish}
+use Rattle.ts_model.proofs.Deciding.{same_names}
 
 -- ---- tests of reasons
 

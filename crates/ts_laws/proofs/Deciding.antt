@@ -17,13 +17,14 @@ use Rattle.ts_model.specs.declared.plan.Side.{Side}
 use Rattle.ts_model.specs.declared.plan.Side.TheVariants as side
 use Rattle.ts_model.specs.declared.plan.Reason.{Reason}
 use Rattle.ts_model.specs.declared.plan.Reason.TheVariants as reason
-use Rattle.ts_laws.proofs.Basics.{stable, Dec-both, Dec-either, Dec-not, same_number, same_names, same_stamp_at}
+use Rattle.ts_laws.proofs.Basics.{stable, Dec-both, Dec-either, Dec-not}
 use Rattle.ts_name.proofs.Prefixes.{last_name, snoc_not_empty, same_last, decide_above}
 use Rattle.ts_name.proofs.Basics.{by_each, at_each}
 use Rattle.ts_laws.proofs.Lists.{decide_within, decide_Any}
 use Rattle.ts_laws.proofs.Reasons.{decide_dirs, decide_below}
 use Rattle.ts_laws.proofs.Copies.{same_from_stamped}
 use Rattle.ts_laws.specs.Laws.{ArePrinted, DirtIsDifference}
+use Rattle.ts_model.proofs.Deciding.{same_number, same_names, same_stamp_at}
 
 -- ---- two prints
 

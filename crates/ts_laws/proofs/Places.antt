@@ -17,7 +17,7 @@ use Rattle.ts_model.specs.declared.plan.Plan.{Plan}
 use Rattle.ts_laws.specs.Laws.{IsEntryOf}
 use Rattle.ts_laws.specs.Carried.{copied, marked_all, IsInPlace, AreInPlace}
 use Rattle.ts_laws.proofs.Settings.{Setting, Begun, begun_at}
-use Rattle.ts_laws.proofs.Basics.{Start-from, stable, same_stamp_at}
+use Rattle.ts_laws.proofs.Basics.{Start-from, stable}
 use Rattle.ts_name.proofs.Prefixes.{snoc_not_empty, same_parent}
 use Rattle.ts_name.proofs.Order.{before_itself, before_trans, before_below, below_before}
 use Rattle.ts_laws.proofs.Reasons.{IsWhole-from_snapshot, edge_not_above_dirs, Below-from, Dir-new, decide_reason, still_not_Dir, new_dir_reason}
@@ -27,14 +27,10 @@ use Rattle.ts_laws.proofs.Plans.{in_order}
 use Rattle.ts_laws.proofs.Marks.{entry_edge, over_is_Dir}
 use Rattle.ts_laws.proofs.Entries.{reason_has_entry}
 use Rattle.ts_laws.proofs.Carried.{AreFrom, first_from, rest_from, copied_off, marked_off, marked_at}
+use Rattle.ts_name.proofs.Basics.{got_front}
+use Rattle.ts_model.proofs.Deciding.{same_stamp_at}
 
 -- ---- lists in two parts
-
--- what is in the first part is in the whole
-get_front : {A : Type 0} (xs ys : List A) (j : ℕ) (x : A) → slice_get xs j ≡ Some x → slice_get (xs ++ ys) j ≡ Some x
-get_front [] ys j x is = absurd (none-some x is)
-get_front (z ∷ zs) ys zero x is = is
-get_front (z ∷ zs) ys (suc j) x is = get_front zs ys j x is
 
 -- what is in the whole before the second part is in the first
 front_get : {A : Type 0} (xs ys : List A) (j : ℕ) (x : A) → j < length xs → slice_get (xs ++ ys) j ≡ Some x → slice_get xs j ≡ Some x
@@ -127,7 +123,7 @@ module _ (given : Begun) (before : List Entry) (entry : Entry) (after : List Ent
   front_from : AreFrom plan 0 before
   front_from j x is =
       let same : j ≡ 0 + j = omega arith in
-      subst (λ z. EntryIs plan z x) same (subst (λ z. slice_get z j ≡ Some x) (sym split) (get_front before (entry ∷ after) j x is))
+      subst (λ z. EntryIs plan z x) same (subst (λ z. slice_get z j ≡ Some x) (sym split) (got_front before (entry ∷ after) j x is))
 
   -- the entry and those after it are the others
   back_from : AreFrom plan (length before) (entry ∷ after)

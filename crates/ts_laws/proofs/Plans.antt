@@ -15,7 +15,7 @@ use Rattle.ts_model.specs.declared.plan.Kind.TheVariants.{Commit, Mark}
 use Rattle.ts_model.specs.declared.plan.Action.{Action}
 use Rattle.ts_model.specs.declared.plan.Plan.{Plan}
 use Rattle.ts_model.specs.declared.row.Content.TheVariants.{Absent}
-use Rattle.ts_laws.proofs.Basics.{stable, same_number, same_names}
+use Rattle.ts_laws.proofs.Basics.{stable}
 use Rattle.ts_name.proofs.Prefixes.{compared, above, under, beside, not_below_itself}
 use Rattle.ts_name.proofs.Order.{decide_before, before_itself, before_trans}
 use Rattle.ts_laws.proofs.Lists.{find_index, Among, Among-from_Contains, Contains-from_Among}
@@ -23,6 +23,7 @@ use Rattle.ts_laws.proofs.ActionKinds.{decide_commit, decide_mark, decide_is}
 use Rattle.ts_laws.proofs.Runs.{same_action, IsRun-from_legal, pred_count_is, unreleased_count}
 use Rattle.ts_laws.proofs.Reasons.{decide_reason}
 use Rattle.ts_name.proofs.Basics.{element_at}
+use Rattle.ts_model.proofs.Deciding.{same_number, same_names}
 
 -- ---- waiting is decided
 

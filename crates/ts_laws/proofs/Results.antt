@@ -12,12 +12,14 @@ use Rattle.ts_model.specs.Trial.{snapshot_of, result_lines, IsRefused, IsResult}
 use Rattle.ts_model.specs.Trees.{IsListing}
 use Rattle.ts_model.specs.declared.row.Stamp.{Stamp}
 use Rattle.ts_model.specs.declared.plan.Reason.{Reason}
-use Rattle.ts_laws.proofs.Basics.{Start, IsTree-print, stable, same_stamp_at}
+use Rattle.ts_laws.proofs.Basics.{Start, IsTree-print, stable}
 use Rattle.ts_name.proofs.Basics.{by_each, at_each}
-use Rattle.ts_laws.proofs.Listings.{IsTree-from_listing, one_listing}
+use Rattle.ts_laws.proofs.Listings.{IsTree-from_listing}
 use Rattle.ts_laws.proofs.Pairs.{either, one_at_most}
 use Rattle.ts_laws.proofs.Choices.{one_pair}
 use Rattle.ts_laws.proofs.Rules.{one_broken}
+use Rattle.ts_model.proofs.Listings.{one_listing}
+use Rattle.ts_model.proofs.Deciding.{same_stamp_at}
 
 -- ---- listings make a lawful snapshot
 

@@ -1,21 +1,19 @@
 -- Rows from a tree: what is at finitely many paths, listed in path order.
-use Rattle.std.proofs.Common.{◌≡◌, ◌≢◌, ◌⊎◌, Ordering, Less, Equal, Greater, Option, Some, None, List, [], ◌∷◌, ◌++◌, length, refl, sym, ap, ◌∙◌, subst, inl, inr, append_assoc, length-append, arith}
+use Rattle.std.proofs.Common.{◌≡◌, ◌≢◌, ◌⊎◌, Ordering, Less, Equal, Greater, Option, Some, None, List, [], ◌∷◌, ◌++◌, refl, sym, ap, ◌∙◌, subst, inl, inr, append_assoc}
 use Rattle.std.specs.List.{AllByRecursion}
-use Rattle.std.proofs.lemmas.List.Sums.{sum_by-append}
-use Rattle.ts_name.specs.Paths.{Name, Path, IsName, IsPath, IsBefore, path_cmp, below}
+use Rattle.ts_name.specs.Paths.{Name, Path, IsPath, IsBefore, path_cmp, below}
 use Rattle.ts_model.specs.Trees.{IsTree, Listing, listed, at, sub, Ascend, IsListing, IsSubListing}
 use Rattle.ts_model.specs.declared.row.Content.{Content}
 use Rattle.ts_model.specs.declared.row.Content.TheVariants.{Absent, Dir, File}
 use Rattle.ts_model.specs.declared.row.Row.{Row}
-use Rattle.ts_laws.proofs.Basics.{same_names}
 use Rattle.ts_name.specs.Laws.{tied_paths}
-use Rattle.ts_name.proofs.Prefixes.{below_append}
+use Rattle.ts_name.proofs.Prefixes.{below_append, rest_is_path}
 use Rattle.ts_name.proofs.Order.{before_flip}
-use Rattle.ts_name.proofs.Utf8.{all_parts}
 use Rattle.ts_name.proofs.Basics.{at_each, by_each, weaker}
 use Rattle.ts_laws.proofs.Lists.{Among, Among-from_Contains}
 use Rattle.ts_laws.proofs.Listings.{paths_of, decide_absent, listed_among}
 use Rattle.ts_model.proofs.Rows.{listed_here, listed_there}
+use Rattle.ts_model.proofs.Deciding.{same_names}
 
 -- ---- a row put in its place
 
@@ -243,14 +241,6 @@ rests_among p rest (q ∷ qs) among = go (below p q) refl among (λ more. rests_
     go None e (inr h) more = more h
     go (Some found) e (inl same) more = inl (let f = sym (left same) ∙ e in cc)
     go (Some found) e (inr h) more = inr (more h)
-
--- what is left of a path is one
-rest_is_path : (p rest : Path) → IsPath (p ++ rest) → IsPath rest
-rest_is_path p rest is = record {
-  names = (all_parts IsName p rest is.names).1;
-  depth = omega (arith, length-append p rest, is.depth);
-  size = omega (arith, sum_by-append length p rest, is.size);
-}
 
 -- the rows are those of a subtree
 pub record IsSubListingOf {F : Type 0} (t : Path → Content F) (p : Path) (rows : Listing F) : Type 0 where

@@ -22,7 +22,7 @@ use Rattle.ts_model.specs.declared.plan.Plan.{Plan}
 use Rattle.ts_model.specs.declared.row.Content.{Content}
 use Rattle.ts_model.specs.declared.row.Content.TheVariants.{Absent, Dir, File}
 use Rattle.ts_model.specs.declared.row.Stamp.{Stamp}
-use Rattle.ts_laws.proofs.Basics.{stable, Dec-both, Dec-either, Dec-not, same_number, same_names, same_stamp_at}
+use Rattle.ts_laws.proofs.Basics.{stable, Dec-both, Dec-either, Dec-not}
 use Rattle.ts_name.proofs.Prefixes.{decide_above}
 use Rattle.ts_name.proofs.Order.{decide_before}
 use Rattle.ts_laws.proofs.Grafts.{nothing_below, IsRooted}
@@ -34,6 +34,7 @@ use Rattle.ts_laws.proofs.Steps.{decide_marked}
 use Rattle.ts_laws.proofs.ActionKinds.{PieceParts, piece_of, decide_commit, decide_mark, decide_piece, decide_some_kind, decide_earlier, kind_as, decide_piece_at, decide_entry_at, decide_of_entry, decide_not_one_each}
 use Rattle.ts_laws.proofs.Plans.{decide_waits}
 use Rattle.ts_laws.proofs.Deciding.{decide_has_reason, replica_tree}
+use Rattle.ts_model.proofs.Deciding.{same_number, same_names, same_stamp_at}
 
 -- ---- one rule, one place
 

@@ -4,3 +4,5 @@ pub mod Spelling
 pub mod Lines
 pub mod Rows
 pub mod Told
+pub mod Listings
+pub mod Deciding

@@ -1,5 +1,5 @@
 -- A path has one reason, and none where nothing is; and which side an entry of a reason is copied from.
-use Rattle.std.proofs.Common.{◌≡◌, ◌≢◌, Bool, true, false, Option, Some, None, [], refl, sym, ap, ◌∙◌, inl, inr, append-nil}
+use Rattle.std.proofs.Common.{◌≡◌, ◌≢◌, Bool, true, false, Option, Some, [], refl, sym, ap, ◌∙◌, inl, inr, append-nil}
 use Rattle.std.proofs.lemmas.Bool.{true≢false}
 use Rattle.ts_name.specs.Paths.{Path}
 use Rattle.ts_model.specs.Trees.{sub}

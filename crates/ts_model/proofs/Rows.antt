@@ -41,6 +41,18 @@ stamped_absent Absent e = refl
 stamped_absent Dir e = cc
 stamped_absent (File bytes) e = cc
 
+-- where a directory is stamped one is
+pub stamped_dir : (x : Content (List ℕ)) → stamped x ≡ Dir → x ≡ Dir
+stamped_dir Absent e = cc
+stamped_dir Dir e = refl
+stamped_dir (File bytes) e = cc
+
+-- where a directory is something is
+pub dir_is_there : {F : Type 0} (x : Content F) → x ≡ Dir → x ≢ Absent
+dir_is_there Absent e none = cc
+dir_is_there Dir e none = cc
+dir_is_there (File x) e none = cc
+
 -- ---- contents
 
 -- what fits in each row fits at each path

@@ -2,7 +2,7 @@
 --     snapshot_of b                 what the checker reads of a bundle
 --     Trial bytes written status    what is written for these bytes, and the exit status
 --     HasContentsApart bytes        the premise: no two contents of the bundle's files share a stamp
-use Rattle.std.specs.Prelude.{◌≡◌, ◌⊎◌, ℕ, min, Bool, true, false, cond, List, [], ◌∷◌, ◌++◌, length, map, codes, decimal, count_by}
+use Rattle.std.specs.Prelude.{◌≡◌, ◌⊎◌, ℕ, min, true, false, cond, List, [], ◌∷◌, ◌++◌, length, map, codes, decimal, count_by}
 use Rattle.ts_name.specs.Paths.{path_text}
 use Rattle.ts_model.specs.declared.row.Stamp.{Stamp}
 use Rattle.ts_model.specs.Trees.{Listing, at, print_of, AreApart}

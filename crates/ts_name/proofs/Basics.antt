@@ -1,5 +1,5 @@
--- Small facts on functions, and on lists: what is at a place, and what holds of each element.
-use Rattle.std.proofs.Common.{◌≡◌, ℕ, zero, suc, ◌<◌, List, [], ◌∷◌, ◌++◌, length, Some, slice_get, map, refl, sym, ap, ◌∙◌, subst, arith}
+-- Small facts on functions, and on lists: what is at a place, what holds of each element, and their parts.
+use Rattle.std.proofs.Common.{◌≡◌, ℕ, zero, suc, ◌<◌, List, [], ◌∷◌, ◌++◌, ◌+◌, take, drop, length, Some, slice_get, map, refl, sym, ap, ◌∙◌, subst, append_assoc, arith}
 use Rattle.std.proofs.lemmas.Option.{none-some, same_Some}
 use Rattle.std.specs.List.{AllByRecursion}
 
@@ -52,3 +52,23 @@ element_at (x ∷ xs) (suc k) h = element_at xs k (omega arith)
 pub got_last : {A : Type 0} (xs : List A) (x : A) → slice_get (xs ++ x ∷ []) (length xs) ≡ Some x
 got_last [] x = refl
 got_last (y ∷ ys) x = got_last ys x
+
+-- what is at a place of a list is there in a longer one, too
+pub got_front : {A : Type 0} (xs ys : List A) (k : ℕ) (x : A) → slice_get xs k ≡ Some x → slice_get (xs ++ ys) k ≡ Some x
+got_front [] ys k x is = absurd (none-some x is)
+got_front (y ∷ xs) ys zero x is = is
+got_front (y ∷ xs) ys (suc k) x is = got_front xs ys k x is
+
+-- ---- parts of a list
+
+-- the first elements, and those that follow them
+pub take_part : {A : Type 0} (m n : ℕ) (xs : List A) → take m xs ++ take n (drop m xs) ≡ take (m + n) xs
+take_part zero n xs = let on : n ≡ zero + n = omega arith in ap (λ k. take k xs) on
+take_part (suc m) zero [] = let on : suc m ≡ suc m + zero = omega arith in ap (λ k. take k []) on
+take_part (suc m) (suc n) [] = let on : suc (m + suc n) ≡ suc m + suc n = omega arith in ap (λ k. take k []) on
+take_part (suc m) n (x ∷ xs) =
+    let on : suc (m + n) ≡ suc m + n = omega arith in ap (λ z. x ∷ z) (take_part m n xs) ∙ ap (λ k. take k (x ∷ xs)) on
+
+-- five lists in a row, from either end
+pub five_parts : {A : Type 0} (p f s h l : List A) → (((p ++ f) ++ s) ++ h) ++ l ≡ p ++ (f ++ (s ++ (h ++ l)))
+five_parts p f s h l = append_assoc ((p ++ f) ++ s) h l ∙ append_assoc (p ++ f) s (h ++ l) ∙ append_assoc p f (s ++ (h ++ l))

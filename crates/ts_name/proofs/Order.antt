@@ -5,7 +5,7 @@ use Rattle.std.proofs.lemmas.Bool.Decides.{same_from_decides}
 use Rattle.std.proofs.lemmas.Cmp.{nat_list_cmp_total, tied_itself}
 use Rattle.std.proofs.lemmas.Map.Lookups.{exact_bytes}
 use Rattle.std.specs.Cmp.Lexicographic.{slice_cmp}
-use Rattle.std.specs.Ordering.{ordering_then, ordering_reverse, is_eq, is_gt, is_lt}
+use Rattle.std.specs.Ordering.{ordering_then, ordering_reverse, is_gt, is_lt}
 use Rattle.ts_name.specs.Paths.{Name, Path, IsAbove, IsBefore, path_cmp, same_name, same_path}
 use Rattle.ts_name.specs.Buffers.{pieces, ended, HasNo}
 use Rattle.ts_name.proofs.Buffers.{AreFree, Holds, bytes_held, free_held}
@@ -20,11 +20,6 @@ pub is_lt_Less : (o : Ordering) → is_lt o ≡ true → o ≡ Less
 is_lt_Less Less e = refl
 is_lt_Less Equal e = cc
 is_lt_Less Greater e = cc
-
-pub is_eq_Equal : (o : Ordering) → is_eq o ≡ true → o ≡ Equal
-is_eq_Equal Less e = cc
-is_eq_Equal Equal e = refl
-is_eq_Equal Greater e = cc
 
 -- ---- the order of paths is that of their buffers
 

@@ -1,12 +1,14 @@
 -- Paths above one another, and what is left below one.
-use Rattle.std.proofs.Common.{◌≡◌, ◌≢◌, ◌⊎◌, ◌↔◌, IsTrue, inl, inr, ⊎_elim, ap₂, subst, append_assoc, append-nil, ℕ, Bool, true, false, cond, eqb, List, [], ◌∷◌, ◌++◌, Option, Some, None, refl, sym, ap, ◌∙◌}
+use Rattle.std.proofs.Common.{◌≡◌, ◌≢◌, ◌⊎◌, ◌↔◌, IsTrue, inl, inr, ⊎_elim, ap₂, subst, append_assoc, append-nil, ℕ, Bool, true, false, cond, eqb, List, [], ◌∷◌, ◌++◌, length, length-append, Option, Some, None, refl, sym, ap, ◌∙◌, arith}
 use Rattle.std.proofs.lemmas.Bool.{cond-true, false≢true}
 use Rattle.std.proofs.lemmas.List.{append_cancel_left}
-use Rattle.ts_name.specs.Paths.{Name, Path, IsAbove, same_name, below}
+use Rattle.ts_name.specs.Paths.{Name, Path, IsAbove, same_name, below, IsName, IsPath}
 use Rattle.std.specs.List.{starts_with}
 use Rattle.ts_name.specs.Buffers.{pieces, ended, HoldsParent}
 use Rattle.ts_name.specs.Laws.{same_name_equal, same_name_itself}
 use Rattle.ts_name.proofs.Buffers.{Holds, above_from_bytes, bytes_from_above, prefix_answer}
+use Rattle.std.proofs.lemmas.List.Sums.{sum_by-append}
+use Rattle.ts_name.proofs.Utf8.{all_parts}
 
 -- what follows a path is left below it
 pub below_append : (p rest : Path) → below p (p ++ rest) ≡ Some rest
@@ -156,3 +158,13 @@ pub parent_above : (bytes d : List ℕ) (p q : Path) → HoldsParent bytes p →
 parent_above bytes d p q (parent, name, e, buffer, is) h r f =
     let answer = prefix_answer bytes d parent q (record { buffer = buffer; path_is = is }) h r f in
     (λ t. (parent, name, e, answer.0 t), λ (other, last, g, over). answer.1 (subst (λ z. IsAbove z q) (same_parent other parent last name (sym g ∙ e)) over))
+
+-- ---- lawful paths
+
+-- what is left of a path below another one is a path
+pub rest_is_path : (p rest : Path) → IsPath (p ++ rest) → IsPath rest
+rest_is_path p rest is = record {
+  names = (all_parts IsName p rest is.names).1;
+  depth = omega (arith, length-append p rest, is.depth);
+  size = omega (arith, sum_by-append length p rest, is.size);
+}

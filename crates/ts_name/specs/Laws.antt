@@ -76,24 +76,24 @@ path_itself p = tied_itself path_total p
 pub path_turned : (p q : Path) → path_cmp p q ≡ ordering_reverse (path_cmp q p)
 path_turned p q = path_total.antisymm p q
 
-level : (o : Ordering) → is_eq o ≡ true → o ≡ Equal
-level Less e = cc
-level Equal e = refl
-level Greater e = cc
+pub is_eq_Equal : (o : Ordering) → is_eq o ≡ true → o ≡ Equal
+is_eq_Equal Less e = cc
+is_eq_Equal Equal e = refl
+is_eq_Equal Greater e = cc
 
 -- the test of paths answers as their order does
 pub path_ties : (p q : Path) → same_path p q ≡ eq_by_cmp path_cmp p q
 path_ties p q =
     same_from_decides {P = p ≡ q} (same_path p q) (eq_by_cmp path_cmp p q)
     (same_path_equal p q, λ e. subst (λ z. same_path p z ≡ true) e (same_path_itself p))
-    (λ h. tied_paths p q (level _ h), λ e. ap is_eq (subst (λ z. path_cmp p z ≡ Equal) e (path_itself p)))
+    (λ h. tied_paths p q (is_eq_Equal _ h), λ e. ap is_eq (subst (λ z. path_cmp p z ≡ Equal) e (path_itself p)))
 
 -- and so does that of names
 pub name_ties : (x y : Name) → same_name x y ≡ eq_by_cmp (slice_cmp nat_cmp) x y
 name_ties x y =
     same_from_decides {P = x ≡ y} (same_name x y) (eq_by_cmp (slice_cmp nat_cmp) x y)
     (same_name_equal x y, λ e. subst (λ z. same_name x z ≡ true) e (same_name_itself x))
-    (λ h. tied_names x y (level _ h), λ e. ap is_eq (subst (λ z. slice_cmp nat_cmp x z ≡ Equal) e (tied_itself nat_list_cmp_total x)))
+    (λ h. tied_names x y (is_eq_Equal _ h), λ e. ap is_eq (subst (λ z. slice_cmp nat_cmp x z ≡ Equal) e (tied_itself nat_list_cmp_total x)))
 
 pub path_equivalence : IsEquivalence same_path
 path_equivalence = subst (λ E. IsEquivalence E) (λ i p q. sym (path_ties p q) i) (eq_by_cmp_equiv path_total)

@@ -1,10 +1,10 @@
 -- From a path up to the root.
-use Rattle.std.proofs.Common.{◌≡◌, ◌≢◌, ℕ, suc, List, [], ◌∷◌, ◌++◌, length, MatchOption, Option, Some, None, sym, refl, ap, ◌∙◌, subst, append_assoc, append-nil}
+use Rattle.std.proofs.Common.{◌≡◌, ℕ, suc, List, [], ◌∷◌, ◌++◌, length, MatchOption, Option, Some, None, sym, refl, ap, ◌∙◌, subst, append_assoc, append-nil}
 use Rattle.std.proofs.lemmas.Option.{none-some, same_Some}
 use Rattle.ts_name.specs.Paths.{Name, Path, IsAbove}
 use Rattle.ts_model.specs.Holds.{Names}
 use Rattle.ts_model.specs.declared.hold.Rule.{Rule}
-use Rattle.ts_name.proofs.Prefixes.{above_parent}
+use Rattle.ts_name.proofs.Prefixes.{above_parent, root_not_below}
 
 -- the named paths strictly above p are at or above this one
 pub record IsClimb (rules : List Rule) (p : Path) (up : Option Path) : Type 0 where
@@ -20,13 +20,9 @@ climb_left (Some q) = suc (length q)
 abbrev pub IsParent : Path → Option Path → Type 0
 IsParent p up = MatchOption up (p ≡ []) (λ q. (name : Name) × (p ≡ q ++ name ∷ []))
 
-no_root : (h : Path) (name : Name) (rest : Path) → [] ≢ h ++ name ∷ rest
-no_root [] name rest e = cc
-no_root (x ∷ h) name rest e = cc
-
 pub IsClimb-start : (rules : List Rule) (p : Path) (up : Option Path) → IsParent p up → IsClimb rules p up
 IsClimb-start rules p None root = record {
-  covers = λ h name rest e named. absurd (no_root h name rest (sym root ∙ e));
+  covers = λ h name rest e named. absurd (root_not_below h name rest (sym root ∙ e));
   place = λ q e. absurd (none-some q e);
 }
 IsClimb-start rules p (Some q) parent = record {

@@ -8,11 +8,12 @@ use Rattle.ts_model.specs.declared.plan.Reason.TheVariants as reason
 use Rattle.ts_model.specs.declared.plan.Side.{Side}
 use Rattle.ts_model.specs.declared.plan.Side.TheVariants as side
 use Rattle.ts_model.specs.declared.row.Content.TheVariants.{Dir}
-use Rattle.ts_laws.proofs.Basics.{stable, same_stamp_at}
+use Rattle.ts_laws.proofs.Basics.{stable}
 use Rattle.ts_name.proofs.Basics.{by_each, at_each}
 use Rattle.ts_laws.proofs.Deciding.{decide_changed}
 use Rattle.ts_model.proofs.Reasons.{one_because}
 use Rattle.ts_need.specs.Needs.{IsReasonOf, difference_reason}
+use Rattle.ts_model.proofs.Deciding.{same_stamp_at}
 
 -- a test and the fact that it decides
 pub data Tells (b : Bool) (P : Type 0) : Type 0 where

@@ -11,7 +11,6 @@ use Rattle.ts_name.specs.Paths.{Path, path_cmp}
 use Rattle.ts_table.proofs.Found.{rises}
 use Rattle.ts_name.specs.Laws.{path_total, tied_paths}
 use Rattle.ts_name.proofs.Prefixes.{snoc_not_empty}
-use Rattle.ts_laws.proofs.Basics.{same_stamp_at}
 use Rattle.ts_model.specs.Sync.{Snapshot, listed_snapshot}
 use Rattle.ts_laws.proofs.Reasons.{IsWhole-from_snapshot}
 use Rattle.ts_laws.proofs.Rules.{nowhere_no_reason}
@@ -24,10 +23,11 @@ use Rattle.ts_model.specs.declared.row.Row.{Row}
 use Rattle.ts_model.specs.declared.row.Stamp.{Stamp}
 use Rattle.ts_need.proofs.Listed.{listed_row}
 use Rattle.ts_laws.proofs.Plans.{entries_in_order}
-use Rattle.ts_need.proofs.Touches.{listed_lawful}
 use Rattle.ts_need.specs.Needs.{IsFirst, LacksAt, LacksAmong, lesser_of}
 use Rattle.ts_model.proofs.Rows.{at_listed}
 use Rattle.ts_name.proofs.Basics.{element_at}
+use Rattle.ts_laws.proofs.Listings.{listed_lawful}
+use Rattle.ts_model.proofs.Deciding.{same_stamp_at}
 
 -- ---- entries in order
 

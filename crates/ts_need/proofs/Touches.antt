@@ -2,7 +2,7 @@
 use Rattle.std.proofs.Common.{◌≡◌, ◌≢◌, ◌⊎◌, List, [], ◌∷◌, ◌++◌, Any, sym, refl, ◌∙◌, inl, inr, append-nil}
 use Rattle.ts_name.specs.Paths.{Path, IsAbove}
 use Rattle.ts_model.specs.Holds.{Names, IsHeld}
-use Rattle.ts_model.specs.Sync.{IsSnapshot, IsBelowDirs, TouchesHeld, listed_snapshot}
+use Rattle.ts_model.specs.Sync.{IsBelowDirs, TouchesHeld, listed_snapshot}
 use Rattle.ts_model.specs.Trees.{Listing, IsListing, at}
 use Rattle.ts_model.specs.declared.hold.Rule.{Rule}
 use Rattle.ts_model.specs.declared.row.Content.{Content}
@@ -11,14 +11,10 @@ use Rattle.ts_model.specs.declared.row.Row.{Row}
 use Rattle.ts_model.specs.declared.row.Stamp.{Stamp}
 use Rattle.ts_table.specs.Tables.{rows_below}
 use Rattle.ts_name.proofs.Prefixes.{snoc_not_empty}
-use Rattle.ts_laws.proofs.Listings.{IsTree-from_listing}
+use Rattle.ts_laws.proofs.Listings.{listed_lawful}
 use Rattle.ts_laws.proofs.Reasons.{IsWhole-from_snapshot, dirs_above_relevant}
 use Rattle.ts_need.proofs.Listed.{any_below, below_any}
 use Rattle.ts_need.specs.Needs.{IsNamedAbove}
-
--- three listings are a lawful snapshot
-pub listed_lawful : (xs ys zs : Listing Stamp) (rules : List Rule) → IsListing xs → IsListing ys → IsListing zs → IsSnapshot (listed_snapshot xs ys zs rules)
-listed_lawful xs ys zs rules a b c = record { archive = IsTree-from_listing xs a; first = IsTree-from_listing ys b; second = IsTree-from_listing zs c }
 
 module _ (xs ys zs : Listing Stamp) (rules : List Rule) (a : IsListing xs) (b : IsListing ys) (c : IsListing zs) (p : Path) (below : IsBelowDirs (at ys) (at zs) p) where
   not_root : p ≢ []

@@ -16,9 +16,9 @@ use Rattle.ts_dirty.proofs.Order.{above_upto, above_between}
 use Rattle.ts_plan_build.specs.declared.builder.NewDir.{NewDir}
 use Rattle.ts_plan_build.specs.Blocks.{block, mark_of}
 use Rattle.ts_plan_build.specs.Built.{IsAboveMark, IsBuilt, AreOff, AreLeft, IsKept, AreOrdered}
-use Rattle.ts_plan_build.proofs.Places.{get_left, get_right, get_cases, get_one}
+use Rattle.ts_plan_build.proofs.Places.{get_right, get_cases, get_one}
 use Rattle.ts_plan_build.proofs.Building.{built_more}
-use Rattle.ts_name.proofs.Basics.{same_at, element_at}
+use Rattle.ts_name.proofs.Basics.{same_at, element_at, got_front}
 use Rattle.ts_laws.proofs.Reasons.{decide_reason}
 
 -- ---- leaving
@@ -95,7 +95,7 @@ module _ (entries : List Entry) (ordered : AreOrdered entries) where
   module _ (acts : List Action) (k : ℕ) (old now : List NewDir) (entry : Entry) (dirs : AreDirs entries acts k old) (left : AreLeft entry.path old now) (is : slice_get entries k ≡ Some entry) where
     -- what stays stood there
     stayed : (i : ℕ) (d : NewDir) → slice_get now i ≡ Some d → slice_get old i ≡ Some d
-    stayed i d h = subst (λ (z : List NewDir). slice_get z i ≡ Some d) (sym left.left.parts) (get_left now left.left.back i d h)
+    stayed i d h = subst (λ (z : List NewDir). slice_get z i ≡ Some d) (sym left.left.parts) (got_front now left.left.back i d h)
 
     -- all above the k-th entry stay
     stay : (x : ℕ) (dir : Entry) → x < k → slice_get entries x ≡ Some dir → dir.reason ≡ reason.Dir → IsAbove dir.path entry.path → (i : ℕ) × (d : NewDir) × (slice_get now i ≡ Some d) × (d.path.now ≡ dir.path)
@@ -158,7 +158,7 @@ module _ (entries : List Entry) (ordered : AreOrdered entries) where
     dirs_more more next m added e kept marked = go (decide_reason entry.reason reason.Dir)
       where
         grown : (i : ℕ) (a : Action) → slice_get acts i ≡ Some a → slice_get more i ≡ Some a
-        grown i a h = subst (λ (z : List Action). slice_get z i ≡ Some a) (sym e) (get_left acts added i a h)
+        grown i a h = subst (λ (z : List Action). slice_get z i ≡ Some a) (sym e) (got_front acts added i a h)
 
         older : (d : NewDir) → IsDirOf entries acts k d → IsDirOf entries more (k + 1) d
         older d one = record {
@@ -209,7 +209,7 @@ module _ (entries : List Entry) (ordered : AreOrdered entries) where
               ];
               nested = λ i j f g less at_i at_j. nested d path_is i j f g less (get_cases now (d ∷ []) i f at_i) (get_cases now (d ∷ []) j g at_j);
               all = λ x y dir other f at_y less there new above. elim (cases_lt x k) [
-                | inl before ↦ let found = stay x dir before there new (subst (λ (z : Entry). IsAbove dir.path z.path) (at_k y other f at_y) above) in (found.0, found.1, get_left now (d ∷ []) found.0 found.1 found.2, found.3)
+                | inl before ↦ let found = stay x dir before there new (subst (λ (z : Entry). IsAbove dir.path z.path) (at_k y other f at_y) above) in (found.0, found.1, got_front now (d ∷ []) found.0 found.1 found.2, found.3)
                 | inr after ↦ (length now, d, get_right now (d ∷ []) (length now) 0 d (omega arith) refl, path_is ∙ ap (λ (z : Entry). z.path) (sym (same_at entries k dir entry (subst (λ (v : ℕ). slice_get entries v ≡ Some dir) (let g : x ≡ k = omega arith in g) there) is)))
               ];
             })

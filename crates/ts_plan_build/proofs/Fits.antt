@@ -20,7 +20,6 @@ use Rattle.ts_model.specs.declared.plan.Entry.{Entry}
 use Rattle.ts_model.specs.declared.plan.Action.{Action}
 use Rattle.ts_model.specs.declared.plan.Plan.{Plan}
 use Rattle.ts_model.specs.declared.plan.Reason.{Reason}
-use Rattle.ts_dirty.proofs.Dirt.{same_content}
 use Rattle.ts_recon.specs.Reasons.{AreReasons}
 use Rattle.ts_recon.proofs.Gathered.{no_reason}
 use Rattle.ts_table.specs.Tables.{is_above, rows_below}
@@ -29,16 +28,13 @@ use Rattle.ts_plan_build.specs.Built.{entry_of, IsBuilt}
 use Rattle.ts_plan_build.proofs.Places.{get_cases, at_each_below}
 use Rattle.ts_plan_build.proofs.Ranges.{IsKept, in_filter}
 use Rattle.ts_plan_build.proofs.Rules.{side_rows, contains_entry, View, is_piece, is_commit, is_copy_mark, is_mark, located, view, entry_here, ascends_at}
+use Rattle.ts_name.proofs.Basics.{all_at}
+use Rattle.ts_model.proofs.Deciding.{same_stamp_at}
 
 -- what holds of each element
 all_from : {A : Type 0} (P : A → Type 0) (xs : List A) → ((i : ℕ) (x : A) → slice_get xs i ≡ Some x → P x) → AllByRecursion P xs
 all_from P [] h = tt
 all_from P (x ∷ xs) h = (h 0 x refl, all_from P xs (λ i y e. h (suc i) y e))
-
-all_at : {A : Type 0} (P : A → Type 0) (xs : List A) → AllByRecursion P xs → (i : ℕ) (x : A) → slice_get xs i ≡ Some x → P x
-all_at P [] h i x e = absurd (none-some x e)
-all_at P (y ∷ xs) h zero x e = let f : Some y ≡ Some x = e in subst P (let g : y ≡ x = cc in g) h.0
-all_at P (y ∷ xs) h (suc i) x e = all_at P xs h.1 i x e
 
 -- ---- paths
 
@@ -63,11 +59,11 @@ reason_path A F S rules lists_a lists_f lists_s p r has = (lawful, not_root)
     not_root e = snoc_not_empty has.0.0 has.0.1 (sym has.0.2 ∙ e)
 
     lawful : IsPath p
-    lawful = elim (same_content (at A p) Absent) [
+    lawful = elim (same_stamp_at (at A p) Absent) [
       | no there ↦ there_path A lists_a p not_root there
-      | yes a ↦ elim (same_content (at F p) Absent) [
+      | yes a ↦ elim (same_stamp_at (at F p) Absent) [
         | no there ↦ there_path F lists_f p not_root there
-        | yes f ↦ elim (same_content (at S p) Absent) [
+        | yes f ↦ elim (same_stamp_at (at S p) Absent) [
           | no there ↦ there_path S lists_s p not_root there
           | yes e ↦ absurd (no_reason A F S rules lists_a lists_f lists_s p a f e r has)
         ]

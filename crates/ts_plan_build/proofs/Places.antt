@@ -3,13 +3,7 @@ use Rattle.std.proofs.Common.{◌≡◌, ◌⊎◌, ℕ, zero, suc, ◌+◌, ◌
 use Rattle.std.proofs.lemmas.Bool.{cases_lt}
 use Rattle.std.proofs.lemmas.Option.{none-some, slice_get_within}
 use Rattle.ts_plan_build.specs.Blocks.{each_below}
-use Rattle.ts_name.proofs.Basics.{same_at}
-
--- in the first part
-pub get_left : {A : Type 0} (xs ys : List A) (i : ℕ) (x : A) → slice_get xs i ≡ Some x → slice_get (xs ++ ys) i ≡ Some x
-get_left [] ys i x e = absurd (none-some x e)
-get_left (y ∷ xs) ys zero x e = e
-get_left (y ∷ xs) ys (suc i) x e = get_left xs ys i x e
+use Rattle.ts_name.proofs.Basics.{same_at, got_front}
 
 -- in the second
 pub get_right : {A : Type 0} (xs ys : List A) (i j : ℕ) (x : A) → i ≡ length xs + j → slice_get ys j ≡ Some x → slice_get (xs ++ ys) i ≡ Some x
@@ -40,7 +34,7 @@ length-each_below f (suc n) = let l : length (each_below f n) ≡ n = length-eac
 pub each_below_at : {A : Type 0} (f : ℕ → A) (n i : ℕ) → i < n → slice_get (each_below f n) i ≡ Some (f i)
 each_below_at f zero i l = absurd (omega arith)
 each_below_at f (suc n) i l = elim (cases_lt i n) [
-  | inl less ↦ get_left (each_below f n) (f n ∷ []) i (f i) (each_below_at f n i less)
+  | inl less ↦ got_front (each_below f n) (f n ∷ []) i (f i) (each_below_at f n i less)
   | inr more ↦
       let same : i ≡ n = omega arith in
       get_right (each_below f n) (f n ∷ []) i 0 (f i) (let k : length (each_below f n) ≡ n = length-each_below f n in omega arith) (ap (λ (k : ℕ). Some (f k)) (sym same))

@@ -2,9 +2,8 @@
 use Rattle.std.proofs.Common.{◌≡◌, ◌≢◌, ◌⊎◌, ℕ, zero, suc, ◌+◌, ◌-◌, ◌*◌, ◌/◌, ◌%◌, ◌<◌, min, Bool, true, false, cond, List, [], ◌∷◌, length, Option, Some, None, slice_get, refl, sym, ap, ◌∙◌, subst, inl, inr, arith}
 use Rattle.std.proofs.Math.Nat.{mul-mod_left}
 use Rattle.std.proofs.lemmas.Option.{none-some}
-use Rattle.std.specs.List.{AllByRecursion}
 use Rattle.std.specs.Prelude.{filter}
-use Rattle.ts_name.specs.Paths.{Path, IsPath, IsAbove, IsBefore, below, same_path}
+use Rattle.ts_name.specs.Paths.{Path, IsAbove, IsBefore, below, same_path}
 use Rattle.ts_name.proofs.Prefixes.{below_append, below_gives}
 use Rattle.ts_model.specs.Trees.{Listing, listed, at, Ascend, IsListing}
 use Rattle.ts_model.specs.Plans.{IsRange}
@@ -18,11 +17,12 @@ use Rattle.ts_name.proofs.Order.{before_itself, before_trans}
 use Rattle.ts_name.specs.Laws.{same_path_equal}
 use Rattle.ts_table.specs.Tables.{is_above, rows_below}
 use Rattle.ts_plan_build.specs.Blocks.{each_below, piece_count, piece_of, row_pieces, pieces_of}
-use Rattle.ts_plan_build.proofs.Places.{get_left, get_right, get_cases, each_below_at, at_each_below}
+use Rattle.ts_plan_build.proofs.Places.{get_right, get_cases, each_below_at, at_each_below}
 use Rattle.ts_plan_build.proofs.Counting.{count_some, piece_within}
 use Rattle.ts_plan_build.proofs.Inside.{IsPieceAt, pieces_at}
 use Rattle.ts_model.proofs.Rows.{listed_here, listed_there}
-use Rattle.ts_table.proofs.Listings.{is_above_gives, is_above_yes}
+use Rattle.ts_table.proofs.Listings.{is_above_gives, is_above_yes, at_row}
+use Rattle.ts_name.proofs.Basics.{got_front}
 
 -- ---- rows
 
@@ -91,19 +91,6 @@ row_listed (x ∷ rows) p stamp h = go (same_path x.path p) refl h (row_listed r
     go true is f more = (0, x, refl, same_path_equal x.path p is, f)
     go false is f more = let found = more f in (suc found.0, found.1, found.2, found.3, found.4)
 
--- a listing's row says what is at its path
-at_row : (rows : Listing Stamp) → IsListing rows → (k : ℕ) (row : Row Stamp) → slice_get rows k ≡ Some row → at rows row.path ≡ row.content
-at_row rows lists k row h = go row.path refl
-  where
-    not_root : (rows : Listing Stamp) → AllByRecursion (λ row. IsPath row.path × (row.path ≢ []) × (row.content ≢ Absent)) rows → (k : ℕ) → slice_get rows k ≡ Some row → row.path ≢ []
-    not_root [] all k f = absurd (none-some row f)
-    not_root (x ∷ rows) all zero f = let g : Some x ≡ Some row = f in subst (λ (z : Row Stamp). z.path ≢ []) (let g' : x ≡ row = cc in g') all.0.1
-    not_root (x ∷ rows) all (suc k) f = not_root rows all.1 k f
-
-    go : (p : Path) → row.path ≡ p → at rows row.path ≡ row.content
-    go [] e = absurd (not_root rows lists.rows_are k h e)
-    go (n ∷ p) e = ap (at rows) e ∙ ap (listed rows) (sym e) ∙ listed_row rows k row (in_order_from rows lists.ascending) h
-
 -- ---- lawful pieces
 
 range_of : (size j : ℕ) → j < piece_count size → IsRange size (j * 1048576) (min 1048576 (size - j * 1048576))
@@ -135,7 +122,7 @@ lawful_from rows lists top x e offset len p a one k =
 -- the pieces of a row are among those of the rows
 flat_has : (e : ℕ) (rows : List (Row Stamp)) (k t : ℕ) (row : Row Stamp) (a : Action) → slice_get rows k ≡ Some row → slice_get (row_pieces e row) t ≡ Some a → (j : ℕ) × (slice_get (pieces_of e rows) j ≡ Some a)
 flat_has e [] k t row a h f = absurd (none-some row h)
-flat_has e (x ∷ rows) zero t row a h f = (t, get_left (row_pieces e x) (pieces_of e rows) t a (subst (λ (z : Row Stamp). slice_get (row_pieces e z) t ≡ Some a) (let g : Some x ≡ Some row = h in let g' : row ≡ x = cc in g') f))
+flat_has e (x ∷ rows) zero t row a h f = (t, got_front (row_pieces e x) (pieces_of e rows) t a (subst (λ (z : Row Stamp). slice_get (row_pieces e z) t ≡ Some a) (let g : Some x ≡ Some row = h in let g' : row ≡ x = cc in g') f))
 flat_has e (x ∷ rows) (suc k) t row a h f = let found = flat_has e rows k t row a h f in (length (row_pieces e x) + found.0, get_right (row_pieces e x) (pieces_of e rows) (length (row_pieces e x) + found.0) found.0 a refl found.1)
 
 row_has : (e : ℕ) (row : Row Stamp) (stamp : Stamp) (t : ℕ) → row.content ≡ File stamp → t < piece_count stamp.size → slice_get (row_pieces e row) t ≡ Some (piece_of e row.path stamp.size t)
@@ -196,7 +183,7 @@ pieces_once e (row ∷ rows) order i j a b h g offset len other p k m =
 
     apart : (c d : Action) (n n' : ℕ) (x y : ℕ) → slice_get (row_pieces e row) x ≡ Some c → slice_get (pieces_of e rows) y ≡ Some d → c.kind ≡ Piece e offset n p → d.kind ≡ Piece e offset n' p → ⊥
     apart c d n n' x y f f' is is' =
-        let one = pieces_at e (row ∷ []) x c (get_left (row_pieces e row) [] x c f) in
+        let one = pieces_at e (row ∷ []) x c (got_front (row_pieces e row) [] x c f) in
         let later = pieces_at e rows y d f' in
         let here : one.row ≡ row = only one.place one.row one.among in
         let before = order.0 later.place later.row later.among in

@@ -25,11 +25,11 @@ use Rattle.ts_recon.specs.Reasons.{AreReasons}
 use Rattle.ts_table.specs.Tables.{rows_below}
 use Rattle.ts_plan_build.specs.Blocks.{each_below, pieces_of, commit_of, mark_of, some_of, copy_block, block, block_by}
 use Rattle.ts_plan_build.specs.Built.{entry_of, IsNearestMark, IsAboveMark, IsLocated, IsBuilt, AreOrdered}
-use Rattle.ts_plan_build.proofs.Places.{get_left, get_right, get_cases, get_one, each_below_at}
+use Rattle.ts_plan_build.proofs.Places.{get_right, get_cases, get_one, each_below_at}
 use Rattle.ts_plan_build.proofs.Inside.{pieces_at, CopyAt, piece, commit, mark, copy_at, commit_there, mark_there}
 use Rattle.ts_plan_build.proofs.Dirs.{in_order}
 use Rattle.ts_plan_build.proofs.Ranges.{IsLawful, lawful_from, piece_there, pieces_once, below_order}
-use Rattle.ts_name.proofs.Basics.{same_at, element_at}
+use Rattle.ts_name.proofs.Basics.{same_at, element_at, got_front}
 use Rattle.ts_model.specs.declared.plan.Treatment.{Treatment}
 use Rattle.ts_model.specs.declared.plan.Treatment.TheVariants.{Copied, Agreed, NewDirectory, Skipped}
 use Rattle.ts_model.proofs.Reasons.{left_from_skipped, skipped_from_left}
@@ -115,7 +115,7 @@ module _ (F S : Listing Stamp) (plan : Plan) (w : IsBuilt F S plan.entries plan.
       ]
 
   from_block : (e : ℕ) (entry : Entry) (l : IsLocated F S plan.entries plan.actions e entry) (j : ℕ) (a : Action) → slice_get (block F S e entry.path entry.reason l.above (length l.before)) j ≡ Some a → ActionIs plan (length l.before + j) a
-  from_block e entry l j a h = subst (λ (z : List Action). slice_get z (length l.before + j) ≡ Some a) (sym l.here) (get_right l.before _ (length l.before + j) j a refl (get_left _ l.after j a h))
+  from_block e entry l j a h = subst (λ (z : List Action). slice_get z (length l.before + j) ≡ Some a) (sym l.here) (get_right l.before _ (length l.before + j) j a refl (got_front _ l.after j a h))
 
   -- each action of an entry is one of these
   pub view : (e : ℕ) (entry : Entry) (l : IsLocated F S plan.entries plan.actions e entry) (i : ℕ) (a : Action) → ActionIs plan i a → entry_of a.kind ≡ e → View e entry l i a
@@ -382,7 +382,7 @@ module _ (F S : Listing Stamp) (plan : Plan) (w : IsBuilt F S plan.entries plan.
           let up = near.nearest h.1 h.4.dir (h.4.is_dir, h.4.new_dir, subst (λ (z : Entry). IsAbove h.4.dir.path z.path) same h.4.above, subst (λ (z : Entry). h.4.dir.path ≢ z.path) same h.4.strictly) in
           let down = h.4.nearest near.number near.dir near.is_above.0 near.is_above.1 (subst (λ (z : Entry). IsAbove near.dir.path z.path) (sym same) near.is_above.2) (subst (λ (z : Entry). near.dir.path ≢ z.path) (sym same) near.is_above.3) in
           let number : near.number ≡ h.1 = same_number near.number h.1 near.dir h.4.dir near.is_above.0 h.4.is_dir (above_turned near.dir.path h.4.dir.path down up) in
-          let there : ActionIs plan m near.action = subst (λ (z : List Action). slice_get z m ≡ Some near.action) (sym l.here) (get_left l.before _ m near.action near.there) in
+          let there : ActionIs plan m near.action = subst (λ (z : List Action). slice_get z m ≡ Some near.action) (sym l.here) (got_front l.before _ m near.action near.there) in
           let first = mark_found h.1 h.2 h.5.0 h.5.1 h.5.2 in
           let place_is : h.2 ≡ m = one_mark_place h.1 h.2 m h.5.0 near.action first.0 first.1.0 there (near.kind ∙ ap (λ (n : ℕ). Mark n) number) first.1.1 in
           subst (λ (z : Action). Contains z.preds h.2) (sym (is ∙ ap (λ (o : Option ℕ). mark_of h.0 o c) f)) (contains_at (m ∷ some_of c) 0 h.2 (ap (λ (n : ℕ). Some n) (sym place_is)))
@@ -457,7 +457,7 @@ module _ (F S : Listing Stamp) (plan : Plan) (w : IsBuilt F S plan.entries plan.
       h.6 (length l.before + there.0) there.2 (
         there.1,
         from_block h.0 entry l there.0 there.1
-            (subst (λ (z : List Action). slice_get z there.0 ≡ Some there.1) (sym (copied_block h.0 entry from l.above (length l.before) h.5.3.1)) (get_left (pieces h.0 entry from) _ there.0 there.1 there.3)),
+            (subst (λ (z : List Action). slice_get z there.0 ≡ Some there.1) (sym (copied_block h.0 entry from l.above (length l.before) h.5.3.1)) (got_front (pieces h.0 entry from) _ there.0 there.1 there.3)),
         there.4,
       )
     where

@@ -19,8 +19,9 @@ use Rattle.ts_name.specs.Laws.{same_path_differ, same_path_equal, same_path_itse
 use Rattle.ts_name.proofs.Prefixes.{below_append, below_gives}
 use Rattle.ts_name.proofs.Order.{before_itself}
 use Rattle.ts_name.proofs.Basics.{by_each, weaker}
-use Rattle.ts_table.proofs.Rows.{ascend_first, ascend_pair}
+use Rattle.ts_table.proofs.Rows.{ascend_pair}
 use Rattle.ts_model.proofs.Rows.{ascend_rest}
+use Rattle.ts_model.proofs.Listings.{ascend_first}
 
 -- ---- rows whose contents change
 

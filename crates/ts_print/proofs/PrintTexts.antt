@@ -101,3 +101,7 @@ row_text_lines p (File x) fits = (file_line p x fits.0 fits.3, tt)
 
 pub print_text_lines : (rows : Listing Stamp) → RowsFit rows → AreTextLines (print_lines rows)
 print_text_lines rows fit = row_lists.each_line print_row_lines RowFits IsLine row_text_lines rows fit
+
+-- the lines of a print are lines of a text
+pub print_are_lines : (rows : Listing Stamp) → IsPrintBody rows → AreTextLines (print_lines rows)
+print_are_lines rows is = print_text_lines rows (rows_fit rows is)

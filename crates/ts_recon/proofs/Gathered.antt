@@ -6,7 +6,7 @@ use Rattle.ts_model.specs.Trees.{Listing, at, IsListing}
 use Rattle.ts_model.specs.Sync.{Snapshot, listed_snapshot, AreBothDirs, IsBelowDirs, HasReason}
 use Rattle.ts_model.specs.declared.hold.Rule.{Rule}
 use Rattle.ts_model.specs.declared.row.Content.{Content}
-use Rattle.ts_model.specs.declared.row.Content.TheVariants.{Absent, Dir, File}
+use Rattle.ts_model.specs.declared.row.Content.TheVariants.{Absent, Dir}
 use Rattle.ts_model.specs.declared.row.Stamp.{Stamp}
 use Rattle.ts_model.specs.declared.plan.Entry.{Entry}
 use Rattle.ts_model.specs.declared.plan.Reason.{Reason}
@@ -15,10 +15,11 @@ use Rattle.ts_name.proofs.Order.{decide_before, before_turned, before_below}
 use Rattle.ts_name.proofs.Prefixes.{above_trans, last_name, snoc_not_empty, same_parent, snoc_not_empty}
 use Rattle.ts_dirty.proofs.Order.{above_between}
 use Rattle.ts_dirty.proofs.Walks.{IsLeft, IsThere, left_all, left_none, step_forward, step_left, step_there, step_between}
-use Rattle.ts_dirty.proofs.Dirt.{same_content}
 use Rattle.ts_dirty.proofs.Upto.{upto_later, upto_next, upto_root, ascending_more, each_more}
 use Rattle.ts_recon.specs.Reasons.{AreReasons, IsReasonOf, IsSeen, with_reason}
 use Rattle.ts_model.proofs.Reasons.{one_because, nothing_no_reason}
+use Rattle.ts_model.proofs.Rows.{dir_is_there}
+use Rattle.ts_model.proofs.Deciding.{same_stamp_at}
 
 -- ---- paths
 
@@ -35,25 +36,19 @@ above_length q p h = let e : length p ≡ length (q ++ h.0) = ap length h.1 in o
 
 -- ---- trees
 
--- a directory is there
-not_absent : (x : Content Stamp) → x ≡ Dir → x ≢ Absent
-not_absent Absent e f = cc
-not_absent Dir e f = cc
-not_absent (File x) e f = cc
-
 -- whatever is strictly above something is a directory
 rooted : (rows : Listing Stamp) → IsListing rows → (p : Path) (name : Name) (rest : Path) → at rows (p ++ name ∷ rest) ≢ Absent → at rows p ≡ Dir
 rooted rows lists p name [] there = lists.parents p name there
 rooted rows lists p name (next ∷ rest) there = lists.parents p name (λ e.
     let below_dir : at rows (p ++ name ∷ []) ≡ Dir = rooted rows lists (p ++ name ∷ []) next rest (λ f. there (ap (at rows) (sym (append_assoc p (name ∷ []) (next ∷ rest))) ∙ f)) in
-    not_absent (at rows (p ++ name ∷ [])) below_dir e)
+    dir_is_there (at rows (p ++ name ∷ [])) below_dir e)
 
 -- at and below what is absent there is nothing
 absent_below : (rows : Listing Stamp) → IsListing rows → (p rest : Path) → at rows p ≡ Absent → at rows (p ++ rest) ≡ Absent
 absent_below rows lists p [] e = ap (at rows) (append-nil p) ∙ e
-absent_below rows lists p (name ∷ rest) e = elim (same_content (at rows (p ++ name ∷ rest)) Absent) [
+absent_below rows lists p (name ∷ rest) e = elim (same_stamp_at (at rows (p ++ name ∷ rest)) Absent) [
   | yes f ↦ f
-  | no there ↦ absurd (not_absent (at rows p) (rooted rows lists p name rest there) e)
+  | no there ↦ absurd (dir_is_there (at rows p) (rooted rows lists p name rest there) e)
 ]
 
 -- ---- gathered entries
@@ -143,8 +138,8 @@ module _ (A F S : Listing Stamp) (rules : List Rule) (lists_a : IsListing A) (li
       down rows lists dir up = leads up.0 up.1
         where
           leads : (rest : Path) → h.parent ≡ q ++ rest → at rows q ≡ Dir
-          leads [] e = lists.parents q h.name (λ g. not_absent (at rows p) dir (ap (at rows) (h.is_child ∙ ap (λ (z : Path). z ++ h.name ∷ []) (e ∙ append-nil q)) ∙ g))
-          leads (m ∷ rest) e = rooted rows lists q m (rest ++ h.name ∷ []) (λ g. not_absent (at rows p) dir (ap (at rows) (h.is_child ∙ ap (λ (z : Path). z ++ h.name ∷ []) e ∙ append_assoc q (m ∷ rest) (h.name ∷ [])) ∙ g))
+          leads [] e = lists.parents q h.name (λ g. dir_is_there (at rows p) dir (ap (at rows) (h.is_child ∙ ap (λ (z : Path). z ++ h.name ∷ []) (e ∙ append-nil q)) ∙ g))
+          leads (m ∷ rest) e = rooted rows lists q m (rest ++ h.name ∷ []) (λ g. dir_is_there (at rows p) dir (ap (at rows) (h.is_child ∙ ap (λ (z : Path). z ++ h.name ∷ []) e ∙ append_assoc q (m ∷ rest) (h.name ∷ [])) ∙ g))
 
       go : (is_shared : Bool) → (IsTrue is_shared ↔ ((cf ≡ Dir) × (cs ≡ Dir))) → (q ≡ h.parent ++ h.name ∷ []) ⊎ IsAbove q h.parent → AreBothDirs (at F) (at S) q ↔ (length q ≤ cond is_shared (length p) (min shared (length p - 1)))
       go true is (inl e) =
@@ -208,7 +203,7 @@ module _ (A F S : Listing Stamp) (rules : List Rule) (lists_a : IsListing A) (li
           nothing = step_between A F S w.b p ca cf cs old new w.is_left step named.0 later child_before
 
           parent_there : (rows : Listing Stamp) → IsListing rows → (c : Content Stamp) → at rows p ≡ c → c ≢ Absent → at rows named.0 ≢ Absent
-          parent_there rows lists c is there = not_absent (at rows named.0) (lists.parents named.0 named.1 (λ g. there (sym is ∙ ap (at rows) named.2 ∙ g)))
+          parent_there rows lists c is there = dir_is_there (at rows named.0) (lists.parents named.0 named.1 (λ g. there (sym is ∙ ap (at rows) named.2 ∙ g)))
 
       parent_above : IsAbove named.0 w.b
       parent_above = above_between named.0 w.b p (named.1 ∷ [], named.2) none_between (before_turned w.b p less)

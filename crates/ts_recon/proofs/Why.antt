@@ -9,15 +9,16 @@ use Rattle.ts_model.specs.declared.row.Stamp.{Stamp}
 use Rattle.ts_model.specs.declared.plan.Side.TheVariants as side
 use Rattle.ts_model.specs.declared.plan.Reason.{Reason}
 use Rattle.ts_model.specs.declared.plan.Reason.TheVariants as reason
-use Rattle.ts_dirty.proofs.Dirt.{same_content, false_not_true}
+use Rattle.ts_dirty.proofs.Dirt.{false_not_true}
 use Rattle.ts_recon.specs.Reasons.{IsBecause, IsSeen, differing_reason}
+use Rattle.ts_model.proofs.Deciding.{same_stamp_at}
 
 -- where neither replica changed they agree
 agree_unchanged : (s : Snapshot) (p : Path) → ¬ IsChanged s side.First p → ¬ IsChanged s side.Second p → Agree s p
 agree_unchanged s p first second = λ i. λ rest. same rest i
   where
     is_archive : (t : Path → Content Stamp) → ¬ ((rest : Path) × (sub t p rest ≢ sub s.archive p rest)) → (rest : Path) → sub t p rest ≡ sub s.archive p rest
-    is_archive t n rest = elim (same_content (sub t p rest) (sub s.archive p rest)) [ yes e ↦ e | no differ ↦ absurd (n (rest, differ)) ]
+    is_archive t n rest = elim (same_stamp_at (sub t p rest) (sub s.archive p rest)) [ yes e ↦ e | no differ ↦ absurd (n (rest, differ)) ]
 
     same : (rest : Path) → sub s.first p rest ≡ sub s.second p rest
     same rest = is_archive s.first first rest ∙ sym (is_archive s.second second rest)

@@ -6,7 +6,6 @@ use Rattle.std.specs.Ordering.{ordering_then}
 use Rattle.std.proofs.lemmas.Cmp.{nat_list_cmp_total}
 use Rattle.ts_name.specs.Paths.{Name, Path, IsPath, IsAbove, IsBefore, path_cmp, same_path}
 use Rattle.ts_model.specs.Trees.{Listing, listed, at, IsListing}
-use Rattle.ts_model.specs.declared.row.Content.{Content}
 use Rattle.ts_model.specs.declared.row.Content.TheVariants.{Absent, Dir, File}
 use Rattle.ts_model.specs.declared.row.Row.{Row}
 use Rattle.ts_model.specs.declared.row.Stamp.{Stamp}
@@ -19,7 +18,7 @@ use Rattle.ts_table.proofs.Rows.{ascend_cons, ascend_join, listed_after, listed_
 use Rattle.ts_folder.specs.Folders.{InOrder}
 use Rattle.ts_folder.specs.declared.folder.Kind.{Kind}
 use Rattle.ts_scan.specs.Scans.{Children, IsUnder, AreBelow}
-use Rattle.ts_model.proofs.Rows.{listed_here}
+use Rattle.ts_model.proofs.Rows.{listed_here, dir_is_there}
 
 -- ---- children in order
 
@@ -147,9 +146,6 @@ listed_under p children rows q are there =
     (weaker (λ (row : Row Stamp). IsPath row.path × (row.content ≢ Absent) × IsUnder p children row.path) (λ row. IsUnder p children row.path) (λ row h. h.2) rows are.rows_are)
     there
 
-present_dir : (x : Content Stamp) → x ≡ Dir → x ≢ Absent
-present_dir x e none = let f : ◌≡◌ {A = Content Stamp} Dir Absent = sym e ∙ none in cc
-
 -- the rows of earlier children and then those of later ones
 pub joined : (p : Path) (xs ys : Children) (front back : Listing Stamp) → InOrder (xs ++ ys) → AreBelow p xs front → AreBelow p ys back → AreBelow p (xs ++ ys) (front ++ back)
 joined p xs ys front back up a b = record {
@@ -169,11 +165,11 @@ joined p xs ys front back up a b = record {
     parents q name there = elim (listed_either front back (q ++ name ∷ []) there) [
       | inl l ↦ elim (a.parents q name l) [
         | inl e ↦ inl e
-        | inr e ↦ inr (listed_front front back q (present_dir (listed front q) e) ∙ e)
+        | inr e ↦ inr (listed_front front back q (dir_is_there (listed front q) e) ∙ e)
       ]
       | inr r ↦ elim (b.parents q name r) [
         | inl e ↦ inl e
-        | inr e ↦ inr (listed_after front back q (differ_before q front (rows_before p xs ys front q up a (listed_under p ys back q b (present_dir (listed back q) e)))) ∙ e)
+        | inr e ↦ inr (listed_after front back q (differ_before q front (rows_before p xs ys front q up a (listed_under p ys back q b (dir_is_there (listed back q) e)))) ∙ e)
       ]
     ]
 

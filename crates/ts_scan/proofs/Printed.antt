@@ -11,12 +11,13 @@ use Rattle.ts_model.specs.declared.row.Stamp.{Stamp}
 use Rattle.ts_name.specs.Laws.{same_path_differ}
 use Rattle.ts_name.proofs.Order.{before_below, before_itself}
 use Rattle.ts_name.proofs.Basics.{weaker}
-use Rattle.ts_table.proofs.Rows.{listed_after, listed_before, listed_none}
+use Rattle.ts_table.proofs.Rows.{listed_after, listed_before}
 use Rattle.ts_folder.specs.Folders.{InOrder}
 use Rattle.ts_folder.specs.declared.folder.Kind.{Kind}
 use Rattle.ts_scan.specs.Scans.{Children, IsUnder, AreBelow, ArePrinted}
 use Rattle.ts_scan.proofs.Parts.{under_parts, under_more, decide_under, rows_before, rows_after, differ_before, differ_after}
 use Rattle.ts_model.proofs.Rows.{listed_here}
+use Rattle.ts_model.proofs.Listings.{listed_none}
 
 -- the parent of whatever is there is a directory
 abbrev pub IsClosed : Tree → Type 0

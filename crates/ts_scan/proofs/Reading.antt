@@ -10,6 +10,7 @@ use Rattle.ts_model.specs.declared.row.Stamp.{Stamp}
 use Rattle.ts_folder.specs.Folders.{Fills}
 use Rattle.ts_scan.specs.Files.{HasStamp, HasRead}
 use Rattle.ts_scan.specs.Scans.{Told}
+use Rattle.ts_name.proofs.Basics.{take_part}
 
 -- a front is told by its length
 take_own : (n : ℕ) (xs : List ℕ) → take (length (take n xs)) xs ≡ take n xs
@@ -20,13 +21,6 @@ take_own (suc n) (x ∷ xs) = ap (λ z. x ∷ z) (take_own n xs)
 take_none : (n : ℕ) → take {A = ℕ} n [] ≡ []
 take_none zero = refl
 take_none (suc n) = refl
-
--- two fronts in turn
-take_more : (m n : ℕ) (xs : List ℕ) → take m xs ++ take n (drop m xs) ≡ take (m + n) xs
-take_more zero n xs = let e : 0 + n ≡ n = omega arith in ap (λ k. take k xs) (sym e)
-take_more (suc m) n [] = ap (λ z. [] ++ z) (take_none n) ∙ sym (take_none (suc m + n))
-take_more (suc m) n (x ∷ xs) =
-    let e : suc m + n ≡ suc (m + n) = omega arith in ap (λ z. x ∷ z) (take_more m n xs) ∙ ap (λ k. take k (x ∷ xs)) (sym e)
 
 -- how long a front is
 length_front : (n : ℕ) (xs : List ℕ) → length (take n xs) ≤ length xs
@@ -48,7 +42,7 @@ take_all (x ∷ xs) = ap (λ z. x ∷ z) (take_all xs)
 next_front : (bytes front piece : List ℕ) (most : ℕ) → length front ≤ length bytes → front ≡ take (length front) bytes → piece ≡ take most (drop (length front) bytes) → front ++ piece ≡ take (length (front ++ piece)) bytes
 next_front bytes front piece most le is next =
     let own : piece ≡ take (length piece) (drop (length front) bytes) = next ∙ sym (take_own most (drop (length front) bytes)) ∙ ap (λ z. take (length z) (drop (length front) bytes)) (sym next) in
-    ap₂ ◌++◌ is own ∙ take_more (length front) (length piece) bytes ∙ ap (λ k. take k bytes) (sym (length-append front piece))
+    ap₂ ◌++◌ is own ∙ take_part (length front) (length piece) bytes ∙ ap (λ k. take k bytes) (sym (length-append front piece))
 
 next_length : (bytes front piece : List ℕ) (most : ℕ) → length front ≤ length bytes → piece ≡ take most (drop (length front) bytes) → length (front ++ piece) ≤ length bytes
 next_length bytes front piece most le next =

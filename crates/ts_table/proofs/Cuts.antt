@@ -14,8 +14,9 @@ use Rattle.ts_name.proofs.Utf8.{all_append, all_parts}
 use Rattle.ts_name.proofs.Basics.{weaker}
 use Rattle.std.proofs.lemmas.List.{append_cancel_left}
 use Rattle.ts_table.proofs.Found.{whole}
-use Rattle.ts_table.proofs.Rows.{ascend_left, ascend_right, AllBefore, ascend_join, ascend_across, listed_holds, listed_none, listed_after, listed_before, placed_below, placed_ascend, graft_at_rows}
+use Rattle.ts_table.proofs.Rows.{ascend_left, ascend_right, AllBefore, ascend_join, ascend_across, listed_holds, listed_after, listed_before, placed_below, placed_ascend, graft_at_rows}
 use Rattle.ts_model.proofs.Rows.{listed_here}
+use Rattle.ts_model.proofs.Listings.{listed_none}
 
 -- ---- parents
 

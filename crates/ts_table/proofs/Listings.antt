@@ -1,5 +1,5 @@
 -- Listings: what a listing has one of, the rows below a path, and when rows may come next.
-use Rattle.std.proofs.Common.{◌≡◌, ◌≢◌, ℕ, zero, suc, ◌<◌, Bool, true, false, cond, List, [], ◌∷◌, ◌++◌, length, get_or, Option, Some, None, refl, sym, ap, ap₂, ◌∙◌, subst, inl, inr, arith, append-nil}
+use Rattle.std.proofs.Common.{◌≡◌, ◌≢◌, ℕ, zero, suc, ◌<◌, Bool, true, false, cond, List, [], ◌∷◌, ◌++◌, length, get_or, slice_get, Option, Some, None, refl, sym, ap, ap₂, ◌∙◌, subst, arith, append-nil}
 use Rattle.std.proofs.lemmas.Bool.{cond-true, cond-false}
 use Rattle.std.specs.List.{AllByRecursion, filter}
 use Rattle.ts_name.specs.Paths.{Path, IsPath, IsAbove, IsBefore, same_path, below}
@@ -7,56 +7,16 @@ use Rattle.ts_model.specs.Trees.{Listing, listed, at, Ascend, IsListing, sub}
 use Rattle.ts_model.specs.declared.row.Content.TheVariants.{Absent}
 use Rattle.ts_model.specs.declared.row.Row.{Row}
 use Rattle.ts_table.specs.Tables.{is_above, rows_below}
-use Rattle.ts_name.specs.Laws.{same_path_equal, same_path_differ}
+use Rattle.ts_name.specs.Laws.{same_path_differ}
 use Rattle.ts_name.proofs.Prefixes.{below_append, below_gives, decide_above}
-use Rattle.ts_name.proofs.Order.{before_cases, before_trans, before_itself}
-use Rattle.ts_name.proofs.Basics.{by_each, at_each, weaker}
-use Rattle.ts_table.proofs.Rows.{ascend_first, ascend_cons, ascend_pair, listed_none}
-use Rattle.ts_model.proofs.Rows.{listed_here, ascend_rest}
+use Rattle.ts_name.proofs.Order.{before_itself}
+use Rattle.ts_name.proofs.Basics.{by_each, at_each, weaker, all_at}
+use Rattle.ts_table.proofs.Rows.{ascend_cons, ascend_pair}
+use Rattle.ts_model.proofs.Rows.{listed_here, ascend_rest, at_listed}
+use Rattle.std.proofs.lemmas.Option.{slice_get_within, get_or_from_slice_get}
+use Rattle.ts_model.proofs.Listings.{ascend_first, listed_none, one_listed, root_not_listed}
 
 -- ---- one listing
-
--- rows that ascend and are not absent are told by what is listed
-pub one_listed : {F : Type 0} (xs ys : Listing F) → Ascend xs → Ascend ys → AllByRecursion (λ row. row.content ≢ Absent) xs → AllByRecursion (λ row. row.content ≢ Absent) ys → ((p : Path) → listed xs p ≡ listed ys p) → xs ≡ ys
-one_listed [] [] up_x up_y there_x there_y same = refl
-one_listed [] (y ∷ ys) up_x up_y there_x there_y same = absurd (there_y.0 (sym (listed_here y ys) ∙ sym (same y.path)))
-one_listed (x ∷ xs) [] up_x up_y there_x there_y same = absurd (there_x.0 (sym (listed_here x xs) ∙ same x.path))
-one_listed {F} (x ∷ xs) (y ∷ ys) up_x up_y there_x there_y same = ap₂ ◌∷◌ first (one_listed xs ys (ascend_rest x xs up_x) (ascend_rest y ys up_y) there_x.1 there_y.1 others)
-  where
-    differ : (p : Path) (rows : Listing F) → AllByRecursion (λ row. IsBefore p row.path) rows → AllByRecursion (λ row. row.path ≢ p) rows
-    differ p rows all = weaker (λ (row : Row F). IsBefore p row.path) (λ row. row.path ≢ p) (λ row before e. before_itself p (subst (λ z. IsBefore p z) e before)) rows all
-
-    not_before : (a b : Row F) (others_a others_b : Listing F) → Ascend (b ∷ others_b) → a.content ≢ Absent → listed (a ∷ others_a) a.path ≡ listed (b ∷ others_b) a.path → ¬ IsBefore a.path b.path
-    not_before a b others_a others_b up there e before =
-        there (sym (listed_here a others_a) ∙ e ∙ listed_none (b ∷ others_b) a.path
-        (differ a.path (b ∷ others_b) (before, weaker (λ (row : Row F). IsBefore b.path row.path) (λ row. IsBefore a.path row.path) (λ row later. before_trans a.path b.path row.path before later) others_b (ascend_first b others_b up))))
-
-    paths : x.path ≡ y.path
-    paths = elim (before_cases x.path y.path) [
-      | inl before ↦ absurd (not_before x y xs ys up_y there_x.0 (same x.path) before)
-      | inr more ↦ elim more [
-        | inl e ↦ e
-        | inr after ↦ absurd (not_before y x ys xs up_x there_y.0 (sym (same y.path)) after)
-      ]
-    ]
-
-    contents : x.content ≡ y.content
-    contents = sym (listed_here x xs) ∙ same x.path ∙ ap (listed (y ∷ ys)) paths ∙ listed_here y ys
-
-    first : x ≡ y
-    first = λ i. record { path = paths i; content = contents i }
-
-    others : (p : Path) → listed xs p ≡ listed ys p
-    others p = go (same_path x.path p) refl
-      where
-        go : (b : Bool) → same_path x.path p ≡ b → listed xs p ≡ listed ys p
-        go true e =
-            let is = same_path_equal x.path p e in
-            listed_none xs p (subst (λ z. AllByRecursion (λ row. row.path ≢ z) xs) is (differ x.path xs (ascend_first x xs up_x)))
-            ∙ sym (listed_none ys p (subst (λ z. AllByRecursion (λ row. row.path ≢ z) ys) (sym paths ∙ is) (differ y.path ys (ascend_first y ys up_y))))
-        go false e =
-            let f : same_path y.path p ≡ false = ap (λ z. same_path z p) (sym paths) ∙ e in
-            sym (cond-false _ _ _ e) ∙ same p ∙ cond-false _ _ _ f
 
 -- ---- the rows below a path
 
@@ -159,11 +119,6 @@ not_listed_below {F} p q rows off = listed_none (rows_below p rows) q (differ ro
         go true e more = ((λ same. off (subst (λ z. IsAbove p z) same (is_above_gives p row.path e))), more)
         go false e more = more
 
--- the root is not listed
-pub root_not_listed : {F : Type 0} (rows : Listing F) → IsListing rows → listed rows [] ≡ Absent
-root_not_listed {F} rows lists =
-    listed_none rows [] (weaker (λ (row : Row F). IsPath row.path × (row.path ≢ []) × (row.content ≢ Absent)) (λ row. row.path ≢ []) (λ row h. h.1) rows lists.rows_are)
-
 -- two trees are the same from a path down exactly where they have the same rows there
 pub same_rows_below : {F : Type 0} (xs ys : Listing F) (p : Path) → IsListing xs → IsListing ys → sub (at xs) p ≡ sub (at ys) p → rows_below p xs ≡ rows_below p ys
 same_rows_below {F} xs ys p lists_x lists_y same =
@@ -200,3 +155,11 @@ listed_at {F} (row ∷ rows) (suc i) d up under =
     let before : IsBefore row.path (get_or rows i d).path = ascend_pair (row ∷ rows) up 0 (suc i) d (omega arith) under in
     cond-false _ _ _ (same_path_differ row.path (get_or rows i d).path (λ e. before_itself row.path (subst (λ z. IsBefore row.path z) (sym e) before)))
     ∙ listed_at rows i d (ascend_rest row rows up) (omega arith)
+
+-- and a row of a tree says what is at its path
+pub at_row : {F : Type 0} (rows : Listing F) → IsListing rows → (k : ℕ) (row : Row F) → slice_get rows k ≡ Some row → at rows row.path ≡ row.content
+at_row {F} rows lists k row is =
+    let within = slice_get_within rows k row is in
+    let here = get_or_from_slice_get rows k row row is in
+    let below_root = (all_at (λ (row : Row F). IsPath row.path × (row.path ≢ []) × (row.content ≢ Absent)) rows lists.rows_are k row is).1 in
+    at_listed rows row.path below_root ∙ subst (λ (z : Row F). listed rows z.path ≡ z.content) here (listed_at rows k row lists.ascending within)

@@ -11,8 +11,9 @@ use Rattle.ts_model.specs.declared.row.Row.{Row}
 use Rattle.ts_name.specs.Laws.{path_total, tied_paths}
 use Rattle.ts_name.proofs.Utf8.{all_append}
 use Rattle.ts_name.proofs.Basics.{weaker}
-use Rattle.ts_table.proofs.Rows.{all_before, all_from, listed_none}
+use Rattle.ts_table.proofs.Rows.{all_before, all_from}
 use Rattle.ts_table.proofs.Listings.{listed_at}
+use Rattle.ts_model.proofs.Listings.{listed_none}
 
 -- a row of the path says what is listed
 pub listed_found : {F : Type 0} (rows : Listing F) (p : Path) (i : ℕ) (row : Row F) → Ascend rows → i < length rows → row ≡ get_or rows i row → path_cmp (get_or rows i row).path p ≡ Equal → row.content ≡ listed rows p

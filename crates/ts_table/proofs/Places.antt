@@ -15,10 +15,11 @@ use Rattle.ts_name.specs.Laws.{same_path_differ}
 use Rattle.ts_name.proofs.Prefixes.{same_parent, snoc_not_empty, last_name}
 use Rattle.ts_name.proofs.Order.{late_between, before_itself, before_below, is_lt_Less}
 use Rattle.ts_name.proofs.Basics.{weaker}
-use Rattle.ts_table.proofs.Rows.{all_before, all_from, ascend_first, listed_none, listed_before}
+use Rattle.ts_table.proofs.Rows.{all_before, all_from, listed_before}
 use Rattle.ts_table.proofs.Cuts.{HasParents, IsListing-front}
 use Rattle.ts_table.proofs.Last.{all_get, all_until}
 use Rattle.ts_model.proofs.Rows.{at_listed, listed_here, ascend_rest}
+use Rattle.ts_model.proofs.Listings.{ascend_first, listed_none}
 
 -- above whatever is there stands a directory
 pub above_dir : {F : Type 0} (t : Path → Content F) → HasParents t → (p : Path) (name : Name) (rest : Path) → t (p ++ name ∷ rest) ≢ Absent → t p ≡ Dir

@@ -1,10 +1,9 @@
 -- The rows below a path, seen from it.
-use Rattle.std.proofs.Common.{◌≡◌, ◌≢◌, ℕ, ◌+◌, ◌<◌, get_or, take, Bool, true, false, cond, [], ◌∷◌, ◌++◌, length, Option, Some, None, refl, sym, ap, ap₂, ◌∙◌, subst, arith, append_assoc, append-nil, length-append}
+use Rattle.std.proofs.Common.{◌≡◌, ◌≢◌, ℕ, ◌+◌, ◌<◌, get_or, take, Bool, true, false, cond, [], ◌∷◌, ◌++◌, length, Option, Some, None, refl, sym, ap, ap₂, ◌∙◌, subst, append_assoc, append-nil}
 use Rattle.std.proofs.lemmas.Bool.{cond-true, cond-false}
-use Rattle.std.proofs.lemmas.List.Sums.{sum_by-append}
 use Rattle.std.proofs.lemmas.List.{take_more, append_cancel_left}
 use Rattle.std.specs.List.{AllByRecursion}
-use Rattle.ts_name.specs.Paths.{Path, IsName, IsPath, IsBefore, same_path, path_cmp, below}
+use Rattle.ts_name.specs.Paths.{Path, IsPath, IsBefore, same_path, path_cmp, below}
 use Rattle.ts_model.specs.Trees.{Listing, listed, at, Ascend, IsListing, IsSubListing, sub}
 use Rattle.ts_model.specs.Runs.{bare_directory}
 use Rattle.ts_model.specs.declared.row.Content.{Content}
@@ -12,14 +11,15 @@ use Rattle.ts_model.specs.declared.row.Content.TheVariants.{Absent, Dir}
 use Rattle.ts_model.specs.declared.row.Row.{Row}
 use Rattle.ts_table.specs.Tables.{is_above, rows_below, relative, root_row}
 use Rattle.ts_name.specs.Laws.{same_path_equal, same_path_itself, same_path_differ}
-use Rattle.ts_name.proofs.Prefixes.{below_gives, not_above}
+use Rattle.ts_name.proofs.Prefixes.{below_gives, not_above, rest_is_path}
 use Rattle.ts_name.proofs.Order.{cmp_below}
-use Rattle.ts_name.proofs.Utf8.{all_append, all_parts}
+use Rattle.ts_name.proofs.Utf8.{all_append}
 use Rattle.ts_name.proofs.Basics.{by_each, weaker}
-use Rattle.ts_table.proofs.Rows.{ascend_first, ascend_cons}
+use Rattle.ts_table.proofs.Rows.{ascend_cons}
 use Rattle.ts_table.proofs.Listings.{filter_ascend, filter_all, listed_below}
 use Rattle.ts_table.proofs.Cuts.{HasParents, IsPath-root}
 use Rattle.ts_model.proofs.Rows.{ascend_rest}
+use Rattle.ts_model.proofs.Listings.{ascend_first}
 
 -- rows are seen from a path part by part
 pub relative_append : {F : Type 0} (p : Path) (xs ys : Listing F) → relative p (xs ++ ys) ≡ relative p xs ++ relative p ys
@@ -66,14 +66,6 @@ listed_relative {F} p rest (row ∷ rows) = go (below p row.path) refl (listed_r
         tested false f =
             let g : same_path row.path (p ++ rest) ≡ false = same_path_differ row.path (p ++ rest) (λ same. let h = append_cancel_left p this rest (sym is ∙ same) in let k : same_path this rest ≡ true = subst (λ z. same_path this z ≡ true) h (same_path_itself this) in cc) in
             cond-false _ _ _ f ∙ more ∙ sym (cond-false _ _ _ g)
-
--- the end of a path is a path
-IsPath-rest : (p rest : Path) → IsPath (p ++ rest) → IsPath rest
-IsPath-rest p rest h = record {
-  names = (all_parts IsName p rest h.names).1;
-  depth = (let e = length-append p rest in let k = h.depth in omega arith);
-  size = (let e = sum_by-append length p rest in let k = h.size in omega arith);
-}
 
 -- what holds of the rest of each row below the path holds of each row seen from it
 relative_all : {F : Type 0} (P : Path → Type 0) (p : Path) (rows : Listing F) → AllByRecursion (λ row. (rest : Path) → row.path ≡ p ++ rest → P rest) rows → AllByRecursion (λ row. P row.path) (relative p rows)
@@ -124,7 +116,7 @@ part_of {F} rows p lists = record { listing = record { ascending = ascending p r
 
     rest_is : AllByRecursion (λ row. IsPath row.path × (row.content ≢ Absent)) (relative p (rows_below p rows))
     rest_is = both (relative p (rows_below p rows))
-        (relative_all IsPath p (rows_below p rows) (weaker (λ (row : Row F). IsPath row.path × (row.path ≢ []) × (row.content ≢ Absent)) (λ row. (rest : Path) → row.path ≡ p ++ rest → IsPath rest) (λ row h rest e. IsPath-rest p rest (subst (λ z. IsPath z) e h.0)) (rows_below p rows) below_rows))
+        (relative_all IsPath p (rows_below p rows) (weaker (λ (row : Row F). IsPath row.path × (row.path ≢ []) × (row.content ≢ Absent)) (λ row. (rest : Path) → row.path ≡ p ++ rest → IsPath rest) (λ row h rest e. rest_is_path p rest (subst (λ z. IsPath z) e h.0)) (rows_below p rows) below_rows))
         (relative_some p (rows_below p rows) (weaker (λ (row : Row F). IsPath row.path × (row.path ≢ []) × (row.content ≢ Absent)) (λ row. row.content ≢ Absent) (λ row h. h.2) (rows_below p rows) below_rows))
 
     root_is : (q : Path) → AllByRecursion (λ row. IsPath row.path × (row.content ≢ Absent)) (root_row {F = F} q)

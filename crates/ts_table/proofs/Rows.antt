@@ -13,8 +13,9 @@ use Rattle.ts_name.proofs.Utf8.{all_append, all_parts}
 use Rattle.ts_name.proofs.Basics.{by_each, weaker}
 use Rattle.ts_name.specs.Laws.{same_path_equal, same_path_itself, same_path_differ}
 use Rattle.ts_name.proofs.Prefixes.{below_gives, not_above}
-use Rattle.ts_name.proofs.Order.{before_trans, cmp_below, before_not_below}
+use Rattle.ts_name.proofs.Order.{cmp_below, before_not_below}
 use Rattle.ts_model.proofs.Rows.{ascend_rest}
+use Rattle.ts_model.proofs.Listings.{ascend_first, listed_none}
 
 -- ---- the two parts of a search
 
@@ -27,11 +28,6 @@ pub all_from : {A : Type 0} (P : A → Type 0) (xs : List A) (n : ℕ) → n ≤
 all_from P xs n short h = recursion_from_All P (drop n xs) (λ k d below. let cut = length-drop n xs in rw get_or-drop (h (n + k) d (omega arith) (omega arith)))
 
 -- ---- what ascends
-
--- the first comes before each other
-pub ascend_first : {F : Type 0} (row : Row F) (rows : Listing F) → Ascend (row ∷ rows) → AllByRecursion (λ other. IsBefore row.path other.path) rows
-ascend_first row [] h = tt
-ascend_first {F} row (next ∷ rows) h = (h.0, weaker (λ (other : Row F). IsBefore next.path other.path) (λ other. IsBefore row.path other.path) (λ other later. before_trans row.path next.path other.path h.0 later) rows (ascend_first next rows h.1))
 
 -- and rows ascend after one that comes before each
 pub ascend_cons : {F : Type 0} (row : Row F) (rows : Listing F) → AllByRecursion (λ other. IsBefore row.path other.path) rows → Ascend rows → Ascend (row ∷ rows)
@@ -86,11 +82,6 @@ listed_holds {F} P (row ∷ rows) p all h = go (same_path row.path p) refl h (li
     go : (b : Bool) → same_path row.path p ≡ b → cond b row.content (listed rows p) ≢ Absent → (listed rows p ≢ Absent → P p) → P p
     go true is k later = subst P (same_path_equal row.path p is) all.0
     go false is k later = later k
-
--- what no row has the path of isn't listed
-pub listed_none : {F : Type 0} (rows : Listing F) (p : Path) → AllByRecursion (λ row. row.path ≢ p) rows → listed rows p ≡ Absent
-listed_none [] p all = refl
-listed_none (row ∷ rows) p all = rw (same_path_differ row.path p all.0) (listed_none rows p all.1)
 
 -- rows of other paths don't count
 pub listed_after : {F : Type 0} (xs ys : Listing F) (p : Path) → AllByRecursion (λ row. row.path ≢ p) xs → listed (xs ++ ys) p ≡ listed ys p

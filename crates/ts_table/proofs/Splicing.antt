@@ -14,10 +14,11 @@ use Rattle.ts_table.specs.Splices.{grafted, ArePlaces, AreInOrder, ArePaths, lea
 use Rattle.ts_name.proofs.Order.{late_between, before_cases, before_trans, is_lt_Less}
 use Rattle.ts_name.proofs.Utf8.{all_append}
 use Rattle.ts_name.proofs.Basics.{weaker, all_both}
-use Rattle.ts_table.proofs.Rows.{ascend_first, ascend_right, graft_at_rows}
+use Rattle.ts_table.proofs.Rows.{ascend_right, graft_at_rows}
 use Rattle.ts_table.proofs.Listings.{is_above_gives, not_above_gives, is_above_yes}
 use Rattle.ts_table.proofs.Cuts.{IsListing-placed}
 use Rattle.ts_model.proofs.Rows.{ascend_rest}
+use Rattle.ts_model.proofs.Listings.{ascend_first}
 
 -- ---- fronts
 

@@ -1,8 +1,8 @@
--- What callers need: a tree has one listing, and when edits may follow one another.
+-- What callers need: what is at a path has one listing, and when edits may follow one another.
 use Rattle.std.proofs.Common.{◌≡◌, ◌≢◌, [], ◌∷◌, ◌++◌, Option, Some, None, refl, sym, ap, ◌∙◌, subst, append_assoc, append-nil}
 use Rattle.std.specs.List.{AllByRecursion}
 use Rattle.ts_name.specs.Paths.{Name, Path, IsPath, IsAbove, IsBefore, below}
-use Rattle.ts_model.specs.Trees.{Listing, listed, at, IsListing, IsSubListing}
+use Rattle.ts_model.specs.Trees.{Listing, listed, IsSubListing}
 use Rattle.ts_model.specs.Runs.{graft}
 use Rattle.ts_model.specs.declared.row.Content.{Content}
 use Rattle.ts_model.specs.declared.row.Content.TheVariants.{Absent, Dir}
@@ -12,20 +12,9 @@ use Rattle.ts_name.proofs.Prefixes.{below_gives}
 use Rattle.ts_name.proofs.Order.{below_before}
 use Rattle.ts_name.proofs.Basics.{at_each, weaker}
 use Rattle.ts_table.proofs.Rows.{placed_below}
-use Rattle.ts_table.proofs.Listings.{one_listed, root_not_listed}
+use Rattle.ts_model.proofs.Listings.{one_listed}
 
 -- ---- one listing
-
--- a tree has one listing
-pub one_listing : {F : Type 0} (xs ys : Listing F) → IsListing xs → IsListing ys → at xs ≡ at ys → xs ≡ ys
-one_listing {F} xs ys of_x of_y same = one_listed xs ys of_x.ascending of_y.ascending (some xs of_x) (some ys of_y) everywhere
-  where
-    some : (rows : Listing F) → IsListing rows → AllByRecursion (λ row. row.content ≢ Absent) rows
-    some rows lists = weaker (λ (row : Row F). IsPath row.path × (row.path ≢ []) × (row.content ≢ Absent)) (λ row. row.content ≢ Absent) (λ row h. h.2) rows lists.rows_are
-
-    everywhere : (p : Path) → listed xs p ≡ listed ys p
-    everywhere [] = root_not_listed xs of_x ∙ sym (root_not_listed ys of_y)
-    everywhere (n ∷ p) = at_each same (n ∷ p)
 
 -- and so has what is at a path and below it
 pub one_sub_listing : {F : Type 0} (xs ys : Listing F) → IsSubListing xs → IsSubListing ys → listed xs ≡ listed ys → xs ≡ ys

@@ -1,5 +1,5 @@
 -- A bundle has one text, so `trial` answers one thing.
-use Rattle.std.proofs.Common.{◌≡◌, ◌≢◌, ℕ, List, [], ◌∷◌, ◌++◌, map, codes, refl, sym, ap, ap₂, ◌∙◌, subst, inl, inr, append_assoc}
+use Rattle.std.proofs.Common.{◌≡◌, ◌≢◌, ℕ, List, [], ◌∷◌, ◌++◌, map, codes, refl, sym, ap, ap₂, ◌∙◌, subst, inl, inr}
 use Rattle.std.specs.List.{AllByRecursion}
 use Rattle.std.proofs.lemmas.List.{map-append}
 use Rattle.ts_name.specs.Paths.{IsPath}
@@ -15,6 +15,7 @@ use Rattle.ts_text_laws.proofs.Words.{AreLines, IsLine, Words, one_spelling, tex
 use Rattle.ts_text_laws.proofs.TreeTexts.{PrintFits, TreeFits, one_print, one_tree, print_are_lines, print_spelled, print_words, tree_are_lines, tree_spelled, tree_words}
 use Rattle.ts_text_laws.proofs.RuleTexts.{one_rules, rule_words, rules_are_lines, rules_spelled}
 use Rattle.ts_text_laws.proofs.PlanTexts.{one_plan, plan_are_lines, plan_spelled, plan_words}
+use Rattle.ts_name.proofs.Basics.{five_parts}
 
 -- ---- bundles
 
@@ -41,10 +42,6 @@ bundle_words b = (codes "twosync-bundle" ∷ codes "1" ∷ []) ∷ ((codes "arch
 -- a part of lines before others
 pub joined : (lines : List (List ℕ)) (part : List Words) (rest : List (List ℕ)) (more : List Words) → lines ≡ map words part → rest ≡ map words more → lines ++ rest ≡ map words (part ++ more)
 joined lines part rest more e f = ap₂ ◌++◌ e f ∙ sym (map-append words part more)
-
--- five lists in a row
-five_parts : {A : Type 0} (p f s h l : List A) → (((p ++ f) ++ s) ++ h) ++ l ≡ p ++ (f ++ (s ++ (h ++ l)))
-five_parts p f s h l = append_assoc ((p ++ f) ++ s) h l ∙ append_assoc (p ++ f) s (h ++ l) ∙ append_assoc p f (s ++ (h ++ l))
 
 -- the words spell the lines
 pub bundle_spelled : (b : Bundle) → bundle_lines b ≡ map words (bundle_words b)

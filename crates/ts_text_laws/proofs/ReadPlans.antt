@@ -10,7 +10,7 @@ use Rattle.ts_model.specs.declared.plan.Kind.{Kind}
 use Rattle.ts_model.specs.declared.plan.Kind.TheVariants.{Piece, Commit, Mark}
 use Rattle.ts_model.specs.declared.plan.Action.{Action}
 use Rattle.ts_model.specs.declared.plan.Plan.{Plan}
-use Rattle.ts_laws.proofs.Basics.{Dec-both, Dec-not, same_list, same_names}
+use Rattle.ts_laws.proofs.Basics.{Dec-both, Dec-not}
 use Rattle.ts_laws.proofs.Search.{decide_less, decide_each, decide_empty}
 use Rattle.ts_laws.proofs.Rules.{decide_some_reason, decide_limits}
 use Rattle.ts_name.proofs.Spelling.{cons_parts}
@@ -19,6 +19,7 @@ use Rattle.ts_text_laws.proofs.PlanTexts.{ActionsFit, action_words, actions_word
 use Rattle.ts_text_laws.proofs.ReadWords.{BeginsWith, decide_begins, decide_keyed, decide_word, decide_decimal, decide_fit_path, decide_is_path}
 use Rattle.ts_text_laws.proofs.ReadTrees.{AreItems, decide_items}
 use Rattle.ts_name.proofs.Basics.{all_both}
+use Rattle.ts_model.proofs.Deciding.{same_list, same_names}
 
 -- ---- words
 

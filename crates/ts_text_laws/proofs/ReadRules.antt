@@ -9,7 +9,7 @@ use Rattle.ts_model.specs.declared.hold.Symbol.{Symbol}
 use Rattle.ts_model.specs.declared.hold.Symbol.TheVariants.{Star, Byte}
 use Rattle.ts_model.specs.declared.hold.Rule.{Rule}
 use Rattle.ts_model.specs.declared.hold.Rule.TheVariants.{OnePath, LastName}
-use Rattle.ts_laws.proofs.Basics.{Dec-both, Dec-either, Dec-not, same_names, same_number}
+use Rattle.ts_laws.proofs.Basics.{Dec-both, Dec-either, Dec-not}
 use Rattle.ts_laws.proofs.Search.{decide_less, decide_at_most, decide_each, decide_true}
 use Rattle.ts_name.proofs.Spelling.{cons_parts, escape, one_path}
 use Rattle.ts_text_laws.proofs.Words.{Words, first_byte}
@@ -17,6 +17,7 @@ use Rattle.ts_model.proofs.Spelling.{SymbolSpelled, a_star, byte_in_digits, byte
 use Rattle.ts_text_laws.proofs.RuleTexts.{one_rule, rule_words}
 use Rattle.ts_text_laws.proofs.ReadWords.{decide_keyed, decide_path, decide_is_path, by_three, EscapeOf, decide_escape}
 use Rattle.ts_text_laws.proofs.ReadTrees.{AreItems, decide_items}
+use Rattle.ts_model.proofs.Deciding.{same_names, same_number}
 
 -- ---- patterns
 

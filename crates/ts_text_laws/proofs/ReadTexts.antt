@@ -11,7 +11,7 @@ use Rattle.ts_model.specs.Texts.{text, words, archive_front, archive_text, tree_
 use Rattle.ts_model.specs.Trial.{HasContentsApart}
 use Rattle.ts_model.specs.declared.plan.Plan.{Plan}
 use Rattle.ts_text_laws.specs.Laws.{AreDecided, IsAnswered}
-use Rattle.ts_laws.proofs.Basics.{Dec-both, same_list}
+use Rattle.ts_laws.proofs.Basics.{Dec-both}
 use Rattle.ts_name.proofs.Spelling.{cons_parts}
 use Rattle.ts_text_laws.proofs.Words.{AreLines, Words, one_spelling, spell, text_spells}
 use Rattle.ts_text_laws.proofs.TreeTexts.{tree_words, tree_spelled, tree_are_lines, print_words, print_spelled, print_are_lines}
@@ -25,6 +25,7 @@ use Rattle.ts_text_laws.proofs.ReadPlans.{decide_plan_lines}
 use Rattle.ts_text_laws.proofs.Texts.{front_words, front_spelled, front_are_lines, one_front}
 use Rattle.ts_laws.proofs.Search.{decide_number, decide_empty}
 use Rattle.ts_text_laws.proofs.Trials.{some_trial_of}
+use Rattle.ts_model.proofs.Deciding.{same_list}
 
 -- ---- parts of a bundle
 

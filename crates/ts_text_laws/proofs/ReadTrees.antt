@@ -11,7 +11,7 @@ use Rattle.ts_model.specs.declared.row.Content.{Content}
 use Rattle.ts_model.specs.declared.row.Content.TheVariants.{Absent, Dir, File}
 use Rattle.ts_model.specs.declared.row.Row.{Row}
 use Rattle.ts_model.specs.declared.row.Stamp.{Stamp}
-use Rattle.ts_laws.proofs.Basics.{Dec-both, Dec-not, same_number, same_names}
+use Rattle.ts_laws.proofs.Basics.{Dec-both, Dec-not}
 use Rattle.ts_laws.proofs.Search.{decide_less, decide_each, decide_empty}
 use Rattle.ts_name.proofs.Prefixes.{last_name, same_parent, snoc_not_empty}
 use Rattle.ts_name.proofs.Order.{decide_before}
@@ -26,6 +26,7 @@ use Rattle.ts_text_laws.proofs.TreeTexts.{data_words, tree_row_words, tree_words
 use Rattle.ts_name.proofs.Basics.{weaker}
 use Rattle.ts_text_laws.proofs.ReadWords.{BeginsWith, decide_begins, decide_keyed, decide_word, decide_decimal, decide_bytes, decide_path, decide_is_path}
 use Rattle.ts_model.proofs.Rows.{listed_here, listed_there}
+use Rattle.ts_model.proofs.Deciding.{same_number, same_names}
 
 -- ---- items one after another
 

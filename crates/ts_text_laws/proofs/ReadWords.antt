@@ -9,12 +9,13 @@ use Rattle.ts_name.specs.Paths.{Name, Path, IsName, IsPath, is_escaped, byte_tex
 use Rattle.ts_name.specs.Buffers.{HasNo}
 use Rattle.ts_name.proofs.Buffers.{AreFree, slash_free_from_names}
 use Rattle.ts_model.specs.Texts.{words, IsBytes, PathFits}
-use Rattle.ts_laws.proofs.Basics.{Dec-both, Dec-not, same_list, same_names, same_number}
+use Rattle.ts_laws.proofs.Basics.{Dec-both, Dec-not}
 use Rattle.ts_laws.proofs.Search.{decide_less, decide_at_most, decide_number, decide_each, decide_empty, decide_true}
 use Rattle.ts_model.proofs.Spelling.{one_hex}
 use Rattle.ts_model.proofs.Lines.{no_text}
 use Rattle.ts_name.proofs.Spelling.{Spelled, in_digits, as_it_is, escape, spelled_byte, one_name, one_path, one_path_text}
 use Rattle.ts_text_laws.proofs.Words.{Words, AreLines, spell}
+use Rattle.ts_model.proofs.Deciding.{same_list, same_names, same_number}
 
 -- ---- lines
 

@@ -1,5 +1,5 @@
 -- The parts that were taken out of a tree are laid at the places of their entries.
-use Rattle.std.proofs.Common.{◌≡◌, ◌≢◌, ⊎_elim, ℕ, ◌+◌, ◌<◌, ◌≤◌, cond, List, [], ◌∷◌, Some, length, refl, drop, get_or, set, slice_get, sym, ap, ◌∙◌, subst, arith}
+use Rattle.std.proofs.Common.{◌≡◌, ◌≢◌, ⊎_elim, ℕ, ◌+◌, ◌<◌, ◌≤◌, cond, List, [], ◌∷◌, Some, length, drop, get_or, set, slice_get, sym, ap, ◌∙◌, subst, arith}
 use Rattle.std.proofs.lemmas.Bool.{cases_eq}
 use Rattle.std.proofs.lemmas.Option.{same_Some, slice_get-get_or, slice_get_within}
 use Rattle.ts_model.specs.Trees.{Listing, Tree, sub}
@@ -23,10 +23,6 @@ AreLaying n on t entries left parts = ArePartsAt t (paths_from on (drop n entrie
 -- the entry at place n
 pub this_one : (entries : List Entry) (n : ℕ) (entry : Entry) → n < length entries → entry ≡ get_or entries n entry → (e : ℕ) (other : Entry) → e ≡ n → slice_get entries e ≡ Some other → entry ≡ other
 this_one entries n entry within is e other same at = same_Some entry other (sym (slice_get-get_or entries n entry within ∙ ap Some (sym is)) ∙ ap (λ z. slice_get entries z) (sym same) ∙ at)
-
-pub nothing_left : {A : Type 0} (xs : List A) → length xs ≡ 0 → xs ≡ []
-nothing_left [] e = refl
-nothing_left (x ∷ xs) e = absurd (omega arith)
 
 module _ (on : Side) (t : Tree) (entries : List Entry) (n : ℕ) (entry : Entry) (within : n < length entries) (is : entry ≡ get_or entries n entry) where
   -- what is left is for this entry and those after it

@@ -20,7 +20,7 @@ use Rattle.ts_through.specs.Parts.{AreHeld, AreLaid, ArePlaced}
 use Rattle.ts_through.proofs.Parts.{from_here}
 use Rattle.ts_board.proofs.Sites.{slots_of}
 use Rattle.ts_through.proofs.Taking.{commit_entry}
-use Rattle.ts_name.proofs.Basics.{element_at, got_last}
+use Rattle.ts_name.proofs.Basics.{element_at, got_last, got_front}
 
 -- ---- which site a commit has
 
@@ -75,11 +75,6 @@ module _ {S : Type 0} where
   site_of (a ∷ actions) sites zero e action is kind = first_slot a.kind actions sites e (ap (λ (z : Action). z.kind) (same_Some a action is) ∙ kind)
   site_of (a ∷ actions) sites (suc c) e action is kind = later_slot a.kind actions sites c (commit_count (take c actions)) (λ more. site_of actions more c e action is kind)
 
-got_left : {A : Type 0} (xs ys : List A) (k : ℕ) (x : A) → slice_get xs k ≡ Some x → slice_get (xs ++ ys) k ≡ Some x
-got_left [] ys k x is = absurd (none-some x is)
-got_left (y ∷ xs) ys zero x is = is
-got_left (y ∷ xs) ys (suc k) x is = got_left xs ys k x is
-
 -- ---- commit by commit
 
 -- the sites of the commits below n have the parts of their entries
@@ -101,7 +96,7 @@ module _ (plan : Plan) (n : ℕ) (old : List (Listing (List ℕ))) where
       ∙ ap (λ z. slice_get (sites ++ part ∷ []) z) (sym count) ∙ got_last sites part ∙ sym is ∙ ap (λ z. slice_get old z) (sym there))
       (λ (other : c ≢ n).
       let had = element_at old f (within c f of) in
-      got_left sites (part ∷ []) (commit_count (take c plan.actions)) had.0 (below c f (omega arith) of ∙ had.1) ∙ sym had.1)
+      got_front sites (part ∷ []) (commit_count (take c plan.actions)) had.0 (below c f (omega arith) of ∙ had.1) ∙ sym had.1)
       (cases_eq c n)
 
   -- whose part no other commit wants

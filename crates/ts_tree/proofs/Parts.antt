@@ -13,12 +13,12 @@ use Rattle.ts_table.specs.Splits.{ArePartsAt, edits_of, without}
 use Rattle.ts_table.specs.Tables.{is_above, placed}
 use Rattle.ts_table.specs.declared.splice.Edit.{Edit}
 use Rattle.ts_table.proofs.Cuts.{IsPath-root}
-use Rattle.ts_table.proofs.Listings.{root_not_listed}
 use Rattle.ts_name.proofs.Order.{before_itself}
 use Rattle.ts_name.proofs.Basics.{weaker, all_both, all_map, at_each}
-use Rattle.ts_table.proofs.Rows.{ascend_first, listed_after, listed_holds}
+use Rattle.ts_table.proofs.Rows.{listed_after, listed_holds}
 use Rattle.ts_tree.specs.Trees.{EditFits, FilesFit}
 use Rattle.ts_model.proofs.Rows.{listed_here, ascend_rest}
+use Rattle.ts_model.proofs.Listings.{ascend_first, root_not_listed}
 
 -- ---- rows and what they list
 

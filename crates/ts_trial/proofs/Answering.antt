@@ -22,7 +22,7 @@ use Rattle.ts_model.specs.declared.row.Content.{Content}
 use Rattle.ts_model.specs.declared.row.Stamp.{Stamp}
 use Rattle.ts_laws.specs.Carried.{copied, marked_all, IsCarriedOut}
 use Rattle.ts_laws.proofs.Carried.{carried_out}
-use Rattle.ts_laws.proofs.Listings.{IsTree-from_listing, one_listing}
+use Rattle.ts_laws.proofs.Listings.{IsTree-from_listing}
 use Rattle.ts_text_laws.proofs.ReadTexts.{some_trial}
 use Rattle.ts_laws.proofs.Results.{Start-from_bundle}
 use Rattle.ts_laws.proofs.Rows.{IsListingOf, listing_of}
@@ -34,6 +34,7 @@ use Rattle.ts_bundle.specs.declared.bundle.Bundle.{Bundle as Held}
 use Rattle.ts_bundle.specs.declared.fault.BundleFault.{BundleFault}
 use Rattle.ts_bundle.specs.declared.fault.BundleFault.TheVariants.{Malformed}
 use Rattle.ts_trial.specs.Answers.{WritesOne, AnswersBundle, refusal}
+use Rattle.ts_model.proofs.Listings.{one_listing}
 
 -- ---- contents fit
 

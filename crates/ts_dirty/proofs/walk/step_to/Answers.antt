@@ -6,7 +6,7 @@ use Rattle.ts_model.specs.declared.row.Stamp.{Stamp}
 use Rattle.std.specs.Ordering.{is_eq}
 use Rattle.ts_name.specs.Paths.{path_cmp}
 use Rattle.ts_dirty.proofs.walk.step_to.Goals as goal
-use Rattle.ts_name.proofs.Order.{is_eq_Equal}
+use Rattle.ts_name.specs.Laws.{is_eq_Equal}
 
 pub returns-then-is_eq-clause-step : goal.returns-then-is_eq-clause-step
 returns-then-is_eq-clause-step c =

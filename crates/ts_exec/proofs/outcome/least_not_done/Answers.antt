@@ -4,7 +4,7 @@ use Rattle.std.specs.Int.{bit_at}
 use Rattle.std.specs.Mem.Slots.{slots_items}
 use Rattle.std.proofs.lemmas.Bool.{true≢false, cases_lt}
 use Rattle.ts_model.specs.Runs.{Has, finishes}
-use Rattle.ts_exec.proofs.Closing.{among_at, among_from, done_from_bit, not_done_is, seen_some, waits_from}
+use Rattle.ts_exec.proofs.Closing.{among_at, among_from, done_from_bit, not_done_is, bit_some, waits_from}
 use Rattle.ts_exec.proofs.Rows.{ascend_within, ascend_pairs, contains_at}
 use Rattle.ts_exec.proofs.outcome.least_not_done.Goals as goal
 
@@ -20,7 +20,7 @@ loop-k-preserved g c = λ m less.
     (λ (h : m < n). c.loop-k.invariant m h)
     (λ (h : n ≤ m).
     let same : n ≡ m = omega arith in
-    subst (λ (z : ℕ). bit_at (slice_index words (get_or xs z 0)) 33 ≡ 1) same (ap (λ (z : ℕ). bit_at z 33) (sym c.word.ensures) ∙ seen_some c.word.result 33 c.if-word-eq0.false))
+    subst (λ (z : ℕ). bit_at (slice_index words (get_or xs z 0)) 33 ≡ 1) same (ap (λ (z : ℕ). bit_at z 33) (sym c.word.ensures) ∙ bit_some c.word.result 33 c.if-word-eq0.false))
     (cases_lt m n)
 
 pub returns-then-word-eq0 : goal.returns-then-word-eq0

@@ -2,10 +2,10 @@ use Rattle.std.proofs.Common.{sym, ◌∙◌, not}
 use Rattle.std.proofs.lemmas.Bool.{false≢true}
 use Rattle.ts_model.specs.Sync.{TouchesHeld}
 use Rattle.ts_model.specs.declared.plan.Side.TheVariants as side
-use Rattle.ts_need.proofs.Touches.{listed_lawful}
 use Rattle.ts_need.proofs.Edges.{Tells-from, Tells-changed, differ_reason, same_reason, same_none, same_unchanged, differ_changed}
 use Rattle.ts_need.specs.Needs.{snapshot_of}
 use Rattle.ts_need.proofs.reasons.reason_of_edge.Goals as goal
+use Rattle.ts_laws.proofs.Listings.{listed_lawful}
 
 pub returns-then-first_changed : goal.returns-then-first_changed
 returns-then-first_changed c =

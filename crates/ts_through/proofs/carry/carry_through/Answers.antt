@@ -6,7 +6,7 @@ use Rattle.ts_model.specs.declared.plan.Plan.{Plan}
 use Rattle.ts_model.specs.declared.row.Stamp.{Stamp}
 use Rattle.ts_table.specs.Splits.{MaySplit}
 use Rattle.ts_laws.specs.Carried.{copied}
-use Rattle.ts_board.proofs.Edits.{are_replicas, are_trees}
+use Rattle.ts_board.proofs.Edits.{are_replicas}
 use Rattle.ts_check.specs.Checkup.{snapshot_of}
 use Rattle.std.specs.Mem.Slots.{slots_items}
 use Rattle.ts_model.specs.declared.plan.Side.TheVariants as side
@@ -17,11 +17,12 @@ use Rattle.ts_laws.proofs.Plans.{one_commit}
 use Rattle.ts_through.proofs.Parts.{first_may_split, second_may_split}
 use Rattle.ts_through.proofs.Placing.{targets_placed}
 use Rattle.ts_through.proofs.carry.carry_through.Goals as goal
+use Rattle.ts_laws.proofs.Listings.{listed_lawful}
 
 pub cut-requires-clause-apart : goal.cut-requires-clause-apart
 cut-requires-clause-apart g c =
     let k = c.args.checked.now in
-    let lawful = are_trees k.archive k.first k.second k.rules (subst (λ (rows : Listing Stamp). IsListing rows) c.archive.ensures c.rows-archive.ensures.listing)
+    let lawful = listed_lawful k.archive k.first k.second k.rules (subst (λ (rows : Listing Stamp). IsListing rows) c.archive.ensures c.rows-archive.ensures.listing)
     (subst (λ (rows : Listing Stamp). IsListing rows) c.first.ensures c.rows-first.ensures.listing) (subst (λ (rows : Listing Stamp). IsListing rows) c.second.ensures c.rows-second.ensures.listing) in
     subst (λ entries. MaySplit (at c.args.first.now) (paths_from side.Second entries)) (sym (c.as_slice-entries.ensures ∙ ap (λ (p : Plan). p.entries) c.plan-plan.ensures.plan))
     (first_may_split (snapshot_of k) k.plan (at c.args.first.now) (at c.args.second.now) c.plan-plan.ensures.valid lawful (are_replicas k.archive k.first k.second k.rules c.args.first.now c.args.second.now c.requires.first c.requires.second))
@@ -29,7 +30,7 @@ cut-requires-clause-apart g c =
 pub cut-requires-2-clause-apart : goal.cut-requires-2-clause-apart
 cut-requires-2-clause-apart g c =
     let k = c.args.checked.now in
-    let lawful = are_trees k.archive k.first k.second k.rules (subst (λ (rows : Listing Stamp). IsListing rows) c.archive.ensures c.rows-archive.ensures.listing)
+    let lawful = listed_lawful k.archive k.first k.second k.rules (subst (λ (rows : Listing Stamp). IsListing rows) c.archive.ensures c.rows-archive.ensures.listing)
     (subst (λ (rows : Listing Stamp). IsListing rows) c.first.ensures c.rows-first.ensures.listing) (subst (λ (rows : Listing Stamp). IsListing rows) c.second.ensures c.rows-second.ensures.listing) in
     subst (λ entries. MaySplit (at c.args.second.now) (paths_from side.First entries)) (sym (c.as_slice-entries.ensures ∙ ap (λ (p : Plan). p.entries) c.plan-plan.ensures.plan))
     (second_may_split (snapshot_of k) k.plan (at c.args.first.now) (at c.args.second.now) c.plan-plan.ensures.valid lawful (are_replicas k.archive k.first k.second k.rules c.args.first.now c.args.second.now c.requires.first c.requires.second))

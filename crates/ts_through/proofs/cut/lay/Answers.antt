@@ -3,12 +3,13 @@ use Rattle.std.specs.Vec.Iter.{into_iter_items}
 use Rattle.ts_check.proofs.Scans.{got_beside}
 use Rattle.ts_model.specs.Trees.{Listing}
 use Rattle.ts_model.specs.declared.plan.Entry.{Entry}
-use Rattle.ts_through.proofs.Laying.{AreLaying, laid_all, laid_more, laid_past, nothing_left, some_left, this_one}
+use Rattle.ts_through.proofs.Laying.{AreLaying, laid_all, laid_more, laid_past, some_left, this_one}
 use Rattle.ts_through.proofs.cut.lay.Goals as goal
 use Rattle.ts_through.proofs.cut.lay.Goals.{then-is_from+in-Some, then-is_from+in_default, else-is_from}
 use Rattle.ts_model.specs.Plans.{is_from, source}
 use Rattle.ts_model.proofs.Reasons.{source_from_test, test_from_source}
 use Rattle.std.proofs.lemmas.Bool.{true≢false}
+use Rattle.std.proofs.lemmas.List.{nil_from_length}
 
 pub loop-index-preserved : goal.loop-index-preserved
 loop-index-preserved c =
@@ -36,7 +37,7 @@ loop-index-preserved c =
           }
       | then-is_from+in_default w ↦
           let why : source entry.reason ≡ Some r = source_from_test r entry.reason (search rules) in
-          let none : into_iter_items c.loop-index.rest ≡ [] = nothing_left (into_iter_items c.loop-index.rest) (sym inv.left ∙ w.in_default.ensures.cases.0) in
+          let none : into_iter_items c.loop-index.rest ≡ [] = nil_from_length (into_iter_items c.loop-index.rest) (sym inv.left ∙ w.in_default.ensures.cases.0) in
           let now : into_iter_items w.next.new.self ≡ [] = sym w.in_default.ensures.items ∙ none in
           record {
             laid = λ t taken. absurd (some_left r t entries n entry less here (into_iter_items c.loop-index.rest) c.loop-index.parts.items why none (inv.laid t taken));

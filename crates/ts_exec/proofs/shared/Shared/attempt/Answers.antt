@@ -11,9 +11,10 @@ use Rattle.ts_exec.specs.Tidy.{AreTakes}
 use Rattle.ts_exec.specs.Sharing.{setting_of}
 use Rattle.ts_exec.proofs.Claims.{not_released, not_taken}
 use Rattle.ts_exec.proofs.Reading.{may_later, starts_after, starts_through, told_done, told_failed}
-use Rattle.ts_exec.proofs.Steps.{has_right, hasnot_both, takes_none}
+use Rattle.ts_exec.proofs.Steps.{has_right, takes_none}
 use Rattle.ts_exec.proofs.Tries.{block, claim_here, ending, steps_done, steps_failed, try_done, try_failed, try_none}
 use Rattle.ts_exec.proofs.shared.Shared.attempt.Goals as goal
+use Rattle.ts_laws.proofs.Cuts.{none_in_both}
 
 pub returns-in_err-held-clause-steps : goal.returns-in_err-held-clause-steps
 returns-in_err-held-clause-steps g c = ([], c.in_err-held.ensures.lost.0.1 ∙ sym (append-nil (mine c.args.pass.now)), try_none c.args.self.now.checked.now.plan c.args.i c.from_residual.result, tt)
@@ -35,9 +36,9 @@ release_all-requires-clause-fresh g c κs within = λ k.
     let steps = c.act.ensures.steps in let more = steps.0 in let plan = j.checked.now.plan in
     let a = c.act.new.held.action in let w = work_of c.act.new.held in
     let before : HasNot own (releases i k) = not_released (terms_of g.S.Site.content j.board.now) j.checked.now (j.plan, j.first_print, j.second_print) j.valid c.args.pass.now c.claim.new.pass i won.1 k in
-    let claimed : HasNot (mine c.claim.new.pass) (releases i k) = subst (λ (z : Run). HasNot z (releases i k)) (sym won.1.2) (hasnot_both (releases i k) own (Claim i ∷ []) before refl) in
-    let acted : HasNot (mine c.act.new.pass) (releases i k) = subst (λ (z : Run). HasNot z (releases i k)) (sym steps.1) (hasnot_both (releases i k) (mine c.claim.new.pass) more claimed (takes_none (releases i k) plan c.in_ok-held.held.action (λ l. refl) more steps.2)) in
-    subst (λ (z : Run). HasNot z (releases i k)) (sym c.done.ensures.done.2) (hasnot_both (releases i k) (mine c.act.new.pass) (Act a w ∷ Done a ∷ []) acted refl)
+    let claimed : HasNot (mine c.claim.new.pass) (releases i k) = subst (λ (z : Run). HasNot z (releases i k)) (sym won.1.2) (none_in_both (releases i k) own (Claim i ∷ []) before refl) in
+    let acted : HasNot (mine c.act.new.pass) (releases i k) = subst (λ (z : Run). HasNot z (releases i k)) (sym steps.1) (none_in_both (releases i k) (mine c.claim.new.pass) more claimed (takes_none (releases i k) plan c.in_ok-held.held.action (λ l. refl) more steps.2)) in
+    subst (λ (z : Run). HasNot z (releases i k)) (sym c.done.ensures.done.2) (none_in_both (releases i k) (mine c.act.new.pass) (Act a w ∷ Done a ∷ []) acted refl)
 
 pub returns-in-Ok-clause-steps : goal.returns-in-Ok-clause-steps
 returns-in-Ok-clause-steps g c =

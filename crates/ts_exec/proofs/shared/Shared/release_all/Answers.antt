@@ -4,9 +4,9 @@ use Rattle.ts_model.specs.Plans.{Waits}
 use Rattle.ts_model.specs.Runs.{Run, Has, HasNot, finishes, releases}
 use Rattle.ts_model.specs.declared.plan.Plan.{Plan}
 use Rattle.ts_board.specs.Calls.{mine}
-use Rattle.ts_exec.proofs.Steps.{has_left, hasnot_both}
 use Rattle.ts_exec.proofs.Rows.{are_releases, ascend_within, contains_at, not_released_yet, released_among, releases_for}
 use Rattle.ts_exec.proofs.shared.Shared.release_all.Goals as goal
+use Rattle.ts_laws.proofs.Cuts.{any_in_longer, none_in_both}
 
 pub release-requires-clause-action : goal.release-requires-clause-action
 release-requires-clause-action g c κs within =
@@ -18,10 +18,10 @@ release-requires-clause-may g c κs within =
     let j = c.args.self.now in let js = c.successors-successors.result.now in let n = c.loop-j.j-index in let i = c.args.i in let own = mine c.args.pass.now in
     let k = get_or js n 0 in let inv = c.loop-j.invariant in
     let h : n < length js = c.loop-j-test.true in (
-      subst (λ (z : Run). Has z (finishes i)) (sym inv.steps) (has_left (finishes i) own (releases_for i (take n js)) c.requires.done),
+      subst (λ (z : Run). Has z (finishes i)) (sym inv.steps) (any_in_longer (finishes i) own (releases_for i (take n js)) c.requires.done),
       subst (λ (z : Plan). Waits z k i) (sym j.plan) ((c.successors-successors.ensures.waiting k).0 (contains_at js n 0 h)),
       subst (λ (z : Run). HasNot z (releases i k)) (sym inv.steps)
-          (hasnot_both (releases i k) own (releases_for i (take n js)) (c.requires.fresh k) (not_released_yet (length j.checked.now.plan.actions) i n 0 js c.successors-successors.ensures.ascending h)),
+          (none_in_both (releases i k) own (releases_for i (take n js)) (c.requires.fresh k) (not_released_yet (length j.checked.now.plan.actions) i n 0 js c.successors-successors.ensures.ascending h)),
     )
 
 pub returns-clause-steps : goal.returns-clause-steps

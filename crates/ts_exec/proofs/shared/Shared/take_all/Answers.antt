@@ -10,10 +10,11 @@ use Rattle.ts_board.specs.Calls.{mine, seen}
 use Rattle.ts_board.specs.Runs.{StartsWith}
 use Rattle.ts_exec.specs.Sharing.{setting_of}
 use Rattle.ts_exec.proofs.Reading.{read_front, starts_after, starts_through}
-use Rattle.ts_exec.proofs.Steps.{has_right, hasnot_both}
+use Rattle.ts_exec.proofs.Steps.{has_right}
 use Rattle.ts_exec.proofs.Rows.{among_of_take, are_takes, contains_at, not_taken_yet, piece_within, taken_among, takes_for, takes_more, taking_pending}
 use Rattle.ts_exec.proofs.Wholes.{IsFilled, filled_exact, filled_next, filled_start, filled_whole}
 use Rattle.ts_exec.proofs.shared.Shared.take_all.Goals as goal
+use Rattle.ts_laws.proofs.Cuts.{none_in_both}
 
 -- the piece at hand, by what the checked plan says and by what the board was opened for
 pub take-bytes-requires-clause-piece : goal.take-bytes-requires-clause-piece
@@ -42,7 +43,7 @@ take-bytes-requires-clause-untaken g c κs within =
     let h : n < length xs = c.loop-k-test.true in
     let here : IsPieceOf j.checked.now.plan a k = subst (λ (z : ℕ). IsPieceOf j.checked.now.plan z k) c.action.ensures ((c.pieces-pieces.ensures.pieces k).0 (contains_at xs n 0 h)) in
     subst (λ (z : Run). HasNot z (takes k)) (sym inv.steps)
-    (hasnot_both (takes k) (mine c.args.pass.now) (takes_for a (take n xs)) (c.requires.untaken k here) (not_taken_yet j.checked.now.plan a n 0 xs c.pieces-pieces.ensures.order h))
+    (none_in_both (takes k) (mine c.args.pass.now) (takes_for a (take n xs)) (c.requires.untaken k here) (not_taken_yet j.checked.now.plan a n 0 xs c.pieces-pieces.ensures.order h))
 
 pub add-requires-after_bounds : goal.add-requires-after_bounds
 add-requires-after_bounds g c κs within =
