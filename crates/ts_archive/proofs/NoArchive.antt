@@ -23,9 +23,12 @@ use Rattle.ts_print.specs.Readers.{BeginsNoPrint}
 use Rattle.ts_print.specs.declared.fault.PrintFault.{PrintFault}
 use Rattle.ts_print.specs.declared.fault.PrintFault.TheVariants as print_fault
 use Rattle.ts_archive.specs.Endings.{header, end_line, EndFits, IsNoArchive, EndsWrong, FindsNoArchive}
-use Rattle.ts_archive.specs.Faults.{fault_of_reader, fault_of_text}
+use Rattle.ts_archive.specs.Faults.{IsOfReader, fault_of_text}
+use Rattle.ts_archive.specs.declared.fault.ArchiveFault.{ArchiveFault}
 use Rattle.ts_archive.proofs.Archives.{wrong_end}
-use Rattle.ts_archive.proofs.Forms.{Formed, IsNoEnd, Stands, are_lines, end_is_line, formed_right, header_is_line, no_archive, print_no_end, stands}
+use Rattle.ts_archive.proofs.Forms.{Formed, IsNoEnd, Stands, end_is_line, formed_right, header_is_line, no_archive, print_no_end, stands}
+use Rattle.ts_tree.proofs.NoTree.{known_weaker}
+use Rattle.ts_print.proofs.PrintTexts.{print_are_lines}
 
 -- ---- at the end line
 
@@ -48,7 +51,7 @@ pub record Read (bytes : List ℕ) (fed : List Line) (left : List ℕ) (n : ℕ)
 
 standing : (bytes left : List ℕ) (fed : List Line) (n : ℕ) (f : Formed bytes) → Read bytes fed left n → Stands bytes f fed left
 standing bytes left fed n f r =
-    stands bytes f fed left (subst (λ z. AllByRecursion IsLine z) r.lines (are_lines r.rows r.print)) (subst (λ z. AllByRecursion IsNoEnd z) r.lines (print_no_end r.rows r.print)) r.split
+    stands bytes f fed left (subst (λ z. AllByRecursion IsLine z) r.lines (print_are_lines r.rows r.print)) (subst (λ z. AllByRecursion IsNoEnd z) r.lines (print_no_end r.rows r.print)) r.split
 
 -- nothing is left, but no end line was met
 ended_early : (bytes left : List ℕ) (fed : List Line) (n : ℕ) → Read bytes fed left n → left ≡ [] → ¬ Formed bytes
@@ -61,7 +64,7 @@ unlined bytes left fed n r none f = let s = standing bytes left fed n f r in go 
     go : (more : List Line) → print_lines f.rows ≡ fed ++ more → left ≡ text more ++ (end_line f.count f.digest ++ 10 ∷ []) → ⊥
     go [] lines is = none.none (end_line f.count f.digest) [] (end_is_line f.count f.digest (fits_here bytes f fed n r.number r.small (lines ∙ append-nil fed))) is
     go (m ∷ more) lines is =
-        none.none m (text more ++ (end_line f.count f.digest ++ 10 ∷ [])) (all_parts IsLine fed (m ∷ more) (subst (λ z. AllByRecursion IsLine z) lines (are_lines f.rows f.print))).1.0
+        none.none m (text more ++ (end_line f.count f.digest ++ 10 ∷ [])) (all_parts IsLine fed (m ∷ more) (subst (λ z. AllByRecursion IsLine z) lines (print_are_lines f.rows f.print))).1.0
         (is ∙ ap (λ z. z ++ (end_line f.count f.digest ++ 10 ∷ [])) (text_cons m more) ∙ append_assoc m (10 ∷ text more) (end_line f.count f.digest ++ 10 ∷ []))
 
 -- the next line is the end line, with nothing behind it; or that of the next row
@@ -78,7 +81,7 @@ next_line bytes left fed n line rest f r is begins = let s = standing bytes left
         let cut = cut_at 10 line (end_line f.count f.digest) rest [] is.one (end_is_line f.count f.digest fits).one (sym begins ∙ ends) in
         last (lines ∙ append-nil fed) cut.0 cut.1
     go (m ∷ more) lines ends =
-        let m_is = (all_parts IsLine fed (m ∷ more) (subst (λ z. AllByRecursion IsLine z) lines (are_lines f.rows f.print))).1.0 in
+        let m_is = (all_parts IsLine fed (m ∷ more) (subst (λ z. AllByRecursion IsLine z) lines (print_are_lines f.rows f.print))).1.0 in
         let m_other = (all_parts IsNoEnd fed (m ∷ more) (subst (λ z. AllByRecursion IsNoEnd z) lines (print_no_end f.rows f.print))).1.0 in
         let cut = cut_at 10 line m rest (text more ++ (end_line f.count f.digest ++ 10 ∷ [])) is.one m_is.one
         (sym begins ∙ ends ∙ ap (λ z. z ++ (end_line f.count f.digest ++ 10 ∷ [])) (text_cons m more) ∙ append_assoc m (10 ∷ text more) (end_line f.count f.digest ++ 10 ∷ [])) in
@@ -161,10 +164,6 @@ kept_none None b keeps none = tt
 kept_none (Some x) None keeps none = absurd keeps
 kept_none (Some x) (Some y) keeps none = subst (λ z. HasNoLine z) keeps none
 
-weaker : (a : Option (List ℕ)) (P Q : List ℕ → Type 0) → ((x : List ℕ) → P x → Q x) → IfSome a P → IfSome a Q
-weaker None P Q h p = tt
-weaker (Some x) P Q h p = h x p
-
 -- the lines that were taken, with the rows that they say
 pub record Rows (old now : Reading) (fed : List Line) (n : ℕ) : Type 0 where
   pub taken : Taken old now (header ∷ fed)
@@ -184,12 +183,12 @@ pub at_header_fault : (old new : Reading) (e : TextFault) → Taken old old [] �
 at_header_fault old new text_fault.OutOfMemory taken answers = absurd answers
 at_header_fault old new text_fault.Failed taken answers = taken_failed old old new [] taken answers
 at_header_fault old new text_fault.NotCanonical taken answers =
-    weaker old.left HasNoLine IsNoArchive (λ x none. no_archive x (no_header x (λ rest e. none.none header rest header_is_line e))) (kept_none old.left new.left answers.kept answers.none)
+    known_weaker old.left HasNoLine IsNoArchive (λ x none. no_archive x (no_header x (λ rest e. none.none header rest header_is_line e))) (kept_none old.left new.left answers.kept answers.none)
 
 -- another line stands in its place
 pub at_header_other : (old new : Reading) → GivesLine old new → new.line ≢ header → IfSome old.left IsNoArchive
 at_header_other old new gives other =
-    weaker old.left (λ x. (rest : List ℕ) × (x ≡ new.line ++ 10 ∷ rest) × Unit {0}) IsNoArchive
+    known_weaker old.left (λ x. (rest : List ℕ) × (x ≡ new.line ++ 10 ∷ rest) × Unit {0}) IsNoArchive
     (λ x found. no_archive x (no_header x (λ rest e. other (cut_at 10 new.line header found.0 rest gives.line.one header_is_line.one (sym found.1 ∙ e)).0)))
     (gave old.left new.left new.line (λ _. Unit {0}) gives.bytes (anything new.left))
 
@@ -214,14 +213,14 @@ only_refused reason print_fault.NotCanonical refuses = tt
 
 -- the line is neither a row's nor an end line
 pub at_line_refused : (old now next : Reading) (fed : List Line) (n : ℕ) (e : PrintFault) → Rows old now fed n → GivesLine now next
-    → Refuses (BeginsNoPrint (fed ++ next.line ∷ [])) e → ((count : ℕ) (digest : List ℕ) → EndFits count digest → next.line ≢ end_line count digest) → FindsNoArchive old next (fault_of_reader e)
-at_line_refused old now next fed n print_fault.OutOfMemory r gives refuses other = tt
-at_line_refused old now next fed n print_fault.TooLong r gives refuses other = tt
-at_line_refused old now next fed n print_fault.Failed r gives refuses other = tt
-at_line_refused old now next fed n print_fault.NotCanonical r gives refuses other =
-    reading old now fed n (λ y. (rest : List ℕ) × (y ≡ next.line ++ 10 ∷ rest) × Unit {0}) IsNoArchive r
+    → Refuses (BeginsNoPrint (fed ++ next.line ∷ [])) e → ((count : ℕ) (digest : List ℕ) → EndFits count digest → next.line ≢ end_line count digest) → (f : ArchiveFault) → IsOfReader e f → FindsNoArchive old next f
+at_line_refused old now next fed n print_fault.OutOfMemory r gives refuses other f is = subst (λ z. FindsNoArchive old next z) (sym is) tt
+at_line_refused old now next fed n print_fault.TooLong r gives refuses other f is = absurd is
+at_line_refused old now next fed n print_fault.Failed r gives refuses other f is = absurd is
+at_line_refused old now next fed n print_fault.NotCanonical r gives refuses other f is =
+    subst (λ z. FindsNoArchive old next z) (sym is) (reading old now fed n (λ y. (rest : List ℕ) × (y ≡ next.line ++ 10 ∷ rest) × Unit {0}) IsNoArchive r
     (gave now.left next.left next.line (λ _. Unit {0}) gives.bytes (anything next.left))
-    (λ x y read found. no_archive x (no_line_here x y fed n next.line found.0 read gives.line found.1 refuses other))
+    (λ x y read found. no_archive x (no_line_here x y fed n next.line found.0 read gives.line found.1 refuses other)))
 
 -- a line stands behind the end line
 pub at_more : (old now next new : Reading) (fed : List Line) (n : ℕ) (count : ℕ) (digest : List ℕ) → Rows old now fed n → GivesLine now next → next.line ≡ end_line count digest
@@ -229,7 +228,7 @@ pub at_more : (old now next new : Reading) (fed : List Line) (n : ℕ) (count : 
 at_more old now next new fed n count digest r gives told more =
     reading old now fed n (λ y. (rest : List ℕ) × (y ≡ next.line ++ 10 ∷ rest) × (rest ≢ [])) IsNoArchive r
     (gave now.left next.left next.line (λ rest. rest ≢ []) gives.bytes
-    (weaker next.left (λ x. (rest : List ℕ) × (x ≡ new.line ++ 10 ∷ rest) × Unit {0}) (λ rest. rest ≢ []) (λ x found e. no_text new.line found.0 (sym found.1 ∙ e))
+    (known_weaker next.left (λ x. (rest : List ℕ) × (x ≡ new.line ++ 10 ∷ rest) × Unit {0}) (λ rest. rest ≢ []) (λ x found e. no_text new.line found.0 (sym found.1 ∙ e))
     (gave next.left new.left new.line (λ _. Unit {0}) more.bytes (anything new.left))))
     (λ x y read found. no_archive x (not_last x y fed n next.line found.0 count digest read gives.line found.1 told found.2))
 
@@ -241,7 +240,7 @@ at_more_fault old now next new fed n count digest text_fault.Failed r gives told
 at_more_fault old now next new fed n count digest text_fault.NotCanonical r gives told taken answers =
     reading old now fed n (λ y. (rest : List ℕ) × (y ≡ next.line ++ 10 ∷ rest) × (rest ≢ [])) IsNoArchive r
     (gave now.left next.left next.line (λ rest. rest ≢ []) gives.bytes
-    (weaker next.left HasNoLine (λ rest. rest ≢ []) (λ x none. none.some) (kept_none next.left new.left answers.kept answers.none)))
+    (known_weaker next.left HasNoLine (λ rest. rest ≢ []) (λ x none. none.some) (kept_none next.left new.left answers.kept answers.none)))
     (λ x y read found. no_archive x (not_last x y fed n next.line found.0 count digest read gives.line found.1 told found.2))
 
 -- a wrong end line is that of no archive file

@@ -20,12 +20,12 @@ fault_of_text text.OutOfMemory = fault.OutOfMemory
 fault_of_text text.Failed = fault.Failed
 fault_of_text text.NotCanonical = fault.NotCanonical
 
--- the fault of a print's reader, which is only one of two: no other is asked for
-abbrev pub fault_of_reader : PrintFault → ArchiveFault
-fault_of_reader print.OutOfMemory = fault.OutOfMemory
-fault_of_reader print.TooLong = fault.OutOfMemory
-fault_of_reader print.Failed = fault.OutOfMemory
-fault_of_reader print.NotCanonical = fault.NotCanonical
+-- the fault of a print's reader as one of an archive file: a reader that is given lines has two, and no others
+abbrev pub IsOfReader : PrintFault → ArchiveFault → Type 0
+IsOfReader print.OutOfMemory e = e ≡ fault.OutOfMemory
+IsOfReader print.NotCanonical e = e ≡ fault.NotCanonical
+IsOfReader print.TooLong e = ⊥
+IsOfReader print.Failed e = ⊥
 
 -- a writer's fault: its sink's count of failures changes where the sink failed, and only there; else memory ran out
 abbrev pub FailuresFit : {A : Type 0} → ℕ → ℕ → Result A ArchiveFault → Type 0

@@ -1,5 +1,5 @@
 ghost use Rattle.std.specs.Prelude.{◌≡◌};
-ghost use Rattle.ts_archive.specs.Faults.{fault_number, fault_of_reader};
+ghost use Rattle.ts_archive.specs.Faults.{IsOfReader, fault_number};
 ghost use Rattle.ts_print.specs.Faults.{Refuses};
 
 use std::alloc::{AllocError, AllocFailed};
@@ -78,7 +78,7 @@ impl From<TextFault> for ArchiveFault {
 /// The fault of a print's reader, which is given lines: it touches no device, and a path that is too long is no line of a print.
 pub(crate) fn of_reader(fault: PrintFault) -> ArchiveFault
     requires { Refuses (Unit {0}) fault }
-    ensures { result ≡ fault_of_reader fault }
+    ensures { IsOfReader fault result }
 {
     match fault {
         PrintFault::OutOfMemory => ArchiveFault::OutOfMemory,

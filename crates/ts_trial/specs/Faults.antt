@@ -5,19 +5,12 @@
 use Rattle.std.specs.Prelude.{◌≡◌, ◌≢◌, ◌⊎◌, ℕ, Result, Ok, Err}
 use Rattle.ts_text.specs.Lines.{Reading}
 use Rattle.ts_tree.specs.Decoding.{SourceFailed}
-use Rattle.ts_bundle.specs.declared.fault.BundleFault.{BundleFault}
-use Rattle.ts_bundle.specs.declared.fault.BundleFault.TheVariants as bundle
 use Rattle.ts_trial.specs.declared.fault.TrialFault.{TrialFault}
 use Rattle.ts_trial.specs.declared.fault.TrialFault.TheVariants.{OutOfMemory, Failed}
 
 abbrev pub fault_number : TrialFault → ℕ
 fault_number OutOfMemory = 1
 fault_number Failed = 5
-
-abbrev pub fault_of_bundle : BundleFault → TrialFault
-fault_of_bundle bundle.OutOfMemory = OutOfMemory
-fault_of_bundle bundle.Failed = Failed
-fault_of_bundle bundle.Malformed = Failed
 
 -- the writer's count of failures changes where the writer failed, and only there
 abbrev pub FailuresFit : {A : Type 0} → ℕ → ℕ → Result A TrialFault → Type 0

@@ -3,7 +3,6 @@ ghost use Rattle.ts_trial.specs.Faults.{fault_number};
 
 use std::alloc::{AllocError, AllocFailed};
 use thiserror::Error;
-use ts_bundle::BundleFault;
 
 /// Why `trial` ended without an answer.
 #[derive(Clone, Copy, Debug, PartialEq, Eq, Error)]
@@ -47,19 +46,5 @@ impl<T: Drop> From<AllocFailed<T>> for TrialFault {
 
     fn from(_fault: AllocFailed<T>) -> TrialFault {
         TrialFault::OutOfMemory
-    }
-}
-
-impl From<BundleFault> for TrialFault {
-    ghost use Rattle.std.specs.Prelude.{◌≡◌};
-    ghost use Rattle.ts_trial.specs.Faults.{fault_of_bundle};
-
-    ghost from_gives = { λ b e. e ≡ fault_of_bundle b };
-
-    fn from(fault: BundleFault) -> TrialFault {
-        match fault {
-            BundleFault::OutOfMemory => TrialFault::OutOfMemory,
-            BundleFault::Failed | BundleFault::Malformed => TrialFault::Failed,
-        }
     }
 }

@@ -3,7 +3,7 @@ ghost use Rattle.ts_bundle.specs.Bundles.{values};
 ghost use Rattle.ts_model.specs.Headline.{Meets};
 ghost use Rattle.ts_model.specs.Texts.{IsBundle, text};
 ghost use Rattle.ts_model.specs.Trees.{AreApart, at, print_of};
-ghost use Rattle.ts_model.specs.Trial.{HasContentsApart, Trial, skipped_count};
+ghost use Rattle.ts_model.specs.Trial.{HasContentsApart, Trial, result_lines, skipped_count};
 ghost use Rattle.ts_text.specs.Sources.{Writes};
 ghost use Rattle.ts_trial.specs.Answers.{AnswersBundle, WritesOne, refusal};
 ghost use Rattle.ts_trial.specs.Faults.{FailuresFit, HasCause};
@@ -14,7 +14,9 @@ use std::alloc::Global;
 use std::thread::Threads;
 use ts_bundle::{Bundle, BundleFault, count_skipped, decode, write_result};
 use ts_check::{CheckFault, Checked, check};
+use ts_model::items::Items;
 use ts_model::plan::{Entry, PlanRule};
+use ts_model::row::{Row, Stamp};
 use ts_print::Print;
 use ts_text::{Lines, Sink, Source, TextFault, push_decimal, write_line};
 use ts_through::carry_through;
@@ -98,7 +100,7 @@ fn settle<T: Threads + Sync, W: Sink>(
     let _plan = checked.plan();
     let carried = carry_through(rt, alloc, checked, &bundle.first, &bundle.second, workers)?;
     let entries = bundle.plan.entries.as_slice();
-    write_result(
+    write_carried(
         alloc,
         carried.first.rows(),
         carried.second.rows(),
@@ -107,6 +109,26 @@ fn settle<T: Threads + Sync, W: Sink>(
         writer,
     )?;
     Ok(exit_status(entries))
+}
+
+/// Writes the result of a plan that was carried out.
+fn write_carried<W: Sink>(
+    alloc: Global,
+    first: &[Row<Items<u8>>],
+    second: &[Row<Items<u8>>],
+    archive: &[Row<Stamp>],
+    entries: &[Entry],
+    writer: &mut W,
+) -> Result<(), TrialFault>
+    ensures written { Writes (W.holds writer.old) (W.holds writer.new) (text (result_lines first.now second.now archive.now entries.now)) result }
+    ensures failures { FailuresFit (W.failures writer.old) (W.failures writer.new) result }
+{
+    match write_result(alloc, first, second, archive, entries, writer) {
+        Ok(()) => Ok(()),
+        Err(BundleFault::OutOfMemory) => Err(TrialFault::OutOfMemory),
+        Err(BundleFault::Failed) => Err(TrialFault::Failed),
+        Err(BundleFault::Malformed) => unreachable!(),
+    }
 }
 
 /// The exit status of a plan that was carried out.

@@ -71,11 +71,10 @@ pub returns-in-Err-line-clause-refused : goal.returns-in-Err-line-clause-refused
 returns-in-Err-line-clause-refused g c =
     let gives = rw c.if-not-branch-2.false at c.in_ok-advance-2.ensures.answers in
     let refused = c.in-Err-line.ensures.refused in
-    rw c.of_reader.ensures
-    (at_line_refused c.args.lines.now c.loop-count.lines c.advance-in-loop-count.new.self c.loop-count.reader c.loop-count.count c.in-Err-line.fault
+    at_line_refused c.args.lines.now c.loop-count.lines c.advance-in-loop-count.new.self c.loop-count.reader c.loop-count.count c.in-Err-line.fault
     (record { taken = c.loop-count.invariant.taken; rows = c.reader.inside.print; print = c.reader.invariant; lines = c.reader.view_is; number = c.loop-count.invariant.counted; small = omega arith })
     gives (subst (λ z. Refuses (BeginsNoPrint (c.loop-count.reader ++ z ∷ [])) c.in-Err-line.fault) c.line-line.ensures refused)
-    (λ count digest fits e. c.in_default.ensures.none count digest fits (c.line-line.ensures ∙ e)))
+    (λ count digest fits e. c.in_default.ensures.none count digest fits (c.line-line.ensures ∙ e)) c.of_reader.result c.of_reader.ensures
 
 pub loop-count-init : goal.loop-count-init
 loop-count-init g c =

@@ -21,9 +21,9 @@ returns-in_err-carried-clause-answered g c =
     rw p.1 (λ apart. nothing_written {E = ℕ} (values c.args.bundle.now) (g.W.Sink.holds c.args.writer.now) c.requires.bundle apart 0)
 
 -- A beginning of the result went out.
-pub returns-in_err-write_result-clause-answered : goal.returns-in_err-write_result-clause-answered
-returns-in_err-write_result-clause-answered g c =
-    let p = err_from_is_err_and c.from_residual-in_err-write_result.result c.from_residual-in_err-write_result.ensures.1 in
+pub returns-in_err-write_carried-clause-answered : goal.returns-in_err-write_carried-clause-answered
+returns-in_err-write_carried-clause-answered g c =
+    let p = err_from_is_err_and c.from_residual-in_err-write_carried.result c.from_residual-in_err-write_carried.ensures.1 in
     let o = c.in_ok-carried.carried in
     let e = c.in_ok-carried.ensures in
     let b = c.args.bundle.now in
@@ -36,10 +36,10 @@ returns-in_err-write_result-clause-answered g c =
           (e.first ∙ ap (λ z. copied side.Second (at b.second) (at b.first) z.plan.entries) c.requires.same)
           (e.second ∙ ap (λ z. copied side.First (at b.first) (at b.second) z.plan.entries) c.requires.same)
           (e.archive ∙ ap (λ z. marked_all (snapshot_of z) (at z.archive) z.plan.entries) c.requires.same),
-      subst (λ t. AppendsFront (g.W.Sink.holds c.args.writer.now) (g.W.Sink.holds c.write_result.new.sink) t)
+      subst (λ t. AppendsFront (g.W.Sink.holds c.args.writer.now) (g.W.Sink.holds c.write_carried.new.writer) t)
           (same_text c.rows.result.now o.first c.rows-2.result.now o.second c.rows-3.result.now o.archive c.as_slice-entries.result.now b.plan.entries
           c.rows.ensures.rows c.rows-2.ensures.rows c.rows-3.ensures.rows c.as_slice-entries.ensures)
-          c.in_err-write_result.ensures.written,
+          c.in_err-write_carried.ensures.written,
     ))
 
 -- The result went out.
@@ -57,8 +57,8 @@ returns-clause-answered g c =
           (e.first ∙ ap (λ z. copied side.Second (at b.second) (at b.first) z.plan.entries) c.requires.same)
           (e.second ∙ ap (λ z. copied side.First (at b.first) (at b.second) z.plan.entries) c.requires.same)
           (e.archive ∙ ap (λ z. marked_all (snapshot_of z) (at z.archive) z.plan.entries) c.requires.same)),
-      subst (λ t. Appends (g.W.Sink.holds c.args.writer.now) (g.W.Sink.holds c.write_result.new.sink) t)
+      subst (λ t. Appends (g.W.Sink.holds c.args.writer.now) (g.W.Sink.holds c.write_carried.new.writer) t)
           (same_text c.rows.result.now o.first c.rows-2.result.now o.second c.rows-3.result.now o.archive c.as_slice-entries.result.now b.plan.entries
           c.rows.ensures.rows c.rows-2.ensures.rows c.rows-3.ensures.rows c.as_slice-entries.ensures)
-          c.in_ok-write_result.ensures.written,
+          c.in_ok-write_carried.ensures.written,
     )
