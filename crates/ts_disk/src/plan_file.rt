@@ -1,10 +1,12 @@
 //! The plan of a run, which lies in both replicas while swaps may be half done.
+ghost use Rattle.std.specs.Prelude.{◌≡◌, ◌++◌, IfOk, codes};
+ghost use Rattle.std.specs.String.{string_bytes};
 ghost use Rattle.ts_model.specs.Texts.{IsPlan};
 
 use crate::fault::DiskFault;
 use crate::modes::PRIVATE_FILE;
 use crate::place::{Standing, flush_dir, kind_at, make_own, own_place};
-use std::alloc::Global;
+use std::alloc::{AllocError, Global};
 use std::fs::{Files, OpenFile, OpenOptions};
 use std::io::{BufReader, BufWriter, Write};
 use std::os::unix::fs::OpenOptionsExt;
@@ -14,9 +16,12 @@ use ts_plan::PlanFault;
 use ts_text::{Counted, Lines};
 
 /// The place of the plan file in a replica.
-fn plan_place(alloc: Global, root: &str) -> Result<String, DiskFault> {
+fn plan_place(alloc: Global, root: &str) -> Result<String, AllocError>
+    ensures { IfOk result (λ place. string_bytes place ≡ root.now ++ codes "/.twosync/plan") }
+{
     let own = own_place(alloc, root)?;
-    Ok(format!(in alloc; "{own}/plan")?)
+    let place = format!(in alloc; "{own}/plan")?;
+    Ok(place)
 }
 
 /// Writes the plan to `.twosync/plan` in a replica's root, in place of the file that is there: first whole under another name,

@@ -1,4 +1,6 @@
 //! New trees, written beside a replica until they are put in place.
+ghost use Rattle.std.specs.Prelude.{◌≡◌, None};
+
 use crate::modes::{PRIVATE_DIR, PRIVATE_FILE, permissions_at};
 use crate::place::{Standing, make_private_dir};
 use std::fs::{Files, OpenFile, OpenOptions, Permissions};
@@ -23,7 +25,10 @@ pub(crate) struct Bits<'a> {
 
 impl Bits<'_> {
     /// Those of nothing: for the owner alone.
-    pub(crate) fn private() -> Bits<'static> {
+    pub(crate) fn private() -> Bits<'static>
+        ensures kept { result.kept ≡ None }
+        ensures source { result.source ≡ None }
+    {
         Bits {
             kept: None,
             source: None,
