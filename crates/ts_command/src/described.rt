@@ -29,6 +29,25 @@ run is at work, 9 nothing is there, 10 neither a file nor a folder or a name tha
 bad hold rule, 12 a plan is too large, 14 what was to be replaced has changed, 15 what was read isn't
 what was scanned, 16 words that are no command.";
 
+/// What stands below the help of the commands on a pair.
+const PLAN_EXAMPLE: &str = "\
+Example:
+  twosync plan ~/notes /mnt/stick/notes ~/.notes.archive > plan";
+
+const CHECK_EXAMPLE: &str = "\
+Example:
+  twosync check ~/notes /mnt/stick/notes ~/.notes.archive plan
+
+It prints `valid`, or `refused RULE PLACE` for the first rule that the plan breaks.";
+
+const RUN_EXAMPLE: &str = "\
+Example:
+  twosync run ~/notes /mnt/stick/notes ~/.notes.archive plan";
+
+const SYNC_EXAMPLE: &str = "\
+Example:
+  twosync sync ~/notes /mnt/stick/notes ~/.notes.archive --holds ~/.notes.holds";
+
 /// A file or a folder that a command needs. An empty word names none.
 fn place<'a>(alloc: Global, name: &'a str, help: &'a str) -> Arg<'a>
     ensures rule { rule_of result ≡ place_rule name.now }
@@ -65,13 +84,19 @@ fn holds<'a>(alloc: Global) -> Arg<'a>
         .help("Rules, one a line: `path /a/b` or `name *.o`. What they name stays untouched")
 }
 
-/// The subcommand of this name, with FIRST, SECOND, ARCHIVE, `--holds` and `--workers`.
-fn on_pair<'a>(alloc: Global, name: &'a str, about: &'a str) -> Result<Command<'a>, AllocError>
+/// The subcommand of this name, with FIRST, SECOND, ARCHIVE, `--holds` and `--workers`, and an example of it.
+fn on_pair<'a>(
+    alloc: Global,
+    name: &'a str,
+    about: &'a str,
+    example: &'a str,
+) -> Result<Command<'a>, AllocError>
     ensures shape { IfOk result (λ c. app_of c ≡ record { top = taking name.now pair_rules; subs = [] }) }
     ensures local { IfOk result IsLocal }
 {
     Command::new(alloc, name)
         .about(about)
+        .after_help(example)
         .arg(place(alloc, "FIRST", "A folder"))?
         .arg(place(alloc, "SECOND", "The other folder"))?
         .arg(place(alloc, "ARCHIVE", "What both had in common"))?
@@ -84,11 +109,12 @@ fn on_pair_with_plan<'a>(
     alloc: Global,
     name: &'a str,
     about: &'a str,
+    example: &'a str,
 ) -> Result<Command<'a>, AllocError>
     ensures shape { IfOk result (λ c. app_of c ≡ record { top = taking name.now planned_pair_rules; subs = [] }) }
     ensures local { IfOk result IsLocal }
 {
-    on_pair(alloc, name, about)?.arg(place(alloc, "PLAN", "A plan, as `plan` prints it"))
+    on_pair(alloc, name, about, example)?.arg(place(alloc, "PLAN", "A plan, as `plan` prints it"))
 }
 
 /// The subcommand that answers a bundle.
@@ -98,6 +124,7 @@ fn trial<'a>(alloc: Global) -> Result<Command<'a>, AllocError>
 {
     Command::new(alloc, "trial")
         .about("Answers a bundle of archive, folders, rules and plan on standard input")
+        .after_help("Example:\n  twosync trial < bundle")
         .arg(workers(alloc))
 }
 
@@ -108,6 +135,7 @@ fn scan<'a>(alloc: Global) -> Result<Command<'a>, AllocError>
 {
     Command::new(alloc, "scan")
         .about("Prints the archive of a folder as it is now")
+        .after_help("Example:\n  twosync scan ~/notes > notes.archive")
         .arg(place(alloc, "DIR", "A folder"))?
         .arg(workers(alloc))
 }
@@ -119,6 +147,7 @@ fn show<'a>(alloc: Global) -> Result<Command<'a>, AllocError>
 {
     Command::new(alloc, "show")
         .about("Prints what an archive has, a path a line")
+        .after_help("Example:\n  twosync show ~/.notes.archive")
         .arg(place(alloc, "ARCHIVE", "An archive"))
 }
 
@@ -148,9 +177,9 @@ fn with_planning<'a>(alloc: Global) -> Result<Command<'a>, AllocError>
     ensures { IfOk result (λ c. app_of c ≡ planning_line) }
 {
     let about = "Prints what has to be done to make both folders alike";
-    let line = with_single(alloc)?.subcommand(on_pair(alloc, "plan", about)?)?;
+    let line = with_single(alloc)?.subcommand(on_pair(alloc, "plan", about, PLAN_EXAMPLE)?)?;
     let about = "Says whether a plan is valid for what is there";
-    line.subcommand(on_pair_with_plan(alloc, "check", about)?)
+    line.subcommand(on_pair_with_plan(alloc, "check", about, CHECK_EXAMPLE)?)
 }
 
 /// The whole command line.
@@ -158,7 +187,12 @@ pub(crate) fn described<'a>(alloc: Global) -> Result<Command<'a>, AllocError>
     ensures { IfOk result (λ c. app_of c ≡ command_line) }
 {
     let about = "Checks a plan, carries it out, and writes the archive";
-    let line = with_planning(alloc)?.subcommand(on_pair_with_plan(alloc, "run", about)?)?;
+    let line = with_planning(alloc)?.subcommand(on_pair_with_plan(
+        alloc,
+        "run",
+        about,
+        RUN_EXAMPLE,
+    )?)?;
     let about = "Plans and runs: makes both folders alike";
-    line.subcommand(on_pair(alloc, "sync", about)?)
+    line.subcommand(on_pair(alloc, "sync", about, SYNC_EXAMPLE)?)
 }

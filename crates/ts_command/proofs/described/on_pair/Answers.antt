@@ -8,7 +8,7 @@ use Rattle.ts_command.proofs.described.on_pair.Goals as goal
 
 pub returns-clause-shape : goal.returns-clause-shape
 returns-clause-shape c =
-    let start : app_of c.about.result ≡ new_app c.args.name.now = ap app_of_fields c.about.ensures ∙ c.new.ensures.app in
+    let start : app_of c.after_help.result ≡ new_app c.args.name.now = ap app_of_fields c.after_help.ensures ∙ ap app_of_fields c.about.ensures ∙ c.new.ensures.app in
     let first : app_of c.in_ok-arg.field-0 ≡ with_rule (new_app c.args.name.now) (place_rule (codes "FIRST")) =
     rule_step c.in_ok-arg.ensures c.place.ensures.local _ _ start c.place.ensures.rule in
     let second = rule_step c.in_ok-arg-2.ensures c.place-2.ensures.local _ _ first c.place-2.ensures.rule in
@@ -18,7 +18,7 @@ returns-clause-shape c =
 
 pub returns-clause-local : goal.returns-clause-local
 returns-clause-local c =
-    let start : IsLocal c.about.result = ap (λ f. f.has_globals) c.about.ensures ∙ c.new.ensures.local in
+    let start : IsLocal c.after_help.result = ap (λ f. f.has_globals) c.after_help.ensures ∙ ap (λ f. f.has_globals) c.about.ensures ∙ c.new.ensures.local in
     let first = local_step c.in_ok-arg.ensures c.place.ensures.local start in
     let second = local_step c.in_ok-arg-2.ensures c.place-2.ensures.local first in
     let third = local_step c.in_ok-arg-3.ensures c.place-3.ensures.local second in
