@@ -1,6 +1,6 @@
 #!/usr/bin/env bash
-# Compares what the program of generated cases is wanted to print of the checker and of the planner with what the same cases
-# come to in another language, by another reading of the rules and of the reasons.
+# Compares what the program of generated cases is wanted to print of the checker, of the planner and of the decoders with what
+# the same cases come to in another language, by another reading of the rules, of the reasons and of the formats.
 # usage: tests/counts.sh
 set -u
 cd "$(dirname "$0")/.." || exit 1
@@ -21,5 +21,6 @@ counted() {
 
 counted 'the checker' checked_cases_counts.py
 counted 'the planner' planned_cases_counts.py
+counted 'hostile inputs' hostile_counts.py
 echo "counts: $passed passed, $failed failed"
 [ "$failed" = 0 ]

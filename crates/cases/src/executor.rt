@@ -249,12 +249,12 @@ where
     Ok(())
 }
 
-/// Runs a named case without workers and with 1, 2 and 64: what comes of it is what is wanted.
+/// Runs a named case without workers and with 1, 2, 4 and 64: what comes of it is what is wanted.
 fn run_named<R>(rt: &R, case: &Case) -> Result<()>
 where
     R: Threads + AllocGlobal + Sync,
 {
-    for workers in [0, 1, 2, 64] {
+    for workers in [0, 1, 2, 4, 64] {
         let came = came_of(rt, case, workers).context("running a case")?;
         ensure!(came.as_str() == case.wanted, "another result");
     }

@@ -2,7 +2,7 @@
 use std::alloc::Global;
 use std::io;
 use std::io::{ErrorKind, Read, Write};
-use ts_bundle::{Bundle, BundleFault, count_skipped, decode, write_result};
+use ts_bundle::{Bundle, BundleFault, BundleReader, count_skipped, decode, write_result};
 use ts_text::{Counted, Lines};
 
 /// Trees and an archive in which three entries were carried out.
@@ -228,4 +228,37 @@ fn a_plan_past_a_limit_is_no_part_of_a_bundle(rt: HostRuntime) {
         panic!(rt; "out of memory");
     };
     assert!(rt; number_of(rt.alloc(), whole(&text)) == 17);
+}
+
+/// The lines of a bundle whose first replica has a new file, which is held.
+const LINES: &[&[u8]] = &[
+    b"twosync-bundle 1",
+    b"archive",
+    b"first",
+    b"f /a 1",
+    b"x 61",
+    b"second",
+    b"holds",
+    b"path /a",
+    b"plan",
+    b"twosync-plan 1",
+    b"entry held /a",
+    b"end 1 0",
+];
+
+/// The bundle of these lines.
+fn bundle_of(alloc: Global, lines: &[&[u8]]) -> Option<Bundle> {
+    let mut reader = BundleReader::new();
+    for line in lines {
+        reader = reader.line(alloc, *line).ok()?;
+    }
+    reader.finish().ok()
+}
+
+#[test]
+fn takes_lines(rt: HostRuntime) {
+    let Some(bundle) = bundle_of(rt.alloc(), LINES) else {
+        panic!(rt; "no bundle");
+    };
+    assert!(rt; sizes(&bundle) == [0, 1, 0, 1, 1, 0, 1]);
 }

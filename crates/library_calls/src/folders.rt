@@ -281,3 +281,52 @@ fn lists_and_reads_on_a_disk(rt: HostRuntime) {
     assert_reads_of_large(&rt, alloc, &folder, &large);
     assert!(rt; fs::remove_dir_all(&rt, ROOT).is_ok());
 }
+
+/// Up to two bytes of the file that is opened at a path, from an offset on.
+fn filled<F: Folder>(alloc: Global, folder: &F, text: &str, offset: u64) -> Option<Vec<u8>> {
+    let mut file = folder.open_file(alloc, &path(alloc, text)?).ok()?;
+    let mut buffer = [0; 2];
+    let count = folder.fill(&mut file, offset, &mut buffer).ok()?;
+    Vec::from_slice(alloc, buffer.get(..count)?).ok()
+}
+
+/// Whether those are these bytes.
+fn fills<F: Folder>(alloc: Global, folder: &F, text: &str, offset: u64, want: &[u8]) -> bool {
+    match filled(alloc, folder, text, offset) {
+        Some(bytes) => bytes.as_slice() == want,
+        None => false,
+    }
+}
+
+#[test]
+fn opens_and_fills_in_memory(rt: HostRuntime) {
+    let alloc = rt.alloc();
+    let Some(folder) = small(alloc) else {
+        panic!(rt; "no folder");
+    };
+    assert!(rt; fills(alloc, &folder, "/a/b", 0, b"a"));
+    assert!(rt; fills(alloc, &folder, "/c", 1, b""));
+}
+
+#[test]
+fn opens_and_fills_where_nothing_fails(rt: HostRuntime) {
+    let alloc = rt.alloc();
+    let Some(folder) = faulty(alloc) else {
+        panic!(rt; "no folder");
+    };
+    assert!(rt; fills(alloc, &folder, "/a/b", 0, b"a"));
+}
+
+#[test]
+fn opens_and_fills_on_a_disk(rt: HostRuntime) {
+    let alloc = rt.alloc();
+    assert!(rt; fs::create_dir(&rt, "opened_on_disk").is_ok());
+    assert!(rt; fs::write(&rt, "opened_on_disk/f", "abc").is_ok());
+    let Ok(folder) = DiskFolder::new(alloc, rt, "opened_on_disk") else {
+        panic!(rt; "out of memory");
+    };
+    for (offset, want) in [(0, b"ab".as_slice()), (2, b"c"), (3, b"")] {
+        assert!(rt; fills(alloc, &folder, "/f", offset, want), "{offset}");
+    }
+    assert!(rt; fs::remove_dir_all(&rt, "opened_on_disk").is_ok());
+}

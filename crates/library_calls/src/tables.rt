@@ -1,9 +1,10 @@
 //! Tables of paths, on the tree of `/a`, `/a/b` and `/a.b`.
 use crate::shared::path;
 use std::alloc::Global;
-use ts_model::row::{Content, Row};
+use ts_model::items::Items;
+use ts_model::row::{Content, Row, Stamp};
 use ts_name::Path;
-use ts_table::{Edit, Frame, SubTable, Table, TableFault};
+use ts_table::{CopyFile, Edit, Frame, SubTable, Table, TableFault};
 
 /// Puts a file at the end, or a directory where the data is 0. Whether its row may come next.
 fn add(table: &mut Table<u8>, alloc: Global, text: &str, file: u8) -> Option<bool> {
@@ -453,4 +454,29 @@ fn gives_back_what_is_too_long(rt: HostRuntime) {
     assert!(rt; rows_joined(alloc, 63) == Some(67));
     assert!(rt; join_refused(alloc, 64) == Some((4, 2, 2, *b"5---")));
     assert!(rt; rows_refused(alloc, 64) == Some(65));
+}
+
+/// Bytes, a stamp and a byte, each copied as the data of a file.
+fn files_copied(alloc: Global) -> Option<(Vec<u8>, Stamp, u8)> {
+    let bytes = Items::new(Vec::from_slice(alloc, b"ab").ok()?);
+    let stamp = Stamp {
+        size: 2,
+        digest: [7; 32],
+    };
+    let byte = 9_u8;
+    Some((
+        bytes.copy_file(alloc).ok()?.into_vec(),
+        stamp.copy_file(alloc).ok()?,
+        byte.copy_file(alloc).ok()?,
+    ))
+}
+
+#[test]
+fn copies_files(rt: HostRuntime) {
+    let Some((bytes, stamp, byte)) = files_copied(rt.alloc()) else {
+        panic!(rt; "no copies");
+    };
+    assert!(rt; bytes.as_slice() == b"ab".as_slice());
+    assert!(rt; stamp.size == 2 && stamp.digest == [7; 32]);
+    assert!(rt; byte == 9);
 }

@@ -3,7 +3,7 @@ use crate::shared::{Tight, has_taken, plan_of, sink_of};
 use std::alloc::Global;
 use std::io::ErrorKind;
 use ts_model::plan::Plan;
-use ts_report::{Ending, ReportFault, Results, write};
+use ts_report::{Ending, Fate, ReportFault, Results, write, write_fates};
 use ts_text::Counted;
 
 /// Ends of actions that were told beforehand; those beyond them were not begun.
@@ -145,6 +145,29 @@ fn writes_a_beginning_where_the_writer_fails(rt: HostRuntime) {
             )
         );
     }
+}
+
+/// Whether these fates of a plan's entries are written as this report, whose status is 2.
+fn reports_fates(alloc: Global, text: &[u8], fates: &[Fate], want: &[u8]) -> bool {
+    let Some(plan) = plan_of(alloc, text) else {
+        return false;
+    };
+    let entries = plan.entries.as_slice();
+    if fates.len() != entries.len() {
+        return false;
+    }
+    let mut sink = sink_of(alloc, 2, 1_000, None);
+    match write_fates(alloc, entries, fates, &mut sink) {
+        Ok(totals) => totals.status() == 2 && has_taken(sink, want, 1_000),
+        Err(_) => false,
+    }
+}
+
+#[test]
+fn tells_fates(rt: HostRuntime) {
+    let fates = [Fate::Failed, Fate::Blocked];
+    let want = b"failed first /a\nblocked first /b\ntotal 2 done 0 skipped 0 failed 1 blocked 1\n";
+    assert!(rt; reports_fates(rt.alloc(), TWO_FILES, &fates, want));
 }
 
 #[test]

@@ -146,3 +146,44 @@ fn replaced_blindly(alloc: Global) -> Option<(u8, [u8; 3], bool, bool)> {
 fn blind_places_fail_before_a_rename(rt: HostRuntime) {
     assert!(rt; replaced_blindly(rt.alloc()) == Some((8, *b"o..", true, true)));
 }
+
+/// Writes a tree to the new spot, if nothing is there. Whether that was done.
+fn writes(places: &mut MemPlaces, tree: &SubTable<Items<u8>>) -> bool {
+    match places.present(Spot::New) {
+        Ok(false) => places.write(tree.rows()).is_ok(),
+        _ => false,
+    }
+}
+
+/// Moves what is at a spot to another one, if something is at the one and nothing at the other. Whether that was done.
+fn moves(places: &mut MemPlaces, from: Spot, to: Spot) -> bool {
+    match (places.present(from), places.present(to)) {
+        (Ok(true), Ok(false)) => places.rename(from, to).is_ok(),
+        _ => false,
+    }
+}
+
+/// Writes, moves aside, moves in place and removes, and what lies at the spots after each.
+fn swapped_by_hand(alloc: Global) -> Option<[[u8; 3]; 4]> {
+    let tree = tree(alloc, b'n')?;
+    let mut places = places(alloc, b'o', 99, false)?;
+    if !writes(&mut places, &tree) {
+        return None;
+    }
+    let written = all(&places);
+    if !moves(&mut places, Spot::Target, Spot::Old) {
+        return None;
+    }
+    let aside = all(&places);
+    if !moves(&mut places, Spot::New, Spot::Target) {
+        return None;
+    }
+    let placed = all(&places);
+    places.remove(Spot::Old).ok()?;
+    Some([written, aside, placed, all(&places)])
+}
+
+#[test]
+fn each_call_does_its_part(rt: HostRuntime) {
+    assert!(rt; swapped_by_hand(rt.alloc()) == Some([*b"on.", *b".no", *b"n.o", *b"n.."]));
+}

@@ -1,9 +1,9 @@
 //! Lines, and the fields of a line.
-use crate::shared::{Drip, dripping, has_taken, repeated, sink_of};
+use crate::shared::{Drip, Tight, dripping, has_taken, repeated, sink_of};
 use std::alloc::Global;
 use ts_text::{
-    Counted, Lines, Source, TextFault, field_dec, field_digest, push_decimal, push_digest,
-    push_word, split_word, write_line,
+    Counted, Lines, Sink, Source, TextFault, field_dec, field_digest, push_decimal, push_digest,
+    push_word, split_word, write_all, write_line,
 };
 
 /// The next line with a bar behind it, or a dot at the end, or a fault's number; and whether it was a line.
@@ -146,6 +146,46 @@ fn writes_a_line_or_its_beginning(rt: HostRuntime) {
     for room in 0..7 {
         assert!(rt; writes_into(rt.alloc(), room), "room for {room}");
     }
+}
+
+/// Whether the source gives just these bytes at once, and has never failed.
+fn gives(source: &mut Counted<Drip<'_>>, want: &[u8]) -> bool {
+    let mut buffer = [0; 4];
+    match source.read(&mut buffer) {
+        Ok(count) => buffer.get(..count) == Some(want) && source.failures == 0,
+        Err(_) => false,
+    }
+}
+
+#[test]
+fn a_source_gives_its_bytes(rt: HostRuntime) {
+    let mut source = Counted::new(dripping(b"abc", 2));
+    for want in [b"ab".as_slice(), b"c", b""] {
+        assert!(rt; gives(&mut source, want), "{want:?}");
+    }
+}
+
+/// Whether the sink takes so many of the bytes at once, and has never failed.
+fn takes(sink: &mut Counted<Tight>, bytes: &[u8], want: usize) -> bool {
+    match sink.write(bytes) {
+        Ok(count) => count == want && sink.failures == 0,
+        Err(_) => false,
+    }
+}
+
+#[test]
+fn a_sink_takes_bytes(rt: HostRuntime) {
+    let mut sink = sink_of(rt.alloc(), 2, 3, None);
+    assert!(rt; takes(&mut sink, b"abc", 2));
+    assert!(rt; takes(&mut sink, b"c", 1));
+    assert!(rt; has_taken(sink, b"abc", 3));
+}
+
+#[test]
+fn writes_all_bytes(rt: HostRuntime) {
+    let mut sink = sink_of(rt.alloc(), 2, 9, None);
+    assert!(rt; write_all(&mut sink, b"ab\nc\0").is_ok());
+    assert!(rt; has_taken(sink, b"ab\nc\0", 9));
 }
 
 #[test]

@@ -1,8 +1,13 @@
 //! Real folders, each test in one of its own below the system's place for such.
+use crate::shared::{path, tree_of};
+use std::alloc::Global;
 use std::fs::{File, Files};
 use std::rt::Env;
 use std::{env, fs, process};
-use ts_disk::{DiskFault, Notice, recover_replica, take_lock};
+use ts_disk::{DiskFault, DiskPlaces, Notice, mount_above, recover_replica, take_lock};
+use ts_model::items::Items;
+use ts_swap::{Places, Spot};
+use ts_table::SubTable;
 
 /// The place of a folder for the process of this number.
 fn ground<R: Env + AllocGlobal>(rt: &R, number: u32, name: &str) -> Option<String> {
@@ -143,6 +148,65 @@ fn recovery_keeps_what_has_no_place_to_go_back_to(rt: HostRuntime) {
         panic!(rt; "no memory");
     };
     assert!(rt; keeps(&rt, root.as_str(), place.as_str()));
+}
+
+/// A file of the one byte `n`.
+fn new_file(alloc: Global) -> Option<SubTable<Items<u8>>> {
+    let tree = tree_of(alloc, b"f /a 1\nx 6e\n")?;
+    tree.sub_table(alloc, &path(alloc, "/a")?).ok()
+}
+
+/// The spots of entry 1, at `/d/a`.
+fn places_of<R: AllocGlobal + Clone + Drop>(rt: &R, root: &str) -> Option<DiskPlaces<R>> {
+    let alloc = rt.alloc();
+    let path = path(alloc, "/d/a")?;
+    DiskPlaces::new(alloc, rt.clone().ok()?, root, &path, 1).ok()
+}
+
+/// Whether a swap by hand puts the new file in the old one's place: each call does its part.
+fn swaps<R: Files + AllocGlobal + Clone + Drop>(rt: &R, root: &str) -> bool {
+    let (Some(file), Some(mut places)) = (new_file(rt.alloc()), places_of(rt, root)) else {
+        return false;
+    };
+    stops(rt, root, [true, false, false])
+        && places.write(file.rows()).is_ok()
+        && has(rt, root, ".twosync/new-1", Some("n"))
+        && places.present(Spot::Target) == Ok(true)
+        && places.rename(Spot::Target, Spot::Old).is_ok()
+        && places.present(Spot::Target) == Ok(false)
+        && has(rt, root, ".twosync/old-1", Some("t"))
+        && places.rename(Spot::New, Spot::Target).is_ok()
+        && places.remove(Spot::Old).is_ok()
+        && has(rt, root, "d/a", Some("n"))
+        && has(rt, root, ".twosync/new-1", None)
+        && has(rt, root, ".twosync/old-1", None)
+        && fs::remove_dir_all(rt, root).is_ok()
+}
+
+#[test]
+fn each_call_of_a_swap_does_its_part(rt: HostRuntime) {
+    let Some(root) = ground(&rt, process::id(rt.process()), "swap") else {
+        panic!(rt; "no place");
+    };
+    assert!(rt; swaps(&rt, root.as_str()));
+}
+
+/// Whether nothing is found to be mounted at a path of a small replica or above it.
+fn finds_no_mount<R: Files + AllocGlobal>(rt: &R, root: &str) -> bool {
+    let Some(place) = path(rt.alloc(), "/d/a") else {
+        return false;
+    };
+    stops(rt, root, [true, false, false])
+        && mount_above(rt, rt.alloc(), root, &place).is_ok_and(|found| found.is_none())
+        && fs::remove_dir_all(rt, root).is_ok()
+}
+
+#[test]
+fn nothing_is_mounted_in_a_folder(rt: HostRuntime) {
+    let Some(root) = ground(&rt, process::id(rt.process()), "mount") else {
+        panic!(rt; "no place");
+    };
+    assert!(rt; finds_no_mount(&rt, root.as_str()));
 }
 
 /// What comes of taking the lock, which is let go at once: whether there is a replica, or the fault.

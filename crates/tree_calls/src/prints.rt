@@ -1,7 +1,7 @@
 //! Texts of prints both ways, whatever the source and the sink do, and stamps.
 use crate::shared::{BODY, Drip, TREE, has_taken, print_of, sink_of, source_of, spelled, tree_of};
 use std::alloc::Global;
-use ts_print::{Print, PrintFault, PrintReader, decode, encode, stamp_of};
+use ts_print::{Print, PrintFault, PrintReader, decode, encode, stamp_of, write_row};
 use ts_text::{Counted, Lines, field_digest};
 
 fn read(alloc: Global, source: Counted<Drip<'_>>) -> Result<Print, PrintFault> {
@@ -158,6 +158,27 @@ fn writes_a_beginning_where_the_sink_fails(rt: HostRuntime) {
             );
         }
     }
+}
+
+/// Whether the print's rows, written one by one, are this text.
+fn writes_rows_of(alloc: Global, print: &Print, text: &[u8]) -> bool {
+    let mut line = Vec::new(alloc);
+    let mut sink = sink_of(alloc, 7, 1_000);
+    for row in print.rows() {
+        if write_row(row, &mut line, &mut sink).is_err() {
+            return false;
+        }
+    }
+    has_taken(sink, text)
+}
+
+#[test]
+fn writes_rows(rt: HostRuntime) {
+    let alloc = rt.alloc();
+    let (Some(print), Some(text)) = (print_of(alloc, BODY), spelled(alloc, BODY)) else {
+        panic!(rt; "no print");
+    };
+    assert!(rt; writes_rows_of(alloc, &print, &text));
 }
 
 #[test]

@@ -25,6 +25,8 @@ pub struct Case {
     pub told: &'static [&'static str],
     /// The path whose reading fails, in the first folder; none where it is no path.
     pub unread: &'static str,
+    /// The same in the second folder.
+    pub unread_in_second: &'static str,
     /// The number of the action whose site's device fails.
     pub breaks: u32,
     /// Whether a file lies at the sites, where the plan was checked for none.
@@ -50,12 +52,25 @@ const NEW_FILE: Case = Case {
     second: &[],
     told: FILE,
     unread: "",
+    unread_in_second: "",
     breaks: NO_ACTION,
     taken: false,
     wanted: "done, done, done, ",
 };
 
-/// The cases. What is wanted follows from the rules: a commit waits for its pieces and a mark for its commit.
+/// A new directory in both replicas, each with a new file in it, and nothing that fails.
+const IN_DIR: Case = Case {
+    name: "files in a new directory",
+    first: FIRST_IN_DIR,
+    second: SECOND_IN_DIR,
+    told: FIRST_IN_DIR,
+    wanted: "done, done, done, done, done, done, done, ",
+    ..NEW_FILE
+};
+
+/// The cases. What is wanted follows from the rules: a commit waits for its pieces, a mark for its commit, and below a new
+/// directory its mark for the directory's. Each reading and each site of two new files fails in turn, and so it goes for
+/// those in a new directory.
 pub const CASES: &[Case] = &[
     NEW_FILE,
     Case {
@@ -67,6 +82,14 @@ pub const CASES: &[Case] = &[
         ..NEW_FILE
     },
     Case {
+        name: "the other file's site fails",
+        first: FILES,
+        told: FILES,
+        breaks: 4,
+        wanted: "done, done, done, done, failed 8, blocked by 4, ",
+        ..NEW_FILE
+    },
+    Case {
         name: "a file that can't be read",
         first: FILES,
         told: FILES,
@@ -75,13 +98,37 @@ pub const CASES: &[Case] = &[
         ..NEW_FILE
     },
     Case {
+        name: "the other file can't be read",
+        first: FILES,
+        told: FILES,
+        unread: "/b",
+        wanted: "done, done, done, failed 8, blocked by 3, blocked by 4, ",
+        ..NEW_FILE
+    },
+    IN_DIR,
+    Case {
         name: "a site that fails in a new directory",
-        first: FIRST_IN_DIR,
-        second: SECOND_IN_DIR,
-        told: FIRST_IN_DIR,
         breaks: 2,
         wanted: "done, done, failed 8, blocked by 2, done, done, done, ",
-        ..NEW_FILE
+        ..IN_DIR
+    },
+    Case {
+        name: "the other site fails in a new directory",
+        breaks: 5,
+        wanted: "done, done, done, done, done, failed 8, blocked by 5, ",
+        ..IN_DIR
+    },
+    Case {
+        name: "a file that can't be read in a new directory",
+        unread: "/d/x",
+        wanted: "done, failed 8, blocked by 1, blocked by 2, done, done, done, ",
+        ..IN_DIR
+    },
+    Case {
+        name: "the other file can't be read in a new directory",
+        unread_in_second: "/d/y",
+        wanted: "done, done, done, done, failed 8, blocked by 4, blocked by 5, ",
+        ..IN_DIR
     },
     Case {
         name: "a file that became shorter",
@@ -147,7 +194,7 @@ where
         return None;
     }
     let first = folder(alloc, case.told, case.unread)?;
-    let second = folder(alloc, case.second, "")?;
+    let second = folder(alloc, case.second, case.unread_in_second)?;
     match run(
         rt, alloc, &*checked, &first, &second, sites, workers, &OpenGate,
     ) {
