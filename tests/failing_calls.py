@@ -19,6 +19,9 @@ LARGE = int(os.environ.get("LARGE", 200000))
 NOBODY = "65534:65534"
 ERRORS = ["EIO", "ENOSPC", "EACCES"]
 OPEN_ERRORS = ERRORS + ["EMFILE"]
+# a call that was interrupted may be made again at once, so it isn't interrupted for ever
+INTERRUPTED = "EINTR"
+LISTS = ["getdents64"]
 MODES = ["chmod", "fchmod", "fchmodat"]
 LOOKS = ["stat", "lstat", "fstat", "newfstatat", "statx"]
 # How many calls fail: one; three of its name, one after the other; all of its name from then on; all calls from then on.
@@ -42,6 +45,11 @@ def modes_at(place):
 
 class Failing(Case):
     """A case with paths that are left alone, with hold rules, and with permission bits."""
+
+    # what may be left of an original where one call fails alone
+    strict_asides = ()
+    # whether a run finds the pair as it was before any run
+    is_begun = False
 
     def __init__(self, name, first, second, archive, entries, skipped=(), holds=None, bits=(), took_part=True):
         self.skipped = {path: reason for reason, path in skipped}
@@ -67,14 +75,18 @@ class Failing(Case):
         self.new_modes = {replica: self.wanted_modes(replica) for replica in ("first", "second")}
         self.status = 1 if self.skipped else 0
         # looks change nothing, and fail here nevertheless: permission bits come of some, and others say what lies where
-        self.looks = LOOKS if bits else []
-        subprocess.run(["cp", "-a", self.base, self.base + " of nobody"], check=True)
-        if ORDINARY:
-            subprocess.run(["chown", "-R", NOBODY, self.base + " of nobody"], check=True)
+        self.looks = LISTS + (LOOKS if bits else [])
+        self.copy_for_nobody()
         # whether one call fails alone, so that all that was begun can be undone
         self.is_strict = True
         # whether permission bits may be missing, since a call by which they are given failed
         self.lacks_bits = False
+
+    def copy_for_nobody(self):
+        """Makes the pair that an ordinary user's run is given."""
+        subprocess.run(["cp", "-a", self.base, self.base + " of nobody"], check=True)
+        if ORDINARY:
+            subprocess.run(["chown", "-R", NOBODY, self.base + " of nobody"], check=True)
 
     def new_archive(self, archive):
         """That of the new pair, but at and below the paths that are left alone, where it is as it was."""
@@ -288,6 +300,51 @@ class Failing(Case):
         return self.problem_of_pair()
 
 
+class Stopped(Failing):
+    """A case whose run was killed in the middle of a swap, so that the next run has to recover first."""
+
+    strict_asides = ("old-",)
+    is_begun = True
+
+    def __init__(self, *words):
+        super().__init__("a recovery", *words)
+        for number in range(1, 200):
+            self.fresh()
+            stop = "inject=rename:signal=KILL:when=%d" % number
+            run(PROGRAM, ["strace", "-qq", "-f", "-o", "/dev/null", "-e", "trace=rename", "-e", stop])
+            asides = [name for replica in ("first", "second") for name in own_names(replica) if name.startswith("old-")]
+            # something was put in place before, and an original lies aside
+            if asides and read_tree("try/second").get("/a") == self.new["second"]["/a"]:
+                break
+        hold("a run is killed in the middle of a swap", not asides and "no original lies aside")
+        for place in (self.base, self.base + " of nobody"):
+            shutil.rmtree(place)
+        os.rename("try", self.base)
+        self.copy_for_nobody()
+
+    def problem_of_answer(self, status, said, is_mute):
+        out, err = said
+        told = [line for line in err.split("\n")[:-1] if not KEPT.match(line)]
+        faults = [FAULT.match(line) for line in told]
+        if not all(faults) or status not in (0, 2, 3):
+            return "status %s, and it says %s" % (status, repr(err))
+        # what recovery can't remove is reported before why the run is refused
+        if status == 3 and (out or not told or any(it.group(1) != "8" or it.group(2) is None for it in faults[:-1])) and not is_mute:
+            return "status 3, and it says %s and %s" % (repr(out), repr(err))
+        if status == 2 and not told and not is_mute:
+            return "status 2 without a fault"
+        if status == 0 and any(read_tree("try/" + replica) != self.new[replica] for replica in ("first", "second")):
+            return "status 0, and the replicas aren't what they have to be"
+        if status == 0 and open("try/archive", "rb").read() != self.archives[1]:
+            return "status 0, and the archive isn't the new one"
+        return None
+
+
+def stopped(name, *words):
+    """The one case that is also run to recover."""
+    return Stopped(*words) if name == "changes" else None
+
+
 def archive_end(body):
     """The line that ends an archive with this body."""
     return "end %d %s" % (body.count("\n") - 1, runs.hashlib.sha256(body.encode()).hexdigest())
@@ -301,6 +358,8 @@ def rows_of(archive):
 def may_fail(call, rest):
     """Whether a call of the program is one that is to fail: of those that open, all that open what a case is about, and of
     those that write also those of the report."""
+    if call in LISTS:
+        return os.path.realpath("try") in rest
     if call in OPENS + LOOKS:
         return '"' in rest and '"/' not in rest and '""' not in rest
     if call in WRITING:
@@ -328,6 +387,7 @@ def ways(found, tried):
     for position, (call, _) in enumerate(found):
         errors = OPEN_ERRORS if call in OPENS else ERRORS
         every = [(way, error, user) for error in errors for way in (ONCE, ON, THRICE) for user in (False, True)]
+        every += [(way, INTERRUPTED, user) for way in (ONCE, THRICE) for user in (False, True)]
         count = max(1, -(-LEAST // sum(name == call for name, _ in found)))
         if call in LOOKS:
             # each fails alone, and with the two after it
@@ -353,7 +413,7 @@ def fail(case, found, position, way, error, is_ordinary):
     before = ORDINARY if is_ordinary else []
     case.fresh(is_ordinary)
     case.is_strict = way == ONCE
-    case.asides = () if way == ONCE else ("old-", "trash-", "left-", "kept-")
+    case.asides = case.strict_asides if way == ONCE else ("old-", "trash-", "left-", "kept-")
     case.lacks_bits = way == ALL or call in MODES + OPENS + LOOKS
     words = failures(found, position, way, error)
     trace = "trace=" + ",".join(sorted({name for name, _ in found}) if way == ALL else [call])
@@ -396,12 +456,13 @@ def main():
     with open("log", "w"):
         os.chmod("log", 0o666)
     tried, failed = {}, 0
-    for case in [*cases(LARGE, Failing), *more_cases()]:
+    for case in [*cases(LARGE, Failing), *more_cases(), *filter(None, cases(LARGE, stopped))]:
         found = points(case, PROGRAM, may_fail, case.words, case.nothing(), case.looks)
         runs.tell_calls(case.name, found, "may fail")
-        case.fresh()
-        said = run(PROGRAM, words=case.words)[1]
-        hold("%s, its report" % case.name, said != (case.report("done"), "") and " ".join(said))
+        if not case.is_begun:
+            case.fresh()
+            said = run(PROGRAM, words=case.words)[1]
+            hold("%s, its report" % case.name, said != (case.report("done"), "") and " ".join(said))
         for each in ways(found, tried):
             fail(case, found, *each)
             failed += 1

@@ -193,7 +193,8 @@ class Case:
             left = [name for name in own_names(replica) if not self.may_stay(replica, name)]
             if left:
                 return "%s is left in .twosync of %s" % (left, replica)
-        if set(os.listdir("try")) != set(os.listdir(self.base)) | {"archive"}:
+        # a stopped run may have left its new archive beside the old one
+        if set(os.listdir("try")) != set(os.listdir(self.base)) - {"archive.new"} | {"archive"}:
             return "something is left beside the archive: %s" % os.listdir("try")
         if open("try/archive", "rb").read() != self.archives[1]:
             return "the archive isn't what it has to be"
