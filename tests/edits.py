@@ -8,6 +8,7 @@ and what the kit was made from. While the digest stays the same the answer does 
 has a line for each kit that it was tried with, since machines have different ones. Only this program writes the record.
 
 usage: tests/edits.py                  tries the named edits, those that have no record, and ten of the others
+       tests/edits.py --after-ci       the same, over the libraries that `rt ci` has just left
        tests/edits.py --look           says which edits these are, and tries none
        tests/edits.py --try CRATE ..   tries all edits of these crates
        tests/edits.py --try-all        tries all edits, which takes hours
@@ -186,8 +187,8 @@ class Record:
 class Repository:
     """A repository with its crates, its further edits and their record."""
 
-    def __init__(self, rt, root):
-        self.rt, self.root = rt, root
+    def __init__(self, rt, root, is_after_ci=False):
+        self.rt, self.root, self.is_after_ci = rt, root, is_after_ci
         os.environ.pop(rt.rtlib.ALLOW_C, None)
         self.crates = {it.name: it for it in rt.rtlib.crates_below(root)}
         self.record = Record(f"{root}/tests/edits.record", name_of_kit(rt))
@@ -253,13 +254,13 @@ class Repository:
             print(text, flush=True)
 
 
-def changed_at(tops, with_folders):
+def changed_at(tops, with_folders, kind="st_mtime_ns"):
     """Returns when each file below some paths was last changed, and each folder, where a file can have gone missing."""
     found = []
     for top in tops:
         for at, _, names in os.walk(top):
-            found += [os.stat(at).st_mtime_ns] if with_folders else []
-            found += [os.stat(f"{at}/{name}").st_mtime_ns for name in names]
+            found += [getattr(os.stat(at), kind)] if with_folders else []
+            found += [getattr(os.stat(f"{at}/{name}"), kind) for name in names]
     return found
 
 
@@ -267,11 +268,13 @@ class Libraries:
     """The libraries below the crates whose edits are tried.
 
     After `rt ci` in a fresh clone they hold statements alone and have no stamp: then each has to be newer than all that
-    it was made from. Else those are used whose stamp fits, as `rt` itself does. The two kinds don't mix.
+    it was made from. Else those are used whose stamp fits, as `rt` itself does. The two kinds don't mix. Libraries that `rt ci`
+    has kept from an earlier run come in any order, and with their old times: right after it, each has to have come here after
+    its sources.
     """
 
     def __init__(self, repository, crates):
-        self.rt, self.root = repository.rt, repository.root
+        self.rt, self.root, self.is_after_ci = repository.rt, repository.root, repository.is_after_ci
         self.say = repository.say
         self.needed = list(dict.fromkeys(it for crate in crates for it in crate.below()))
         # (is_built reads every source below a crate, once for each way down to it)
@@ -289,10 +292,13 @@ class Libraries:
         """Returns whether the library is newer than its sources and the libraries below it, which are fresh too."""
         if not os.path.isdir(crate.rlib) or any(it.name not in fresh for it in crate.deps):
             return False
-        made = changed_at([crate.rlib], with_folders=False)
         read = changed_at([f"{crate.folder}/{it}" for it in self.rt.rtlib.PARTS], with_folders=True)
-        read += changed_at([it.rlib for it in crate.deps], with_folders=False)
         read.append(os.stat(f"{self.root}/crates.txt").st_mtime_ns)
+        if self.is_after_ci:
+            made = changed_at([crate.rlib], with_folders=False, kind="st_ctime_ns")
+        else:
+            made = changed_at([crate.rlib], with_folders=False)
+            read += changed_at([it.rlib for it in crate.deps], with_folders=False)
         return bool(made) and max(read) < min(made)
 
     def tasks(self):
@@ -477,11 +483,13 @@ def look(repository):
 
 
 def main(words):
+    is_after_ci = words == ["--after-ci"]
+    words = [] if is_after_ci else words
     if words not in ([], ["--look"], ["--try-all"]) and (words[0] != "--try" or len(words) == 1):
         print(__doc__, file=sys.stderr)
         return 2
     os.chdir(TOP)
-    repository = Repository(load_rt(), TOP)
+    repository = Repository(load_rt(), TOP, is_after_ci)
     if words == ["--look"]:
         return look(repository)
     passed, failed = step(repository, words)

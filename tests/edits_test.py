@@ -99,13 +99,13 @@ class World:
             found.append((text.startswith("refused"), f"must-fail {key}: {text}"))
         return found
 
-    def run(self, *words, sample=0, seconds=3600):
+    def run(self, *words, sample=0, seconds=3600, is_after_ci=False):
         """Runs the step, and returns how many edits passed and failed. What was asked and said is kept."""
         self.build()
         edits.SAMPLE, edits.MOST_SECONDS, self.asked, said = sample, seconds, [], io.StringIO()
         by_function.try_all = self.prove
         with contextlib.redirect_stdout(said):
-            counts = edits.step(edits.Repository(RT, self.root), list(words))
+            counts = edits.step(edits.Repository(RT, self.root, is_after_ci), list(words))
         self.said = said.getvalue()
         return counts
 
@@ -382,7 +382,11 @@ def libraries_without_a_stamp_have_to_be_newer_than_their_sources(world):
         world.put("crates/low/out/rlib/low.rlib/format", "made by rt ci\n")
         same((world.run("--try", "high"), calls), ((2, 0), []))
         os.utime(f"{rlib}/format", (1, 1))
+        # after `rt ci` its time says nothing; that a source was changed since does
+        same((world.run("--try", "high", is_after_ci=True), calls), ((2, 0), []))
         same((world.run("--try", "high"), calls), ((2, 0), ["low"]))
+        world.put("crates/low/src/lib.rt", "fn low() { 1; }\n")
+        same((world.run("--try", "high", is_after_ci=True), calls), ((2, 0), ["low", "low"]))
     finally:
         RT.rtlib.Crate.build_rlib = build
 
