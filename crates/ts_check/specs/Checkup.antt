@@ -1,5 +1,6 @@
 -- What a checked plan says of its actions.
 --     Checkup                     the plan, and what it was checked against
+--     checkup_with plan ..        that of these
 --     IsSourcePart k c part       part is what the source of commit c has at its entry's path and below it; the target likewise
 use Rattle.std.specs.Prelude.{◌≡◌, ℕ, List, [], Some, None, slice_get}
 use Rattle.ts_model.specs.Plans.{KindIs, Copies}
@@ -20,6 +21,10 @@ pub record Checkup : Type 0 where
   pub first : Listing Stamp
   pub second : Listing Stamp
   pub rules : List Rule
+
+-- a plan, with what it was checked against
+abbrev pub checkup_with : Plan → Listing Stamp → Listing Stamp → Listing Stamp → List Rule → Checkup
+checkup_with plan archive first second rules = record { plan = plan; archive = archive; first = first; second = second; rules = rules }
 
 abbrev pub snapshot_of : Checkup → Snapshot
 snapshot_of k = listed_snapshot k.archive k.first k.second k.rules

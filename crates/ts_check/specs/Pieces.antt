@@ -3,13 +3,15 @@
 --     IsPieceIn a b plan ..          a lawful piece, by the prints of the two replicas
 --     IsStaged xs ys plan i place    action i is a piece of this entry, of the file in this row of the source, at this offset
 --     IsAgain plan i                 an earlier action is a piece of the same entry, path and offset
-use Rattle.std.specs.Prelude.{◌≡◌, ◌≢◌, ◌⊎◌, ◌↔◌, ℕ, ◌+◌, ◌<◌, List, [], length, map, AllPairs, Contains, Some, None, slice_get}
+use Rattle.std.specs.Prelude.{◌≡◌, ◌≢◌, ◌⊎◌, ◌↔◌, ℕ, ◌+◌, ◌<◌, List, [], length, map, AllPairs, Contains, Option, Some, None, MatchOption, slice_get}
 use Rattle.std.specs.Ordering.{nat_cmp, ordering_then}
 use Rattle.std.specs.declared.cmp.Ordering.{Ordering}
 use Rattle.std.specs.BTreeMap.{BTreeMap, get}
 use Rattle.ts_name.specs.Paths.{Path, IsAbove, IsBefore}
 use Rattle.ts_model.specs.Trees.{Listing, at}
 use Rattle.ts_model.specs.Plans.{EntryIs, KindIs, Copies, Earlier, IsRange}
+use Rattle.ts_check.specs.Places.{Never}
+use Rattle.ts_model.specs.declared.row.Content.{Content}
 use Rattle.ts_model.specs.declared.row.Content.TheVariants.{File}
 use Rattle.ts_model.specs.declared.row.Row.{Row}
 use Rattle.ts_model.specs.declared.row.Stamp.{Stamp}
@@ -67,9 +69,21 @@ IsAgain plan i = (e offset len : ℕ) × (p : Path) × KindIs plan i (Piece e of
 abbrev pub LacksSome : Listing Stamp → Listing Stamp → Plan → ℕ → Type 0
 LacksSome xs ys plan e = (offset len : ℕ) × (p : Path) × IsPieceIn xs ys plan e offset len p × ((i other : ℕ) → ¬ KindIs plan i (Piece e offset other p))
 
+-- the size of a file, or none where this is no file
+abbrev pub IsSizeOf : Content Stamp → Option ℕ → Type 0
+IsSizeOf content found = MatchOption found ((stamp : Stamp) → content ≢ File stamp) (λ size. (stamp : Stamp) × (content ≡ File stamp) × (size ≡ stamp.size))
+
+-- the place of each piece, where none stands again
+abbrev pub IsMapOfAll : Listing Stamp → Listing Stamp → Plan → BTreeMap Place ℕ → Type 0
+IsMapOfAll xs ys plan map = IsStagedMap xs ys plan (length plan.actions) map × Never (IsAgain plan)
+
 -- not each lawful piece stands once
 abbrev pub NotEachOnce : Listing Stamp → Listing Stamp → Plan → ℕ → Type 0
 NotEachOnce xs ys plan place = IsAgain plan place ⊎ ((e : ℕ) × (place ≡ length plan.actions + e) × LacksSome xs ys plan e)
+
+-- the place of each piece, where each lawful one stands once
+abbrev pub IsMapOfEach : Listing Stamp → Listing Stamp → Plan → BTreeMap Place ℕ → Type 0
+IsMapOfEach xs ys plan map = IsStagedMap xs ys plan (length plan.actions) map × Never (NotEachOnce xs ys plan)
 
 -- each range of a file of this size has a piece of entry e, of the file in this row
 abbrev pub HasAll : BTreeMap Place ℕ → ℕ → ℕ → ℕ → Type 0

@@ -45,3 +45,7 @@ IsUnmet entries role numbers e = (entry : Entry) × (slice_get entries e ≡ Som
 -- not just each entry that wants an action of this role has one
 abbrev pub NotOneOf : Plan → Role → ℕ → Type 0
 NotOneOf plan role = NotOneEach plan (kind_of role) (Wants plan role)
+
+-- the number of each entry's action of this role, where just each entry that wants one has one
+abbrev pub IsWholeIndex : Plan → Role → List ℕ → Type 0
+IsWholeIndex plan role numbers = IsIndex plan (kind_of role) (length plan.actions) numbers × Never (NotOneOf plan role)

@@ -2,7 +2,7 @@
 
 ghost use Rattle.std.specs.Prelude.{◌≡◌, ◌≢◌, ◌≤◌, ◌<◌, ◌↔◌, ◌+◌, ℕ, length, replicate, slice_get, IsTrue, IfSome, IfNone, IfOk};
 ghost use Rattle.std.specs.Prelude.{IfErr, MatchOption, MatchResult, Some};
-ghost use Rattle.ts_check.specs.Places.{IsFirst, IsIndex, IsUnmet, IsWanted, Never, NotOneOf, kind_of, no_action};
+ghost use Rattle.ts_check.specs.Places.{IsFirst, IsIndex, IsUnmet, IsWanted, NotOneOf, kind_of, no_action, IsWholeIndex};
 ghost use Rattle.ts_model.specs.Plans.{entry_limit, action_limit};
 
 use std::alloc::{AllocError, Global};
@@ -88,7 +88,7 @@ fn first_unmet(entries: &[Entry], role: Role, numbers: &[u32]) -> Option<usize>
 pub fn one_each(alloc: Global, plan: &Plan, role: Role) -> Result<Result<Vec<u32>, u64>, AllocError>
     requires entries { length plan.now.entries ≤ entry_limit }
     requires actions { length plan.now.actions ≤ action_limit }
-    ensures index { IfOk result (λ found. IfOk found (λ numbers. IsIndex plan.now (kind_of role) (length plan.now.actions) numbers.items × Never (NotOneOf plan.now role))) }
+    ensures index { IfOk result (λ found. IfOk found (λ numbers. IsWholeIndex plan.now role numbers.items)) }
     ensures wrong { IfOk result (λ found. IfErr found (λ place. IsFirst (NotOneOf plan.now role) (Some place))) }
 {
     let entries = plan.entries.as_slice();

@@ -2,7 +2,7 @@
 
 ghost use Rattle.std.specs.Prelude.{◌≡◌, ◌≤◌, ◌<◌, ◌↔◌, ℕ, AllPairs, Contains, IfErr, IfNone, IfOk, IfSome, IsTrue, length};
 ghost use Rattle.ts_check.specs.Answers.{IsKept};
-ghost use Rattle.ts_check.specs.Checkup.{IsCommit, IsSourcePart, IsTargetPart, preds, snapshot_of};
+ghost use Rattle.ts_check.specs.Checkup.{IsCommit, IsSourcePart, IsTargetPart, preds, snapshot_of, checkup_with};
 ghost use Rattle.ts_check.specs.Pieces.{AreAllPieces, IsEarlierPiece};
 ghost use Rattle.ts_check.specs.Places.{IsIndex};
 ghost use Rattle.ts_check.specs.Waiting.{AreAllSuccessors};
@@ -65,7 +65,7 @@ impl<'a> Checked<'a> {
         successors: Lists,
     ) -> Self
         requires { IsKept (listed_snapshot archive.now first.now second.now holds.now) plan.now commits.items pieces successors }
-        ensures { result ≡ record { plan = plan.entry.now; archive = archive.entry.now; first = first.entry.now; second = second.entry.now; rules = holds.entry.now } }
+        ensures { result ≡ checkup_with plan.entry.now archive.entry.now first.entry.now second.entry.now holds.entry.now }
     {
         Checked {
             plan,

@@ -1,15 +1,13 @@
 //! The pieces: each is lawful, and each lawful one stands once.
 
-ghost use Rattle.std.specs.Prelude.{◌≡◌, ◌≢◌, ◌≤◌, ◌<◌, ◌↔◌, ℕ, length, IsTrue, IsSome, IfSome, IfNone, IfOk, IfErr, MatchOption, Some, None, false, []};
-ghost use Rattle.ts_check.specs.Pieces.{HasAll, HasAllBelow, HasNoRoot, IsAgain, IsPieceIn, IsRowOf, IsSourceOf, IsUnlawful, IsPlaceOf, IsStagedMap, LacksBelow};
-ghost use Rattle.ts_check.specs.Pieces.{LacksRange, LacksSome, NotEachOnce, Place};
+ghost use Rattle.std.specs.Prelude.{◌≡◌, ◌≢◌, ◌≤◌, ◌<◌, ◌↔◌, ℕ, length, IsTrue, IsSome, IfSome, IfNone, IfOk, IfErr, Some, None, false, []};
+ghost use Rattle.ts_check.specs.Pieces.{HasAll, HasAllBelow, HasNoRoot, IsPieceIn, IsRowOf, IsSourceOf, IsUnlawful, IsPlaceOf, IsStagedMap, LacksBelow};
+ghost use Rattle.ts_check.specs.Pieces.{LacksRange, LacksSome, NotEachOnce, Place, IsMapOfAll, IsMapOfEach, IsSizeOf};
 ghost use Rattle.ts_check.specs.Places.{IsFirst, Never};
 ghost use Rattle.ts_model.specs.Plans.{EntryIs, IsCopied, IsRange, action_limit, entry_limit};
 ghost use Rattle.ts_model.specs.Trees.{IsListing};
 ghost use Rattle.ts_model.specs.declared.plan.Entry.{Entry};
 ghost use Rattle.ts_name.specs.Paths.{IsAbove};
-ghost use Rattle.ts_model.specs.declared.row.Content.TheVariants.{File};
-ghost use Rattle.ts_model.specs.declared.row.Stamp.{Stamp};
 
 use crate::order::row_of;
 use std::alloc::{AllocError, Global};
@@ -50,7 +48,7 @@ fn source_of<'a>(
 
 /// The size of the file in a row, if one is there.
 fn file_size(row: &Row<Stamp>) -> Option<u64>
-    ensures { MatchOption result ((stamp : Stamp) → row.now.content ≢ File stamp) (λ size. (stamp : Stamp) × (row.now.content ≡ File stamp) × (size ≡ stamp.size)) }
+    ensures { IsSizeOf row.now.content result }
 {
     match &row.content {
         Content::File(stamp) => Some(stamp.size),
@@ -149,7 +147,7 @@ fn staged(
     requires second { IsListing second.now }
     requires few { length plan.now.actions ≤ action_limit }
     requires lawful { Never (IsUnlawful first.now second.now plan.now) }
-    ensures staged { IfOk result (λ found. IfOk found (λ map. IsStagedMap first.now second.now plan.now (length plan.now.actions) map × Never (IsAgain plan.now))) }
+    ensures staged { IfOk result (λ found. IfOk found (IsMapOfAll first.now second.now plan.now)) }
     ensures wrong { IfOk result (λ found. IfErr found (λ place. IsFirst (NotEachOnce first.now second.now plan.now) (Some place))) }
 {
     let mut map = BTreeMap::new(alloc);
@@ -242,7 +240,7 @@ pub fn each_once(
     requires second { IsListing second.now }
     requires places { HasNoRoot plan.now }
     requires lawful { Never (IsUnlawful first.now second.now plan.now) }
-    ensures staged { IfOk result (λ found. IfOk found (λ map. IsStagedMap first.now second.now plan.now (length plan.now.actions) map × Never (NotEachOnce first.now second.now plan.now))) }
+    ensures staged { IfOk result (λ found. IfOk found (IsMapOfEach first.now second.now plan.now)) }
     ensures wrong { IfOk result (λ found. IfErr found (λ place. IsFirst (NotEachOnce first.now second.now plan.now) (Some place))) }
 {
     let map = match staged(alloc, plan, first, second)? {

@@ -7,6 +7,7 @@ ghost use Rattle.ts_check.specs.declared.fault.CheckFault.TheVariants.{Broken};
 ghost use Rattle.ts_model.specs.Plans.{Valid, action_limit, entry_limit};
 ghost use Rattle.ts_model.specs.Sync.{listed_snapshot};
 ghost use Rattle.ts_need.specs.Needs.{AreListings, snapshot_of};
+ghost use Rattle.ts_check.specs.Checkup.{checkup_with};
 
 use crate::census::{Role, one_each};
 use crate::checked::Checked;
@@ -136,7 +137,7 @@ pub fn check<'a>(
     second: &'a Print,
     holds: &'a Holds,
 ) -> Result<Checked<'a>, CheckFault>
-    ensures checked { IfOk result (λ checked. checked ≡ record { plan = plan.entry.now; archive = archive.entry.now; first = first.entry.now; second = second.entry.now; rules = holds.entry.now }) }
+    ensures checked { IfOk result (λ checked. checked ≡ checkup_with plan.entry.now archive.entry.now first.entry.now second.entry.now holds.entry.now) }
     ensures valid { OnOk result (Valid (listed_snapshot archive.entry.now first.entry.now second.entry.now holds.entry.now) plan.entry.now) }
     ensures safe { OnOk result (IsSafe (listed_snapshot archive.entry.now first.entry.now second.entry.now holds.entry.now) plan.entry.now) }
     ensures told { IfErr result (IsTold (listed_snapshot archive.entry.now first.entry.now second.entry.now holds.entry.now) plan.entry.now) }

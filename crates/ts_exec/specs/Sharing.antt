@@ -6,8 +6,9 @@ use Rattle.std.specs.Prelude.{List, Option}
 use Rattle.ts_board.specs.Calls.{table_of, terms_of}
 use Rattle.ts_board.specs.declared.board.Pass.{Pass}
 use Rattle.ts_exec.specs.Failures.{Setting, setting_with}
-use Rattle.ts_exec.specs.Tidy.{KeepsList, KeepsNotes}
+use Rattle.ts_exec.specs.Tidy.{AreFresh, KeepsList, KeepsNotes}
 use Rattle.ts_exec.specs.declared.crew.Failure.{Failure}
+use Rattle.ts_exec.specs.declared.crew.Member.{Member}
 use Rattle.ts_exec.specs.declared.fault.ActFault.{ActFault}
 use Rattle.ts_exec.specs.declared.shared.Shared.{Shared}
 use Rattle.ts_folder.specs.declared.folder.Folder as folder
@@ -25,3 +26,7 @@ module _ {S F G File : Type 0} (sites : site.Ghosts S) (folders : folder.Ghosts 
   -- what workers leave behind together
   abbrev pub HasNotes : Pass S → List (Option ActFault) → Type 0
   HasNotes pass faults = KeepsNotes (table_of shared.board.now) (terms_of sites.content shared.board.now) setting_of pass faults
+
+  -- the same before the workers that are left have found a failure
+  abbrev pub HasBegun : Pass S → List (Option ActFault) → List Member → Type 0
+  HasBegun pass faults members = HasNotes pass faults × AreFresh members

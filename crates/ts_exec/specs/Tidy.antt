@@ -33,6 +33,10 @@ abbrev pub AreTakes : Plan → ℕ → Run → Type 0
 AreTakes plan c [] = Unit {0}
 AreTakes plan c (x ∷ xs) = ((k : ℕ) × (x ≡ Take c k) × IsPieceOf plan c k) × AreTakes plan c xs
 
+-- nothing else is done in these steps
+abbrev pub EndsOnly : ℕ → Run → Type 0
+EndsOnly i block = (k : ℕ) → Has block (finishes k) → k ≡ i
+
 abbrev pub AreReleases : ℕ → Run → Type 0
 AreReleases i [] = Unit {0}
 AreReleases i (x ∷ xs) = ((j : ℕ) × (x ≡ Release i j)) × AreReleases i xs

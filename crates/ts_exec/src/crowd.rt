@@ -3,7 +3,7 @@ ghost use Rattle.std.specs.Prelude.{ℕ, ◌≡◌, ◌<◌, Some, length, slice
 ghost use Rattle.std.specs.Thread.{IsSend, IsSync};
 ghost use Rattle.ts_board.specs.Calls.{HasBothParts, IsPassOf, IsSamePart, mine, seen};
 ghost use Rattle.ts_exec.specs.Tidy.{AreFresh, AreNoted, IsSameShare, IsTidy, Noted, StayNoted};
-ghost use Rattle.ts_exec.specs.Sharing.{HasList, HasNotes, setting_of};
+ghost use Rattle.ts_exec.specs.Sharing.{HasList, HasNotes, setting_of, HasBegun};
 ghost use Rattle.ts_exec.specs.declared.crew.Failure.{Failure};
 
 use crate::crew::{Failure, Member, Queues};
@@ -109,7 +109,7 @@ where
         ensures part { IsSamePart theirs result.pass }
     { shared.work(queues, member, theirs) };
     let others = move || -> (Pass<S>, Vec<Option<ActFault>>)
-        requires { IsSync R.row × IsSync F.row × IsSync G.row × IsSend F.File.row × HasNotes S.Site F.Folder shared.now ours faults.items × AreFresh members.items }
+        requires { IsSync R.row × IsSync F.row × IsSync G.row × IsSend F.File.row × HasBegun S.Site F.Folder shared.now ours faults.items members.items }
         ensures notes { HasNotes S.Site F.Folder shared.entry.now result.0 result.1.items }
         ensures share { IsSameShare ours result.0 }
     { work_in_halves(rt, shared, queues, members, ours, faults) };

@@ -1,10 +1,10 @@
 //! After the workers, what is still open is claimed in order.
-ghost use Rattle.std.specs.Prelude.{ℕ, ◌≡◌, ◌≢◌, ◌⊎◌, ◌<◌, ◌++◌, length};
+ghost use Rattle.std.specs.Prelude.{◌≡◌, ◌≢◌, ◌⊎◌, ◌<◌, ◌++◌, length};
 ghost use Rattle.ts_board.specs.Calls.{IsPassOf, IsSamePart, mine, seen};
 ghost use Rattle.ts_board.specs.Runs.{StartsWith};
-ghost use Rattle.ts_exec.specs.Tidy.{IsTidy, Noted, Swept};
+ghost use Rattle.ts_exec.specs.Tidy.{IsTidy, Noted, Swept, EndsOnly};
 ghost use Rattle.ts_exec.specs.Sharing.{setting_of};
-ghost use Rattle.ts_model.specs.Runs.{Has, Run, claims, finishes, word_after};
+ghost use Rattle.ts_model.specs.Runs.{Has, Run, claims, word_after};
 
 use crate::fault::ActFault;
 use crate::gate::Gate;
@@ -52,7 +52,7 @@ impl<'a, 'b, S: Site, F: Folder + Sync, G: Gate + Sync> Shared<'a, 'b, S, F, G> 
         requires noted { Noted (setting_of S.Site F.Folder self.now) (mine pass.old) (seen pass.old) faults.old.items }
         ensures pass { IsPassOf S.content self.now.board.now pass.new × IsSamePart pass.old pass.new }
         ensures seen { StartsWith (seen pass.new) (seen pass.old) }
-        ensures steps { (block : Run) × (mine pass.new ≡ mine pass.old ++ block) × IsTidy self.now.checked.now.plan block × ((k : ℕ) → Has block (finishes k) → k ≡ i) }
+        ensures steps { (block : Run) × (mine pass.new ≡ mine pass.old ++ block) × IsTidy self.now.checked.now.plan block × EndsOnly i block }
         ensures tried { Has (mine pass.new) (claims i) ⊎ ((mine pass.new ≡ mine pass.old) × (word_after self.now.checked.now.plan (seen pass.new) i ≢ 0)) }
         ensures noted { Noted (setting_of S.Site F.Folder self.now) (mine pass.new) (seen pass.new) faults.new.items }
         ensures room { length faults.new.items ≡ length self.now.checked.now.plan.actions }

@@ -2,7 +2,7 @@
 --     snapshot_of state            the snapshot that the prints and the rules are of
 --     IsReasonOf s p found         the reason of p, or none where it has none
 --     FirstBroken s entries found  the lesser of the two rules about reasons that is broken, with its least place
-use Rattle.std.specs.Prelude.{◌≡◌, ◌≢◌, ◌⊎◌, Any, ℕ, ◌<◌, Bool, cond, ◌&&◌, List, ◌∷◌, ◌++◌, Option, Some, None, slice_get, min, count_by}
+use Rattle.std.specs.Prelude.{◌≡◌, ◌≢◌, ◌⊎◌, Any, ℕ, ◌<◌, Bool, cond, ◌&&◌, List, ◌∷◌, ◌++◌, Option, Some, None, MatchOption, slice_get, min, count_by}
 use Rattle.std.specs.Ordering.{is_lt}
 use Rattle.ts_name.specs.Paths.{Name, Path, path_cmp}
 use Rattle.ts_model.specs.declared.plan.PlanRule.TheVariants.{ReasonsHold, EntriesComplete}
@@ -58,6 +58,10 @@ HasNamedBelow state p = Any (λ (row : Row Stamp). Names state.holds.now row.pat
 abbrev pub LacksAt : Snapshot → List Entry → Path → ℕ → Type 0
 LacksAt s entries p place = (r : Reason) × HasReason s p r × ((k : ℕ) (entry : Entry) → slice_get entries k ≡ Some entry → entry.path ≢ p)
     × (place ≡ count_by (λ e. is_lt (path_cmp e.path p)) entries)
+
+-- where p lacks an entry its place, else none
+abbrev pub IsLackOf : Snapshot → List Entry → Path → Option ℕ → Type 0
+IsLackOf s entries p found = MatchOption found ((place : ℕ) → ¬ LacksAt s entries p place) (LacksAt s entries p)
 
 -- some path of the first n rows does
 abbrev pub LacksAmong : Snapshot → List Entry → Listing Stamp → ℕ → ℕ → Type 0

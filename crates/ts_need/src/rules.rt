@@ -1,8 +1,8 @@
 //! The two rules about reasons.
 
-ghost use Rattle.std.specs.Prelude.{◌≡◌, ◌≤◌, ◌≢◌, ◌↔◌, ℕ, length, IsTrue, IfOk, IfNone, IfSome, MatchOption, Some, None, slice_get, count_by};
+ghost use Rattle.std.specs.Prelude.{◌≡◌, ◌≤◌, ◌≢◌, ◌↔◌, ℕ, length, IsTrue, IfOk, IfNone, IfSome, Some, None, slice_get, count_by};
 ghost use Rattle.ts_model.specs.Plans.{HasWrongReason, IsOutOfOrder, Lacks};
-ghost use Rattle.ts_need.specs.Needs.{AreListings, IsFirst, IsNeedAnswer, LacksAmong, LacksAt, Never, lesser_of, snapshot_of};
+ghost use Rattle.ts_need.specs.Needs.{AreListings, IsFirst, IsNeedAnswer, LacksAmong, Never, lesser_of, snapshot_of, IsLackOf};
 ghost use Rattle.std.specs.Ordering.{is_lt};
 ghost use Rattle.ts_model.specs.Sync.{listed_snapshot};
 ghost use Rattle.ts_model.specs.declared.plan.Entry.{Entry};
@@ -65,7 +65,7 @@ fn lacking_place(
 ) -> Result<Option<usize>, AllocError>
     requires listing { AreListings state.now }
     requires order { Never (IsOutOfOrder entries.now) }
-    ensures { IfOk result (λ found. MatchOption found ((place : ℕ) → ¬ LacksAt (snapshot_of state.now) entries.now path.now place) (LacksAt (snapshot_of state.now) entries.now path.now)) }
+    ensures { IfOk result (IsLackOf (snapshot_of state.now) entries.now path.now) }
 {
     let Some(place) = place_of(entries, path) else {
         return Ok(None);

@@ -1,5 +1,5 @@
 -- What an encoder sends to a sink.
-use Rattle.std.specs.Prelude.{◌≡◌, ◌≢◌, ℕ, List, [], ◌∷◌, ◌++◌, Option, Result, Ok, Err}
+use Rattle.std.specs.Prelude.{◌≡◌, ◌≢◌, ℕ, List, [], ◌∷◌, ◌++◌, codes, decimal, Option, Result, Ok, Err}
 use Rattle.std.specs.Io.KnownBytes.{Appends}
 use Rattle.ts_model.specs.Texts.{text, entry_line, pred_line, action_lines}
 use Rattle.ts_model.specs.declared.plan.Entry.{Entry}
@@ -16,7 +16,7 @@ Sends old new failed fails bytes (Err Failed) = AppendsFront old new bytes × (f
 Sends old new failed fails bytes (Err NotCanonical) = ⊥
 Sends old new failed fails bytes (Err PastLimit) = ⊥
 
--- the lines of an entry, of a predecessor and of an action, as they are written
+-- the lines of an entry, of a predecessor, of an action and of the end, as they are written
 abbrev pub entry_chunk : Entry → List ℕ
 entry_chunk e = entry_line e ++ 10 ∷ []
 
@@ -25,3 +25,6 @@ pred_chunk j = pred_line j ++ 10 ∷ []
 
 abbrev pub action_chunk : Action → List ℕ
 action_chunk a = text (action_lines a)
+
+abbrev pub end_chunk : ℕ → ℕ → List ℕ
+end_chunk entries actions = (codes "end " ++ (decimal entries ++ 32 ∷ decimal actions)) ++ 10 ∷ []

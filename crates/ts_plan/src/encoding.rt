@@ -1,7 +1,7 @@
 //! Writing a plan's text.
 ghost use Rattle.std.specs.Prelude.{◌≡◌, ◌∷◌, [], ◌++◌, ◌^◌, ◌<◌, length, map, flat_map, codes, decimal, OnOk};
 ghost use Rattle.ts_model.specs.Texts.{text, reason_text, entry_line, kind_line, pred_line, action_lines, plan_lines, IsPlan};
-ghost use Rattle.ts_plan.specs.Sends.{Sends, entry_chunk, pred_chunk, action_chunk};
+ghost use Rattle.ts_plan.specs.Sends.{Sends, entry_chunk, pred_chunk, action_chunk, end_chunk};
 
 use crate::fault::PlanFault;
 use std::alloc::{AllocError, Global};
@@ -128,7 +128,7 @@ fn send_end<W: Sink>(
     entries: usize,
     actions: usize,
 ) -> Result<(), PlanFault>
-    ensures { Sends (W.holds sink.old) (W.holds sink.new) (W.failures sink.old) (W.failures sink.new) ((codes "end " ++ (decimal entries ++ 32 ∷ decimal actions)) ++ 10 ∷ []) result }
+    ensures { Sends (W.holds sink.old) (W.holds sink.new) (W.failures sink.old) (W.failures sink.new) (end_chunk entries actions) result }
 {
     if fill_end(line, entries, actions).is_err() {
         return Err(PlanFault::OutOfMemory);

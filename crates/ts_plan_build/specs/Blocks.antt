@@ -9,6 +9,7 @@ use Rattle.ts_model.specs.declared.row.Content.TheVariants.{Absent, Dir, File}
 use Rattle.ts_model.specs.declared.row.Row.{Row}
 use Rattle.ts_model.specs.declared.row.Stamp.{Stamp}
 use Rattle.ts_model.specs.declared.plan.Reason.{Reason}
+use Rattle.ts_model.specs.declared.plan.Entry.{Entry}
 use Rattle.ts_model.specs.declared.plan.Side.TheVariants as side
 use Rattle.ts_model.specs.declared.plan.Treatment.{Treatment}
 use Rattle.ts_model.specs.declared.plan.Treatment.TheVariants.{Copied, Agreed, NewDirectory, Skipped}
@@ -59,3 +60,7 @@ block_by F S e p Skipped above base = []
 
 abbrev pub block : Listing Stamp → Listing Stamp → ℕ → Path → Reason → Option ℕ → ℕ → List Action
 block F S e p r above base = block_by F S e p (treatment r) above base
+
+-- the same by the entry
+abbrev pub entry_block : Listing Stamp → Listing Stamp → ℕ → Entry → Option ℕ → ℕ → List Action
+entry_block F S number entry above base = block F S number entry.path entry.reason above base

@@ -1,7 +1,7 @@
 -- Actions that stand entry by entry.
 --     IsLocated F S acts e entry     the block of entry e stands in the actions, and no other action is of e
 --     IsBuilt F S entries acts k     so it is for each entry before the k-th, and there are no other actions
-use Rattle.std.specs.Prelude.{◌≡◌, ◌≢◌, ℕ, ◌-◌, ◌*◌, ◌<◌, ◌≤◌, sum_by, List, [], ◌∷◌, ◌++◌, length, Option, Some, None, slice_get, slice_index_or}
+use Rattle.std.specs.Prelude.{◌≡◌, ◌≢◌, ℕ, ◌-◌, ◌*◌, ◌<◌, ◌≤◌, sum_by, List, [], ◌∷◌, ◌++◌, length, Option, Some, None, MatchOption, slice_get, slice_index_or}
 use Rattle.ts_name.specs.Paths.{Path, IsAbove, IsBefore}
 use Rattle.ts_model.specs.declared.plan.Reason.TheVariants as reason
 use Rattle.ts_plan_build.specs.declared.builder.NewDir.{NewDir}
@@ -76,3 +76,7 @@ pub record IsKept (entry : Entry) (m : ℕ) (old new : List NewDir) : Type 0 whe
 -- each path comes before those after it
 abbrev pub AreOrdered : List Entry → Type 0
 AreOrdered entries = (i j : ℕ) (d : Entry) → i < j → j < length entries → IsBefore (slice_index_or entries i d).path (slice_index_or entries j d).path
+
+-- the mark of the last of these directories, or none where there are none
+abbrev pub IsNearest : List NewDir → Option ℕ → Type 0
+IsNearest dirs found = MatchOption found (length dirs ≡ 0) (λ m. (d : NewDir) × (0 < length dirs) × (slice_get dirs (length dirs - 1) ≡ Some d) × (d.mark ≡ m))

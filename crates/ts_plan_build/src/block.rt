@@ -1,7 +1,7 @@
 ghost use Rattle.std.specs.Prelude.{◌≡◌, ◌+◌, ◌-◌, ◌≤◌, ◌<◌, ◌++◌, ◌∷◌, [], IfOk, IfErr, OnOk, cond, length, min, sum_by};
 ghost use Rattle.ts_model.specs.Plans.{action_limit};
-ghost use Rattle.ts_plan_build.specs.Blocks.{block, commit_of, copy_block, each_below, mark_of, piece_count, piece_of, pieces_of, some_of};
-ghost use Rattle.ts_plan_build.specs.Planned.{action_count, row_count};
+ghost use Rattle.ts_plan_build.specs.Blocks.{commit_of, copy_block, each_below, mark_of, piece_count, piece_of, pieces_of, some_of, entry_block};
+ghost use Rattle.ts_plan_build.specs.Planned.{row_count, entry_actions};
 
 use crate::fault::BuildFault;
 use std::alloc::{AllocError, Global};
@@ -23,9 +23,9 @@ pub(crate) fn add_entry(
     second: &Print,
 ) -> Result<(), BuildFault>
     requires { length actions.old.items ≤ action_limit }
-    ensures added { OnOk result (actions.new.items ≡ actions.old.items ++ block first.now second.now number entry.now.path entry.now.reason above (length actions.old.items)) }
+    ensures added { OnOk result (actions.new.items ≡ actions.old.items ++ entry_block first.now second.now number entry.now above (length actions.old.items)) }
     ensures limit { OnOk result (length actions.new.items ≤ action_limit) }
-    ensures past { IfErr result (λ fault. fault ≡ BuildFault.PastLimit → action_limit < length actions.old.items + action_count first.now second.now entry.now.path entry.now.reason) }
+    ensures past { IfErr result (λ fault. fault ≡ BuildFault.PastLimit → action_limit < length actions.old.items + entry_actions first.now second.now entry.now) }
 {
     match entry.reason.treatment() {
         Treatment::Agreed | Treatment::NewDirectory => {

@@ -1,13 +1,12 @@
-ghost use Rattle.std.specs.Prelude.{◌≡◌, ◌-◌, ◌<◌, ◌≤◌, IfOk, IfErr, List, MatchOption, OnOk, length, slice_get};
+ghost use Rattle.std.specs.Prelude.{◌≡◌, ◌<◌, ◌≤◌, IfOk, IfErr, List, OnOk, length};
 ghost use Rattle.ts_model.specs.Plans.{Valid};
 ghost use Rattle.ts_model.specs.Sync.{listed_snapshot};
 ghost use Rattle.ts_model.specs.Texts.{IsPlan};
 ghost use Rattle.ts_model.specs.declared.hold.Rule.{Rule};
 ghost use Rattle.ts_recon.specs.Reasons.{AreReasons};
 ghost use Rattle.ts_model.specs.Plans.{action_limit, entry_limit};
-ghost use Rattle.ts_plan_build.specs.Built.{AreLeft, AreOrdered, IsBuilt, IsKept};
+ghost use Rattle.ts_plan_build.specs.Built.{AreLeft, AreOrdered, IsBuilt, IsKept, IsNearest};
 ghost use Rattle.ts_plan_build.specs.Planned.{IsPastLimit, planned_actions};
-ghost use Rattle.ts_plan_build.specs.declared.builder.NewDir.{NewDir};
 
 use crate::block::add_entry;
 use crate::fault::BuildFault;
@@ -124,7 +123,7 @@ fn leave(dirs: &mut Vec<NewDir>, path: &Path)
 
 /// The mark of the nearest directory.
 fn nearest(dirs: &[NewDir]) -> Option<u32>
-    ensures { MatchOption result (length dirs.now ≡ 0) (λ m. (d : NewDir) × (0 < length dirs.now) × (slice_get dirs.now (length dirs.now - 1) ≡ Some d) × (d.mark ≡ m)) }
+    ensures { IsNearest dirs.now result }
 {
     match dirs {
         [.., dir] => Some(dir.mark),

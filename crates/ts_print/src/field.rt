@@ -1,11 +1,10 @@
 //! The lines of a print's rows.
-ghost use Rattle.std.specs.Prelude.{◌≡◌, ◌≢◌, ◌<◌, ◌^◌, ◌++◌, ◌∷◌, [], List, ℕ, decimal, length, IfOk, IfErr, IfSome, IfNone};
-ghost use Rattle.hex.specs.Hex.{encode_lower};
+ghost use Rattle.std.specs.Prelude.{◌≡◌, ◌≢◌, ◌<◌, ◌^◌, ◌∷◌, [], List, ℕ, length, IfOk, IfErr, IfSome, IfNone};
 ghost use Rattle.ts_model.specs.Texts.{IsBytes, StampFits, print_row_lines};
 ghost use Rattle.ts_model.specs.declared.row.Content.TheVariants.{File};
 ghost use Rattle.ts_model.specs.declared.row.Stamp.{Stamp};
 ghost use Rattle.ts_print.specs.Faults.{Refuses};
-ghost use Rattle.ts_print.specs.Fields.{IsNoRow, RowFits};
+ghost use Rattle.ts_print.specs.Fields.{IsNoRow, RowFits, stamped_fields};
 ghost use Rattle.ts_name.specs.Buffers.{HasNo};
 
 use crate::fault::PrintFault;
@@ -17,9 +16,9 @@ use ts_tree::field::{after, field_path};
 
 /// What `<path> <size> <digest>` says: the text of the path, and the stamp.
 fn stamped(fields: &[u8]) -> Option<(&[u8], Stamp)>
-    ensures found { IfSome result (λ r. HasNo 32 r.0.now × StampFits (File r.1) × (fields.now ≡ r.0.now ++ 32 ∷ (decimal r.1.size ++ 32 ∷ encode_lower r.1.digest))) }
+    ensures found { IfSome result (λ r. HasNo 32 r.0.now × StampFits (File r.1) × (fields.now ≡ stamped_fields r.0.now r.1)) }
     ensures none { IfNone result ((path : List ℕ) (stamp : Stamp) → HasNo 32 path → StampFits (File stamp)
-        → fields.now ≢ path ++ 32 ∷ (decimal stamp.size ++ 32 ∷ encode_lower stamp.digest)) }
+        → fields.now ≢ stamped_fields path stamp) }
 {
     let (path, stamp) = split_word(fields);
     let (size, digest) = split_word(stamp?);

@@ -7,6 +7,7 @@ use Rattle.ts_name.specs.Paths.{Path, IsBefore}
 use Rattle.ts_model.specs.Sync.{Snapshot, Because, HasReason}
 use Rattle.ts_model.specs.declared.row.Content.{Content}
 use Rattle.ts_model.specs.declared.row.Stamp.{Stamp}
+use Rattle.ts_dirty.specs.declared.walk.Triple.{Triple}
 use Rattle.ts_model.specs.declared.plan.Reason.{Reason}
 use Rattle.ts_model.specs.declared.plan.Reason.TheVariants as reason
 use Rattle.ts_model.specs.declared.plan.Entry.{Entry}
@@ -41,3 +42,7 @@ with_reason entries p (Some r) = entries ++ record { path = p; reason = r } ∷ 
 -- the reason of a path below directories of both replicas
 abbrev pub IsBecause : Snapshot → Path → Option Reason → Type 0
 IsBecause s p found = MatchOption found ((r : Reason) → ¬ Because s p r) (λ r. Because s p r)
+
+-- the same of what the walk gives
+abbrev pub IsTripleOf : Snapshot → Triple → Type 0
+IsTripleOf s seen = IsSeen s seen.path.now seen.archive seen.first seen.second

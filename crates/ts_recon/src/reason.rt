@@ -2,7 +2,7 @@ ghost use Rattle.std.specs.Prelude.{◌≡◌, ◌↔◌, ◌-◌, ◌≤◌, Is
 ghost use Rattle.ts_dirty.specs.Found.{IsFoundOf};
 ghost use Rattle.ts_model.specs.Sync.{Because, IsBelowDirs, Snapshot};
 ghost use Rattle.ts_model.specs.declared.row.Content.TheVariants.{Dir};
-ghost use Rattle.ts_recon.specs.Reasons.{IsBecause, IsReasonOf, IsSeen, differing_reason};
+ghost use Rattle.ts_recon.specs.Reasons.{IsBecause, IsReasonOf, differing_reason, IsTripleOf};
 
 use ts_dirty::{Marks, Triple};
 use ts_model::plan::{Reason, Side};
@@ -11,7 +11,7 @@ use ts_model::row::{Content, Stamp};
 /// The reason of the path, None where it has none. Its parent is a directory of both replicas where it has at
 /// most `shared` names.
 pub(crate) fn reason_at(marks: &Marks, seen: &Triple, shared: usize) -> Option<Reason>
-    ensures { (s : Snapshot) → IsFoundOf s marks.now → IsSeen s seen.now.path.now seen.now.archive seen.now.first seen.now.second
+    ensures { (s : Snapshot) → IsFoundOf s marks.now → IsTripleOf s seen.now
         → (IsBelowDirs s.first s.second seen.now.path.now ↔ (length seen.now.path.now - 1 ≤ shared)) → IsReasonOf s seen.now.path.now result }
 {
     if seen.path.depth().saturating_sub(1) <= shared {
@@ -23,7 +23,7 @@ pub(crate) fn reason_at(marks: &Marks, seen: &Triple, shared: usize) -> Option<R
 
 /// The reason of a path below directories of both replicas, None where it has none.
 fn reason_below_dirs(marks: &Marks, seen: &Triple) -> Option<Reason>
-    ensures { (s : Snapshot) → IsFoundOf s marks.now → IsSeen s seen.now.path.now seen.now.archive seen.now.first seen.now.second → IsBecause s seen.now.path.now result }
+    ensures { (s : Snapshot) → IsFoundOf s marks.now → IsTripleOf s seen.now → IsBecause s seen.now.path.now result }
 {
     if is_shared(seen) {
         return if is_dir(&seen.archive) {

@@ -1,8 +1,9 @@
 -- The faults of a scan: their numbers, and where each may come.
 --     Tells p fault told     a folder's fault at p is reported so
 --     MayFail lets told e    the fault may come over a folder with these troubles that tells this tree, or none
-use Rattle.std.specs.Prelude.{◌≡◌, ◌⊎◌, ℕ, Option, Some, None}
-use Rattle.ts_name.specs.Paths.{Path}
+use Rattle.std.specs.Prelude.{◌≡◌, ◌⊎◌, ℕ, [], ◌∷◌, ◌++◌, Option, Some, None, Result, IfErr, IfSome}
+use Rattle.ts_name.specs.Paths.{Name, Path, IsPath}
+use Rattle.ts_model.specs.Trees.{Tree, at}
 use Rattle.ts_folder.specs.declared.fault.FolderFault.{FolderFault}
 use Rattle.ts_folder.specs.declared.fault.FolderFault.TheVariants as folder
 use Rattle.ts_folder.specs.declared.fault.Trouble.{Trouble}
@@ -47,3 +48,11 @@ MayFail lets told (At path refusal.TooLong) = told ≡ None
 MayFail lets told (At path refusal.Device) = (call : Call) × lets call path trouble.Device
 MayFail lets told (At path refusal.NotThere) = told ≡ None
 MayFail lets told (At path refusal.Unreadable) = (told ≡ None) ⊎ ((call : Call) × lets call path trouble.Unreadable)
+
+-- where the folder tells a tree of which this holds, no fault but one that may come
+abbrev pub FailsAsTold : {A : Type 0} → (Call → Path → Trouble → Type 0) → Told → (Tree → Type 0) → Result A ScanFault → Type 0
+FailsAsTold lets told Holds result = IfSome told (λ tree. Holds (at tree)) → IfErr result (MayFail lets told)
+
+-- why a child has no path: memory ran out, or it is past the limits, which is reported at its directory
+abbrev pub IsOfChild : Path → Name → ScanFault → Type 0
+IsOfChild p name e = (e ≡ OutOfMemory) ⊎ ((e ≡ At p refusal.TooLong) × (¬ IsPath (p ++ name ∷ [])))

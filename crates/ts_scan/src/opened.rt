@@ -1,9 +1,8 @@
 //! What a child is when it is opened.
-ghost use Rattle.std.specs.Prelude.{◌≡◌, ◌<◌, length, IfErr, IfOk, IfSome};
+ghost use Rattle.std.specs.Prelude.{◌≡◌, ◌<◌, length, IfOk};
 ghost use Rattle.ts_folder.specs.Folders.{HasKind};
-ghost use Rattle.ts_model.specs.Trees.{at};
 ghost use Rattle.ts_model.specs.declared.row.Content.TheVariants.{Dir};
-ghost use Rattle.ts_scan.specs.Faults.{MayFail};
+ghost use Rattle.ts_scan.specs.Faults.{FailsAsTold};
 ghost use Rattle.ts_scan.specs.Openings.{IsOpened, kind_under};
 
 use crate::fault::{Refusal, ScanFault, told};
@@ -45,7 +44,7 @@ impl<F: Folder> Parent<'_, F> {
     ) -> Result<Opened, ScanFault>
         requires { 0 < length buffer.old }
         ensures opened { IfOk result (IsOpened (F.tells self.now.folder.now) path.now kind) }
-        ensures fault { IfSome (F.tells self.now.folder.now) (λ tree. HasKind (at tree path.now) kind) → IfErr result (MayFail (F.lets self.now.folder.now) (F.tells self.now.folder.now)) }
+        ensures fault { FailsAsTold (F.lets self.now.folder.now) (F.tells self.now.folder.now) (λ tree. HasKind (tree path.now) kind) result }
     {
         match self.open_as(path, kind, buffer) {
             Err(
@@ -65,7 +64,7 @@ impl<F: Folder> Parent<'_, F> {
     fn open_as(&self, path: &Path, kind: Kind, buffer: &mut [u8]) -> Result<Opened, ScanFault>
         requires { 0 < length buffer.old }
         ensures opened { IfOk result (IsOpened (F.tells self.now.folder.now) path.now kind) }
-        ensures fault { IfSome (F.tells self.now.folder.now) (λ tree. HasKind (at tree path.now) kind) → IfErr result (MayFail (F.lets self.now.folder.now) (F.tells self.now.folder.now)) }
+        ensures fault { FailsAsTold (F.lets self.now.folder.now) (F.tells self.now.folder.now) (λ tree. HasKind (tree path.now) kind) result }
     {
         match kind {
             Kind::File => {
@@ -81,7 +80,7 @@ impl<F: Folder> Parent<'_, F> {
 
     /// What stands under a name by a new listing of the directory.
     fn kind_now(&self, name: &Name) -> Result<Option<Kind>, ScanFault>
-        ensures fault { IfSome (F.tells self.now.folder.now) (λ tree. at tree self.now.path.now ≡ Dir) → IfErr result (MayFail (F.lets self.now.folder.now) (F.tells self.now.folder.now)) }
+        ensures fault { FailsAsTold (F.lets self.now.folder.now) (F.tells self.now.folder.now) (λ tree. tree self.now.path.now ≡ Dir) result }
     {
         match self.folder.list(self.alloc, self.path) {
             Ok(children) => Ok(kind_under(&children, name)),

@@ -1,12 +1,12 @@
 //! The rows below a directory, found by several workers.
-ghost use Rattle.std.specs.Prelude.{◌≡◌, ◌⊎◌, ◌∷◌, ◌++◌, [], ◌<◌, IfErr, IfOk, IfSome, OnOk, length, vec_len};
+ghost use Rattle.std.specs.Prelude.{◌≡◌, ◌∷◌, ◌++◌, [], ◌<◌, IfErr, IfOk, IfSome, OnOk, length, vec_len};
 ghost use Rattle.std.specs.Thread.{IsSend, IsSync};
 ghost use Rattle.ts_name.specs.Paths.{IsPath};
 ghost use Rattle.ts_folder.specs.Folders.{HasKind, InOrder};
 ghost use Rattle.ts_model.specs.Texts.{IsTreeBody};
 ghost use Rattle.ts_model.specs.Trees.{at};
 ghost use Rattle.ts_model.specs.declared.row.Content.TheVariants.{Dir};
-ghost use Rattle.ts_scan.specs.Faults.{MayFail};
+ghost use Rattle.ts_scan.specs.Faults.{MayFail, FailsAsTold, IsOfChild};
 ghost use Rattle.ts_scan.specs.Scans.{Adds, AreThere, Found, FoundIn};
 
 use crate::fault::{Refusal, ScanFault, refused, told};
@@ -92,7 +92,7 @@ where
     requires order { InOrder children.now }
     requires lawful { IfSome (F.tells folder.now) IsTreeBody }
     ensures found { IfOk result (λ done. Adds work.rows.items done.rows.items (Found (F.tells folder.now) path.now children.now)) }
-    ensures fault { IfSome (F.tells folder.now) (λ tree. AreThere (at tree) path.now children.now) → IfErr result (MayFail (F.lets folder.now) (F.tells folder.now)) }
+    ensures fault { FailsAsTold (F.lets folder.now) (F.tells folder.now) (λ tree. AreThere tree path.now children.now) result }
 {
     let mut rest = children;
     while let Some((child, others)) = rest.split_first() {
@@ -122,7 +122,7 @@ where
     requires lawful { IfSome (F.tells folder.now) IsTreeBody }
     requires several { 1 < length children.now }
     ensures found { IfOk result (λ done. Adds work.rows.items done.rows.items (Found (F.tells folder.now) path.now children.now)) }
-    ensures fault { IfSome (F.tells folder.now) (λ tree. AreThere (at tree) path.now children.now) → IfErr result (MayFail (F.lets folder.now) (F.tells folder.now)) }
+    ensures fault { FailsAsTold (F.lets folder.now) (F.tells folder.now) (λ tree. AreThere tree path.now children.now) result }
 {
     let (first, second) = halves(children);
     let one_ended = AtomicBool::new(false);
@@ -141,7 +141,7 @@ where
     let ours = move || -> Result<Work, ScanFault>
         requires { IsSync R.row × IsSync F.row × IsSend F.File.row × InOrder first.now × IfSome (F.tells folder.now) IsTreeBody }
         ensures found { IfOk result (λ done. Adds work.rows.items done.rows.items (Found (F.tells folder.entry.now) path.entry.now first.entry.now)) }
-        ensures fault { IfSome (F.tells folder.entry.now) (λ tree. AreThere (at tree) path.entry.now first.entry.now) → IfErr result (MayFail (F.lets folder.entry.now) (F.tells folder.entry.now)) }
+        ensures fault { FailsAsTold (F.lets folder.entry.now) (F.tells folder.entry.now) (λ tree. AreThere tree path.entry.now first.entry.now) result }
     {
         let found = scan_children(rt, folder, idle, alloc, path, first, work);
         idle.half_ended(ended);
@@ -182,7 +182,7 @@ where
     F::File: Send,
     requires lawful { IfSome (F.tells folder.now) IsTreeBody }
     ensures found { IfOk result (λ done. Adds work.rows.items done.rows.items (Found (F.tells folder.now) parent.now (child.now ∷ []))) }
-    ensures fault { IfSome (F.tells folder.now) (λ tree. HasKind (at tree (parent.now ++ child.now.0 ∷ [])) child.now.1) → IfErr result (MayFail (F.lets folder.now) (F.tells folder.now)) }
+    ensures fault { FailsAsTold (F.lets folder.now) (F.tells folder.now) (λ tree. HasKind (tree (parent.now ++ child.now.0 ∷ [])) child.now.1) result }
 {
     let path = child_path(alloc, parent, &child.0)?;
     let directory = Parent {
@@ -209,7 +209,7 @@ where
 /// The path of a child, or `TooLong` at its directory.
 fn child_path(alloc: Global, parent: &Path, name: &Name) -> Result<Path, ScanFault>
     ensures path { IfOk result (λ path. (path ≡ parent.now ++ name.now ∷ []) × IsPath path) }
-    ensures fault { IfErr result (λ e. (e ≡ ScanFault.OutOfMemory) ⊎ ((e ≡ ScanFault.At parent.now Refusal.TooLong) × (¬ IsPath (parent.now ++ name.now ∷ [])))) }
+    ensures fault { IfErr result (IsOfChild parent.now name.now) }
 {
     match parent.child(alloc, name) {
         Ok(path) => Ok(path),

@@ -60,6 +60,9 @@ IsReplaced tree left = (left.target ≡ tree) × (left.new ≡ [])
 abbrev pub IsOriginal : Spots → Spots → Type 0
 IsOriginal s left = (left.target ≡ s.target) × (left.old ≡ [])
 
+abbrev pub KeepsOriginal : Option Spots → Option Spots → Type 0
+KeepsOriginal old new = OnSpots IsOriginal old new
+
 -- nothing lies at the target; the original lies aside, whole, and so does the new tree
 abbrev pub IsAside : Listing (List ℕ) → Spots → Spots → Type 0
 IsAside tree s left = (left ≡ record { target = []; new = tree; old = s.target }) × (s.target ≢ []) × (tree ≢ [])
@@ -122,6 +125,10 @@ IsAfter tree s = (s.target ≡ tree) × (s.new ≡ [])
 
 abbrev pub IsInSwap : Listing (List ℕ) → Listing (List ℕ) → Spots → Type 0
 IsInSwap original tree s = IsBefore original s ⊎ (IsBetween original s ⊎ IsAfter tree s)
+
+-- what stood somewhere in the replacement still does
+abbrev pub StaysInSwap : Listing (List ℕ) → Listing (List ℕ) → Spots → Spots → Type 0
+StaysInSwap original tree s left = IsInSwap original tree s → IsInSwap original tree left
 
 -- the original or the new tree lies at the target, whole, and nothing anywhere else
 abbrev pub IsSettled : Listing (List ℕ) → Listing (List ℕ) → Spots → Type 0

@@ -4,8 +4,8 @@ ghost use Rattle.ts_model.specs.Swap.{recovery, with_spot};
 ghost use Rattle.ts_model.specs.Swap as model;
 ghost use Rattle.ts_model.specs.Trees.{IsSubListing};
 ghost use Rattle.ts_model.specs.declared.row.Row.{Row};
-ghost use Rattle.ts_swap.specs.Leavings.{Does, FailedAtMostOnce, Grows, HasFailed, IsBack, IsInSwap, IsOriginal, IsPut};
-ghost use Rattle.ts_swap.specs.Leavings.{IsSetAside, IsSettled, KeepsOthers, Looks, OnSpots, Recovers, Replaces, Stumbles, Tells};
+ghost use Rattle.ts_swap.specs.Leavings.{Does, FailedAtMostOnce, Grows, HasFailed, IsBack, IsInSwap, IsPut};
+ghost use Rattle.ts_swap.specs.Leavings.{IsSetAside, IsSettled, KeepsOthers, Looks, OnSpots, Recovers, Replaces, Stumbles, Tells, KeepsOriginal, StaysInSwap};
 ghost use Rattle.ts_swap.specs.declared.places.Spot.{Spot};
 ghost use Rattle.ts_swap.specs.declared.places.Spot.TheVariants as spot;
 
@@ -26,7 +26,7 @@ pub fn replace<P: Places>(places: &mut P, tree: &[Row<Items<u8>>]) -> Result<(),
     requires old { IfSome (P.spots places.old) (λ s. s.old ≡ []) }
     ensures replaced { Replaces tree.now (P.spots places.old) (P.spots places.new) result }
     ensures fault { IsErr result → (P.hides places.old spot.Target) ⊎ HasFailed (P.failures places.old) (P.failures places.new) }
-    ensures once { IsErr result → FailedAtMostOnce (P.failures places.old) (P.failures places.new) → OnSpots IsOriginal (P.spots places.old) (P.spots places.new) }
+    ensures once { IsErr result → FailedAtMostOnce (P.failures places.old) (P.failures places.new) → KeepsOriginal (P.spots places.old) (P.spots places.new) }
     ensures recoverable { OnSpots (λ s left. IsInSwap s.target tree.now left) (P.spots places.old) (P.spots places.new) }
 {
     write_new(places, tree)?;
@@ -136,7 +136,7 @@ pub fn recover<P: Places>(places: &mut P) -> Result<(), Failed>
     ensures recovered { Recovers (P.spots places.old) (P.spots places.new) result }
     ensures settled { IsOk result → (original tree : List (Row (List ℕ)))
         → OnSpots (λ s left. IsInSwap original tree s → IsSettled original tree left) (P.spots places.old) (P.spots places.new) }
-    ensures again { (original tree : List (Row (List ℕ))) → OnSpots (λ s left. IsInSwap original tree s → IsInSwap original tree left) (P.spots places.old) (P.spots places.new) }
+    ensures again { (original tree : List (Row (List ℕ))) → OnSpots (StaysInSwap original tree) (P.spots places.old) (P.spots places.new) }
 {
     let target = places.present(Spot::Target)?;
     let new = places.present(Spot::New)?;

@@ -11,6 +11,7 @@ use Rattle.ts_model.specs.Trees.{Listing, IsListing, IsSubListing, listed, at, s
 use Rattle.ts_model.specs.declared.row.Content.{Content}
 use Rattle.ts_model.specs.declared.row.Content.TheVariants.{Absent}
 use Rattle.ts_table.specs.Tables.{is_above, IsPlace}
+use Rattle.ts_table.specs.Splices.{grafted}
 use Rattle.ts_table.specs.declared.splice.Edit.{Edit}
 
 abbrev pub AreSeparate : List Path → Type 0
@@ -43,3 +44,7 @@ pub record FrameOf (F : Type 0) : Type 0 where
 pub record IsFrame {F : Type 0} (frame : FrameOf F) : Type 0 where
   pub listing : IsListing frame.rows
   pub may_join : MaySplit (at frame.rows) frame.paths
+
+-- whatever the frame was cut out of, this is that with the parts at the frame's paths
+abbrev pub FillsEach : {F : Type 0} → FrameOf F → List (Listing F) → (Path → Content F) → Type 0
+FillsEach {F} frame parts filled = (t : Path → Content F) → at frame.rows ≡ without t frame.paths → filled ≡ grafted t (edits_of frame.paths parts)

@@ -46,3 +46,7 @@ pub record IsCut {F : Type 0} (p : Path) (front mid back : Listing F) : Type 0 w
   pub before : AllByRecursion (λ row. IsBefore row.path p) front
   pub below : AllByRecursion (λ row. IsAbove p row.path) mid
   pub after : AllByRecursion (λ row. IsBefore p row.path × (¬ IsAbove p row.path)) back
+
+-- these rows, and one more after them
+abbrev pub with_row : {F : Type 0} → Listing F → Path → Content F → Listing F
+with_row rows p content = rows ++ record { path = p; content = content } ∷ []

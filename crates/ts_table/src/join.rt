@@ -1,12 +1,11 @@
 //! Parts that are put at the paths of a frame.
 ghost use Rattle.std.specs.Prelude.{◌≡◌, ◌+◌, ◌≤◌, ◌++◌, [], IfErr, IfOk, IsErrOf, length, map, sum_by, vec_capacity, vec_len};
 ghost use Rattle.std.specs.List.{AllByRecursion};
-ghost use Rattle.ts_name.specs.Paths.{IsPath, Path};
-ghost use Rattle.ts_model.specs.declared.row.Content.{Content};
+ghost use Rattle.ts_name.specs.Paths.{IsPath};
 ghost use Rattle.ts_model.specs.Trees.{IsSubListing, at};
 ghost use Rattle.ts_table.specs.Slots.{HasRoom, PartsFit, paths_of, slot_paths};
 ghost use Rattle.ts_table.specs.Splices.{ArePaths, grafted, put_of, spliced};
-ghost use Rattle.ts_table.specs.Splits.{edits_of, without};
+ghost use Rattle.ts_table.specs.Splits.{edits_of, FillsEach};
 ghost use Rattle.ts_table.specs.Tables.{placed};
 
 use crate::fault::TableFault;
@@ -39,7 +38,7 @@ impl<F: Drop> Table<F> {
     ) -> Result<Table<F>, (Frame<F>, Vec<SubTable<F>>, TableFault)>
         requires { length parts.items ≡ length frame.paths }
         ensures ok { IfOk result (λ table. at table ≡ grafted (at frame.rows) (edits_of frame.paths parts.items)) }
-        ensures whole { IfOk result (λ table. (t : Path → Content F) → at frame.rows ≡ without t frame.paths → at table ≡ grafted t (edits_of frame.paths parts.items)) }
+        ensures whole { IfOk result (λ table. FillsEach frame parts.items (at table)) }
         ensures paths { IfOk result (λ _. ArePaths (edits_of frame.paths parts.items)) }
         ensures err { IfErr result (λ r. (r.0 ≡ frame) × (r.1.items ≡ parts.items)) }
         ensures too_long { IfErr result (λ r. r.2 ≡ TableFault.TooLong → ¬ ArePaths (edits_of frame.paths parts.items)) }

@@ -4,7 +4,7 @@ ghost use Rattle.std.specs.List.{AllByRecursion};
 ghost use Rattle.ts_name.specs.Paths.{IsBefore, Name};
 ghost use Rattle.ts_model.specs.declared.row.Content.{Content};
 ghost use Rattle.ts_model.specs.Trees.{Ascend, IsListing, at, sub};
-ghost use Rattle.ts_table.specs.Tables.{rows_below, seen, IsCut, IsPlace};
+ghost use Rattle.ts_table.specs.Tables.{rows_below, seen, IsCut, IsPlace, with_row};
 
 use std::alloc::{AllocError, Global};
 use std::marker::Model;
@@ -121,8 +121,8 @@ impl<F> Table<F> {
     /// Whether a row of this path, with a directory or a file, may come next: the path comes after all others, and
     /// something may stand there. It takes no memory.
     pub fn may_push(&self, path: &Path) -> bool
-        ensures yes { IsTrue result → (content : Content F) → content ≢ Content.Absent → IsListing (self.now ++ record { path = path.now; content = content } ∷ []) }
-        ensures no { result ≡ false → (content : Content F) → ¬ IsListing (self.now ++ record { path = path.now; content = content } ∷ []) }
+        ensures yes { IsTrue result → (content : Content F) → content ≢ Content.Absent → IsListing (with_row self.now path.now content) }
+        ensures no { result ≡ false → (content : Content F) → ¬ IsListing (with_row self.now path.now content) }
     {
         prove!(path.depth() <= 64);
         is_after(path, self.rows()) && is_place_after(self.rows(), path)

@@ -12,6 +12,7 @@ use Rattle.std.specs.Prelude.{◌≡◌, ◌≢◌, ℕ, ◌<◌, Bool, true, fa
 use Rattle.ts_name.specs.Paths.{Path}
 use Rattle.ts_model.specs.Plans.{Copies, KindIs, is_from, source}
 use Rattle.ts_model.specs.Trees.{Listing, Tree, at, listed, sub}
+use Rattle.ts_table.specs.Splits.{without}
 use Rattle.ts_model.specs.declared.plan.Kind.TheVariants.{Commit}
 use Rattle.ts_model.specs.declared.plan.Side.{Side}
 use Rattle.ts_model.specs.declared.plan.Entry.{Entry}
@@ -28,6 +29,10 @@ use Rattle.ts_exec.specs.declared.outcome.ActionResult.TheVariants.{Done, Blocke
 abbrev pub paths_from : Side → List Entry → List Path
 paths_from on [] = []
 paths_from on (entry ∷ entries) = cond (is_from on entry.reason) (entry.path ∷ paths_from on entries) (paths_from on entries)
+
+-- what is left of a tree that was cut at these paths
+abbrev pub left_of : Side → List Entry → Tree → Tree
+left_of on entries t = without t (paths_from on entries)
 
 -- where a part is wanted, the first is as it should be, and the others follow
 abbrev pub Leads : Bool → (Listing (List ℕ) → Type 0) → List (Listing (List ℕ)) → (List (Listing (List ℕ)) → Type 0) → Type 0

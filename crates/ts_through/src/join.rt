@@ -3,8 +3,7 @@ ghost use Rattle.std.specs.Prelude.{◌≡◌, IfOk, length};
 ghost use Rattle.ts_laws.specs.Carried.{copied};
 ghost use Rattle.ts_model.specs.Texts.{IsTreeBody};
 ghost use Rattle.ts_model.specs.Trees.{Tree as TreeOf, at};
-ghost use Rattle.ts_table.specs.Splits.{without};
-ghost use Rattle.ts_through.specs.Parts.{AreLaid, AreParts, KeepsOthers, paths_from};
+ghost use Rattle.ts_through.specs.Parts.{AreLaid, AreParts, KeepsOthers, paths_from, left_of};
 
 use std::alloc::{AllocError, Global};
 use std::mem;
@@ -23,7 +22,7 @@ pub(crate) fn joined(
     requires paths { frame.paths ≡ paths_from from entries.now }
     requires parts { length parts.old.items ≡ length entries.now }
     requires laid { AreLaid from (at source.now) entries.now parts.old.items }
-    ensures tree { (t : TreeOf) → at frame.rows ≡ without t (paths_from from entries.now) → IfOk result (λ tree. at tree ≡ copied from (at source.now) t entries.now) }
+    ensures tree { (t : TreeOf) → at frame.rows ≡ left_of from entries.now t → IfOk result (λ tree. at tree ≡ copied from (at source.now) t entries.now) }
     ensures lawful { IfOk result IsTreeBody }
     ensures others { KeepsOthers from entries.now parts.old.items parts.new.items }
     ensures count { length parts.new.items ≡ length parts.old.items }

@@ -2,11 +2,9 @@
 ghost use Rattle.std.specs.Prelude.{◌≡◌, ◌↔◌, ◌++◌, ◌+◌, ◌⊎◌, ◌≤◌, [], IfErr, IfOk, IsTrue, List, ℕ, length, vec_capacity};
 ghost use Rattle.std.specs.List.{AllByRecursion};
 ghost use Rattle.std.specs.VecDeque.{deque_capacity, deque_len};
-ghost use Rattle.ts_name.specs.Paths.{Path};
-ghost use Rattle.ts_model.specs.declared.row.Content.{Content};
 ghost use Rattle.ts_model.specs.Trees.{at};
 ghost use Rattle.ts_table.specs.Splices.{ArePaths, grafted};
-ghost use Rattle.ts_table.specs.Splits.{ArePartsAt, IsFrame, MaySplit, edits_of, without};
+ghost use Rattle.ts_table.specs.Splits.{ArePartsAt, IsFrame, MaySplit, edits_of, without, FillsEach};
 ghost use Rattle.ts_tree.specs.Trees.{FilesFit};
 
 use crate::fault::TreeFault;
@@ -93,7 +91,7 @@ impl Tree {
     ) -> Result<Tree, (Frame, Vec<SubTree>, TreeFault)>
         requires { length parts.items ≡ length frame.paths }
         ensures ok { IfOk result (λ tree. at tree ≡ grafted (at frame.rows) (edits_of frame.paths parts.items)) }
-        ensures whole { IfOk result (λ tree. (t : Path → Content (List ℕ)) → at frame.rows ≡ without t frame.paths → at tree ≡ grafted t (edits_of frame.paths parts.items)) }
+        ensures whole { IfOk result (λ tree. FillsEach frame parts.items (at tree)) }
         ensures paths { IfOk result (λ _. ArePaths (edits_of frame.paths parts.items)) }
         ensures err { IfErr result (λ r. (r.0 ≡ frame) × (r.1.items ≡ parts.items)) }
         ensures too_long { IfErr result (λ r. r.2 ≡ TreeFault.TooLong → ¬ ArePaths (edits_of frame.paths parts.items)) }

@@ -7,7 +7,9 @@ use Rattle.std.specs.Io.KnownBytes.{Appends}
 use Rattle.ts_text.specs.Sources.{AppendsFront}
 use Rattle.ts_model.specs.Plans.{rule_number}
 use Rattle.ts_model.specs.declared.plan.PlanRule.{PlanRule}
+use Rattle.ts_model.specs.Headline.{Meets}
 use Rattle.ts_model.specs.Texts.{Line, Bundle, words}
+use Rattle.ts_model.specs.Trees.{AreApart, at}
 use Rattle.ts_model.specs.Trial.{IsRefused, IsResult}
 
 abbrev pub WritesOne : {E : Type 0} → (List ℕ → ℕ → Type 0) → Option (List ℕ) → Option (List ℕ) → Result ℕ E → Type 0
@@ -20,3 +22,7 @@ refusal rule place = words (codes "refused" ∷ decimal (rule_number rule) ∷ d
 
 abbrev pub AnswersBundle : Bundle → List ℕ → ℕ → Type 0
 AnswersBundle b written status = IsRefused b written status ⊎ IsResult b written status
+
+-- where the contents of the bundle are apart, a text that answers it was written, or at a fault a beginning of one
+abbrev pub WritesAnswer : {E : Type 0} → Bundle → Option (List ℕ) → Option (List ℕ) → Result ℕ E → Type 0
+WritesAnswer b old new result = AreApart (Meets (at b.first) (at b.second) []) → WritesOne (AnswersBundle b) old new result

@@ -1,13 +1,13 @@
 ghost use Rattle.std.specs.Prelude.{◌≡◌, ◌≢◌, ◌≤◌, ◌∷◌, ◌++◌, ℕ, [], IfErr, IfOk, IfSome, OnOk, min};
 ghost use Rattle.ts_bundle.specs.Bundles.{values};
-ghost use Rattle.ts_model.specs.Headline.{Meets};
 ghost use Rattle.ts_model.specs.Texts.{IsBundle, text};
-ghost use Rattle.ts_model.specs.Trees.{AreApart, at, print_of};
+ghost use Rattle.ts_model.specs.Trees.{at, print_of};
 ghost use Rattle.ts_model.specs.Trial.{HasContentsApart, Trial, result_lines, skipped_count};
 ghost use Rattle.ts_text.specs.Sources.{Writes};
-ghost use Rattle.ts_trial.specs.Answers.{AnswersBundle, WritesOne, refusal};
+ghost use Rattle.ts_trial.specs.Answers.{WritesOne, refusal, WritesAnswer};
 ghost use Rattle.ts_trial.specs.Faults.{FailuresFit, HasCause};
 ghost use Rattle.ts_trial.specs.declared.fault.TrialFault.TheVariants.{OutOfMemory};
+ghost use Rattle.ts_check.specs.Checkup.{checkup_with};
 
 use crate::fault::TrialFault;
 use std::alloc::Global;
@@ -60,7 +60,7 @@ fn answer<T: Threads + Sync, W: Sink>(
     requires bundle { IsBundle (values bundle.now) }
     requires some { 1 ≤ workers }
     requires few { workers ≤ 64 }
-    ensures answered { AreApart (Meets (at bundle.now.first) (at bundle.now.second) []) → WritesOne (AnswersBundle (values bundle.now)) (W.holds writer.old) (W.holds writer.new) result }
+    ensures answered { WritesAnswer (values bundle.now) (W.holds writer.old) (W.holds writer.new) result }
     ensures failures { FailuresFit (W.failures writer.old) (W.failures writer.new) result }
 {
     let first = Print::of_tree(alloc, &bundle.first)?;
@@ -89,12 +89,12 @@ fn settle<T: Threads + Sync, W: Sink>(
     workers: u32,
 ) -> Result<u8, TrialFault>
     requires bundle { IsBundle (values bundle.now) }
-    requires same { checked.now ≡ record { plan = bundle.now.plan; archive = bundle.now.archive; first = checked.now.first; second = checked.now.second; rules = bundle.now.holds } }
+    requires same { checked.now ≡ checkup_with bundle.now.plan bundle.now.archive checked.now.first checked.now.second bundle.now.holds }
     requires first { at checked.now.first ≡ print_of (at bundle.now.first) }
     requires second { at checked.now.second ≡ print_of (at bundle.now.second) }
     requires some { 1 ≤ workers }
     requires few { workers ≤ 64 }
-    ensures answered { AreApart (Meets (at bundle.now.first) (at bundle.now.second) []) → WritesOne (AnswersBundle (values bundle.now)) (W.holds writer.old) (W.holds writer.new) result }
+    ensures answered { WritesAnswer (values bundle.now) (W.holds writer.old) (W.holds writer.new) result }
     ensures failures { FailuresFit (W.failures writer.old) (W.failures writer.new) result }
 {
     let _plan = checked.plan();
