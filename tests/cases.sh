@@ -33,6 +33,19 @@ bad() {
   echo "FAILED: $*"
 }
 
+# add_counts WHAT: takes over what a part in Python has counted (`write_counts` of runs.py); WHAT went wrong where it left nothing
+add_counts() {
+  local more less
+  if [ -e counts ]; then
+    read -r more less <counts
+    passed=$((passed + more))
+    failed=$((failed + less))
+    rm counts
+  else
+    bad "$1"
+  fi
+}
+
 # ended NAME: the script's last line, and its status
 ended() {
   echo "$1: $passed passed, $failed failed"

@@ -53,13 +53,7 @@ if can_inject; then
   small runs mode=755
   cd runs || exit 1
   PYTHONPATH=$tests python3 -B "$tests/failing_calls.py" "$program" "${ordinary[@]}"
-  if [ -e counts ]; then
-    read -r more less <counts
-    passed=$((passed + more))
-    failed=$((failed + less))
-  else
-    bad 'the failing calls came to no end'
-  fi
+  add_counts 'the failing calls came to no end'
   cd "$work" || exit 1
   unmount
 else

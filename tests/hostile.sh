@@ -8,11 +8,5 @@ tests=$PWD/tests
 . tests/cases.sh
 
 PYTHONPATH=$tests python3 -B "$tests/hostile.py" "$program"
-if [ -e counts ]; then
-  read -r more less <counts
-  passed=$((passed + more))
-  failed=$((failed + less))
-else
-  bad 'the inputs came to no end'
-fi
+add_counts 'the inputs came to no end'
 ended hostile

@@ -201,20 +201,25 @@ class Case:
         return None
 
 
+def outcome(child):
+    """The status of a program that was started, none where it came to no end, and what it said. It has a session of its own."""
+    try:
+        said = child.communicate(timeout=60)
+    except subprocess.TimeoutExpired:
+        # what strace has started ends with it
+        os.killpg(child.pid, signal.SIGKILL)
+        child.communicate()
+        return None, ("", "it came to no end in 60 s")
+    return child.returncode, said
+
+
 def run(program, before=(), words=()):
     """Runs the program on the copy of a pair; answers its status, none where it came to no end, and what it said. `before`
     stands before the program."""
     pipe = subprocess.PIPE
     every = [*before, program, *WORDS, *words]
     with subprocess.Popen(every, cwd="try", stdout=pipe, stderr=pipe, text=True, start_new_session=True) as child:
-        try:
-            said = child.communicate(timeout=60)
-        except subprocess.TimeoutExpired:
-            # what strace has started ends with it
-            os.killpg(child.pid, signal.SIGKILL)
-            child.communicate()
-            return None, ("", "it came to no end in 60 s")
-    return child.returncode, said
+        return outcome(child)
 
 
 def calls(log):

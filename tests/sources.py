@@ -8,7 +8,7 @@ import subprocess
 import sys
 import time
 
-from runs import NOTHING, WORDS, archive_of, calls, hold, read_tree, run, text, tree, write_counts, write_tree
+from runs import NOTHING, WORDS, archive_of, calls, hold, outcome, read_tree, run, text, tree, write_counts, write_tree
 
 program = sys.argv[1]
 READS = ["read", "pread64", "readv", "preadv"]
@@ -85,13 +85,8 @@ def held_up(call, number, change):
         if stopped:
             change()
             os.kill(int(stopped[0].split()[0]), signal.SIGCONT)
-        try:
-            said = child.communicate(timeout=60)
-        except subprocess.TimeoutExpired:
-            os.killpg(child.pid, signal.SIGKILL)
-            child.communicate()
-            return None, ("", "it came to no end")
-    return (child.returncode, said) if stopped else (None, ("", "it doesn't come to that read"))
+        found = outcome(child)
+    return found if stopped else (None, ("", "it doesn't come to that read"))
 
 
 def problem(is_new, status, said):

@@ -15,11 +15,5 @@ if ! command -v strace >/dev/null; then
 fi
 
 PYTHONPATH=$tests python3 -B "$tests/sources.py" "$program"
-if [ -e counts ]; then
-  read -r more less <counts
-  passed=$((passed + more))
-  failed=$((failed + less))
-else
-  bad 'the runs came to no end'
-fi
+add_counts 'the runs came to no end'
 ended sources

@@ -69,12 +69,6 @@ print("%d stops" % stops)
 write_counts()
 E
 PYTHONPATH=$tests python3 -B stops.py "$program"
-if [ -e counts ]; then
-  read -r more less <counts
-  passed=$((passed + more))
-  failed=$((failed + less))
-else
-  bad 'the stops came to no end'
-fi
+add_counts 'the stops came to no end'
 
 ended stops
