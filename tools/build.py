@@ -17,6 +17,9 @@ sys.path.insert(0, f"{TOP}/tests")
 
 from edits import load_rt
 
+# How many jobs a library of the longest chain has at least, where there are as many processors.
+JOBS = 4
+
 
 def build(crate, jobs, started):
     """Builds a library where those below it are built, says how it went, and returns whether that is well."""
@@ -37,18 +40,42 @@ def build(crate, jobs, started):
     return not status
 
 
+def longest_chain(waits, lines):
+    """Returns the crates that follow each other longest, by their lines. However many processors there are, a build takes as long.
+
+    Both arguments go by a crate's name: the crates that it waits for, and its lines. A crate comes after those that it waits for.
+    """
+    behind = {}
+    for name in reversed([*waits]):
+        behind[name] = lines[name] + max((behind[it] for it in behind if name in waits[it]), default=0)
+    chain, ready = [], [name for name in waits if not waits[name]]
+    while ready:
+        chain.append(max(ready, key=behind.get))
+        ready = [name for name in waits if chain[-1] in waits[name]]
+    return chain
+
+
 def tasks_of(rt, libraries):
-    """Returns a task for each library that isn't built, lowest first, as rt.in_lanes takes them."""
+    """Returns a task for each library that isn't built, lowest first, as rt.in_lanes takes them.
+
+    A library of the longest chain has several jobs from the start, and the memory for them: rt gives a crate its jobs when it
+    begins, and one that begins beside others would keep a single one to its end, while all the chain waits for it.
+    """
     missing = [it for it in libraries if not it.is_built()]
     names = {it.name for it in missing}
+    waits = {crate.name: [it.name for it in crate.below() if it.name in names] for crate in missing}
+    lines = {crate.name: crate.count(rb"\n") for crate in missing}
+    chain = longest_chain(waits, lines)
     started, tasks = time.monotonic(), {}
     for crate in missing:
-        waits = [(it.name, "proof") for it in crate.below() if it.name in names]
+        least = min(JOBS, rt.processors()) if crate.name in chain else 1
 
-        def call(given, jobs, it=crate, waits=waits):
-            return all(given[key] for key in waits) and build(it, jobs, started)
+        def call(given, jobs, it=crate, least=least):
+            return all(given[below, "proof"] for below in waits[it.name]) and build(it, max(jobs, least), started)
 
-        tasks[crate.name, "proof"] = (waits, crate.count(rb"\n"), rt.need(crate), call)
+        # (a further job takes some 0.6 of what one does)
+        need = int(rt.need(crate) * (1 + 0.6 * (least - 1)))
+        tasks[crate.name, "proof"] = ([(it, "proof") for it in waits[crate.name]], lines[crate.name], need, call)
     return tasks
 
 
