@@ -9,7 +9,7 @@ use std::thread::Threads;
 use ts_folder::{Failing, FaultyFolder, Folder, FolderFault, Kind, MemFolder, Trouble};
 use ts_name::{Name, Path};
 use ts_print::Print;
-use ts_scan::{Refusal, ScanFault, scan};
+use ts_scan::{Refusal, ScanFault, scan, scan_both};
 use ts_tree::{Tree, TreeReader};
 
 /// Gives the reader a directory of this number in another, and ten files in it.
@@ -98,30 +98,35 @@ impl Folder for Endless {
 /// How many turns a listing waits for the other.
 const TURNS: u32 = 10_000_000;
 
-/// A folder with the empty directories `/a` and `/b`, where the listing of either goes on only once the other's has begun.
+/// A folder where the listing of `/a` goes on only once that of `/b` has begun, and the reverse, and those of the root only once
+/// so many of them have.
 #[derive(Drop)]
 struct Gate {
     top: MemFolder,
+    roots: u64,
+    begun_roots: AtomicU64,
     begun_a: AtomicU64,
     begun_b: AtomicU64,
     late: AtomicU64,
 }
 
 impl Gate {
-    fn new(top: MemFolder) -> Gate {
+    fn new(top: MemFolder, roots: u64) -> Gate {
         Gate {
             top,
+            roots,
+            begun_roots: AtomicU64::new(0),
             begun_a: AtomicU64::new(0),
             begun_b: AtomicU64::new(0),
             late: AtomicU64::new(0),
         }
     }
 
-    /// Begins one listing, and waits for the other to begin.
-    fn pass(&self, mine: &AtomicU64, other: &AtomicU64) {
-        mine.store(1, Ordering::SeqCst);
+    /// Begins one listing, and waits until so many of these have begun.
+    fn pass(&self, mine: &AtomicU64, others: &AtomicU64, wanted: u64) {
+        mine.fetch_add(1, Ordering::SeqCst);
         for _ in 0..TURNS {
-            if other.load(Ordering::SeqCst) == 1 {
+            if others.load(Ordering::SeqCst) >= wanted {
                 return;
             }
             thread::yield_now();
@@ -143,9 +148,9 @@ impl Folder for Gate {
 
     fn list(&self, alloc: Global, path: &Path) -> Result<Vec<(Name, Kind)>, FolderFault> {
         match path.last() {
-            None => {}
-            Some(b"a") => self.pass(&self.begun_a, &self.begun_b),
-            Some(_) => self.pass(&self.begun_b, &self.begun_a),
+            None => self.pass(&self.begun_roots, &self.begun_roots, self.roots),
+            Some(b"a") => self.pass(&self.begun_a, &self.begun_b, 1),
+            Some(_) => self.pass(&self.begun_b, &self.begun_a, 1),
         }
         match self.top.list(alloc, path) {
             Ok(children) => Ok(children),
@@ -266,8 +271,58 @@ fn lists_two_directories_at_once(rt: HostRuntime) {
     let Some(top) = folder_of(alloc, b"d /a\nd /b\n") else {
         panic!(rt; "no folder");
     };
-    let gate = Gate::new(top);
+    let gate = Gate::new(top, 1);
     assert!(rt; scan(&rt, alloc, &gate, 2).is_ok());
+    assert!(rt; gate.late.load(Ordering::SeqCst) == 0);
+}
+
+/// Whether a scan of two folders by this many workers gives this print of the first, and one path of the second.
+fn scans_both<R: Threads + Sync>(
+    rt: &R,
+    alloc: Global,
+    folders: (&MemFolder, &MemFolder),
+    wanted: &Print,
+    workers: u32,
+) -> bool
+    requires some { 1 ≤ workers }
+    requires few { workers ≤ 64 }
+{
+    let (first, second) = scan_both(rt, alloc, folders.0, folders.1, workers);
+    let Ok(first) = first else {
+        return false;
+    };
+    let Ok(second) = second else {
+        return false;
+    };
+    first.sub_eq(wanted, &Path::root(alloc)) && second.rows().len() == 1
+}
+
+#[test]
+fn scans_two_folders(rt: HostRuntime) {
+    let alloc = rt.alloc();
+    let Some((folder, wanted)) = nested_folder(alloc) else {
+        panic!(rt; "no folder");
+    };
+    let Some(other) = folder_of(alloc, b"d /a\n") else {
+        panic!(rt; "no other folder");
+    };
+    for workers in [1, 2, 64] {
+        assert!(rt;
+            scans_both(&rt, alloc, (&folder, &other), &wanted, workers),
+            "{workers}"
+        );
+    }
+}
+
+#[test]
+fn scans_two_folders_at_once(rt: HostRuntime) {
+    let alloc = rt.alloc();
+    let Some(top) = folder_of(alloc, b"") else {
+        panic!(rt; "no folder");
+    };
+    let gate = Gate::new(top, 2);
+    let (first, second) = scan_both(&rt, alloc, &gate, &gate, 2);
+    assert!(rt; first.is_ok() && second.is_ok());
     assert!(rt; gate.late.load(Ordering::SeqCst) == 0);
 }
 

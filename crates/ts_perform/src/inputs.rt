@@ -17,7 +17,7 @@ use ts_command::Pair;
 use ts_hold::{Holds, RuleReader};
 use ts_model::plan::Plan;
 use ts_print::Print;
-use ts_scan::{ScanFault, scan};
+use ts_scan::{ScanFault, scan, scan_both};
 use ts_text::{Counted, Lines, TextFault};
 
 /// Opens a file to be read. None where nothing is there. A directory, a device or a pipe is never opened:
@@ -154,14 +154,21 @@ struct Scanned {
 }
 
 impl Scanned {
-    /// Scans the first replica, and then the second.
+    /// Scans both replicas, at once where there are several workers: they often lie on two devices. Where neither can be scanned
+    /// the fault is that of the first.
     fn read<R: Machine>(task: &Task<'_, R>) -> Result<Scanned, PerformFault>
         ensures scans { IfOk result (λ s. AreScans R.is_at R.Folder.tells task.now.pair.now.first.now task.now.pair.now.second.now s.first s.second) }
         ensures quiet { IfErr result IsQuiet }
     {
-        let first = scan_folder(task.rt, task.pair.first, task.workers)?;
-        let second = scan_folder(task.rt, task.pair.second, task.workers)?;
-        Ok(Scanned { first, second })
+        let (rt, alloc, pair) = (task.rt, task.rt.alloc(), task.pair);
+        let first = rt.folder(alloc, pair.first)?;
+        let second = rt.folder(alloc, pair.second)?;
+        let (first, second) = scan_both(rt, alloc, &first, &second, task.workers);
+        match (first, second) {
+            (Ok(first), Ok(second)) => Ok(Scanned { first, second }),
+            (Err(fault), _) => Err(fault_below(pair.first, fault)),
+            (Ok(_), Err(fault)) => Err(fault_below(pair.second, fault)),
+        }
     }
 }
 

@@ -1,9 +1,10 @@
 -- The faults of a scan: their numbers, and where each may come.
 --     Tells p fault told     a folder's fault at p is reported so
 --     MayFail lets told e    the fault may come over a folder with these troubles that tells this tree, or none
-use Rattle.std.specs.Prelude.{◌≡◌, ◌⊎◌, ℕ, [], ◌∷◌, ◌++◌, Option, Some, None, Result, IfErr, IfSome}
+use Rattle.std.specs.Prelude.{◌≡◌, ◌⊎◌, ℕ, [], ◌∷◌, ◌++◌, Option, Some, None, Result, IfErr, IfOk, IfSome}
 use Rattle.ts_name.specs.Paths.{Name, Path, IsPath}
-use Rattle.ts_model.specs.Trees.{Tree, at}
+use Rattle.ts_model.specs.Trees.{Listing, Tree, at, print_of}
+use Rattle.ts_model.specs.declared.row.Stamp.{Stamp}
 use Rattle.ts_folder.specs.declared.fault.FolderFault.{FolderFault}
 use Rattle.ts_folder.specs.declared.fault.FolderFault.TheVariants as folder
 use Rattle.ts_folder.specs.declared.fault.Trouble.{Trouble}
@@ -56,3 +57,7 @@ FailsAsTold lets told Holds result = IfSome told (λ tree. Holds (at tree)) → 
 -- why a child has no path: memory ran out, or it is past the limits, which is reported at its directory
 abbrev pub IsOfChild : Path → Name → ScanFault → Type 0
 IsOfChild p name e = (e ≡ OutOfMemory) ⊎ ((e ≡ At p refusal.TooLong) × (¬ IsPath (p ++ name ∷ [])))
+
+-- over a folder that tells a tree its print, and no fault but one that may come
+abbrev pub ScansTold : (Call → Path → Trouble → Type 0) → Told → Result (Listing Stamp) ScanFault → Type 0
+ScansTold lets told result = IfSome told (λ tree. IfOk result (λ print. at print ≡ print_of (at tree))) × IfErr result (MayFail lets told)

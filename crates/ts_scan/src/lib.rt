@@ -9,4 +9,4 @@ pub mod scanning;
 mod walk;
 
 pub use fault::{Refusal, ScanFault};
-pub use scanning::scan;
+pub use scanning::{scan, scan_both};

@@ -1,13 +1,14 @@
 //! The print of a folder.
 ghost use Rattle.std.specs.Prelude.{◌≡◌, ◌≤◌, IfErr, IfOk, IfSome};
+ghost use Rattle.std.specs.Thread.{IsSend, IsSync};
 ghost use Rattle.ts_model.specs.Trees.{at, print_of};
-ghost use Rattle.ts_scan.specs.Faults.{MayFail};
+ghost use Rattle.ts_scan.specs.Faults.{MayFail, ScansTold};
 
 use crate::fault::ScanFault;
 use crate::idle::Idle;
 use crate::walk::{Work, scan_directory};
 use std::alloc::Global;
-use std::thread::Threads;
+use std::thread::{Threads, join};
 use ts_folder::Folder;
 use ts_name::Path;
 use ts_print::Print;
@@ -36,4 +37,35 @@ where
     let work = Work::new(alloc)?;
     let done = scan_directory(rt, folder, &idle, alloc, &root, work)?;
     Ok(Print::from_table(Table::from_rows(done.rows)))
+}
+
+/// The same of two folders at once, each by as many workers; by one worker one after the other.
+pub fn scan_both<R: Threads + Sync, F: Folder + Sync>(
+    rt: &R,
+    alloc: Global,
+    first: &F,
+    second: &F,
+    workers: u32,
+) -> (Result<Print, ScanFault>, Result<Print, ScanFault>)
+where
+    F::File: Send,
+    requires some { 1 ≤ workers }
+    requires few { workers ≤ 64 }
+    ensures first { ScansTold (F.lets first.now) (F.tells first.now) result.0 }
+    ensures second { ScansTold (F.lets second.now) (F.tells second.now) result.1 }
+{
+    if workers == 1 {
+        let one = scan(rt, alloc, first, workers);
+        let other = scan(rt, alloc, second, workers);
+        return (one, other);
+    }
+    let one = || -> Result<Print, ScanFault>
+        requires { IsSync R.row × IsSync F.row × IsSend F.File.row × (1 ≤ workers) × (workers ≤ 64) }
+        ensures { ScansTold (F.lets first.entry.now) (F.tells first.entry.now) result }
+    { scan(rt, alloc, first, workers) };
+    let other = || -> Result<Print, ScanFault>
+        requires { IsSync R.row × IsSync F.row × IsSend F.File.row × (1 ≤ workers) × (workers ≤ 64) }
+        ensures { ScansTold (F.lets second.entry.now) (F.tells second.entry.now) result }
+    { scan(rt, alloc, second, workers) };
+    join(rt, one, other)
 }
