@@ -1,6 +1,8 @@
+pub mod Above
 pub mod Children
 pub mod Compared
 pub mod Ends
+pub mod Gathered
 pub mod Numbers
 pub mod Parts
 pub mod Rows

@@ -1,5 +1,5 @@
 -- What the comparison of a part answers over a folder that tells a tree.
-use Rattle.std.proofs.Common.{◌≡◌, ◌≢◌, ◌==◌, Bool, true, false, [], ◌∷◌, length, Some, None, Result, Ok, Err, IfOk, IfSome, IsTrue, ◌↔◌, eqb-true, refl, sym, ◌∙◌, ap, subst}
+use Rattle.std.proofs.Common.{◌≡◌, ◌≢◌, ◌==◌, Bool, true, false, List, [], ◌∷◌, length, Some, None, Result, Ok, Err, IfOk, IfSome, IsTrue, ◌↔◌, eqb-true, refl, sym, ◌∙◌, ap, subst}
 use Rattle.std.proofs.lemmas.Bool.{false≢true}
 use Rattle.std.proofs.lemmas.List.{nil_from_length}
 use Rattle.std.specs.List.{AllByRecursion}
@@ -56,10 +56,10 @@ rows_same_there told part rows (Ok looks) lent below_root some bodies all = rows
 rows_same_there told part rows (Err e) lent below_root some bodies all = tt
 
 -- whether there are rows
-pub emptied : (rows : Listing Stamp) (r : Bool) → r ≡ (length rows == 0) → r ≡ true → rows ≡ []
+pub emptied : {A : Type 0} (rows : List A) (r : Bool) → r ≡ (length rows == 0) → r ≡ true → rows ≡ []
 emptied rows r tested is = nil_from_length rows (eqb-true (length rows) 0 (sym tested ∙ is))
 
-pub filled : (rows : Listing Stamp) (r : Bool) → r ≡ (length rows == 0) → r ≡ false → rows ≢ []
+pub filled : {A : Type 0} (rows : List A) (r : Bool) → r ≡ (length rows == 0) → r ≡ false → rows ≢ []
 filled rows r tested not none = false≢true (sym not ∙ tested ∙ ap (λ z. length z == 0) none)
 
 -- ---- nothing

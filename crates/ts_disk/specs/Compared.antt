@@ -1,8 +1,10 @@
 -- What a look at a folder finds, where the folder tells its tree.
 --     HasPart t part              the print of the tree has this part where it stands
 --     Has t rows row              the tree has what a row says, and in a directory nothing that no row says
+--     HasAll, LacksSome           the tree, where it is told, has what each row says; or it hasn't what each row says
 --     MayEnd troubles differs e   a look may end with this fault, where these troubles may come and this differs
-use Rattle.std.specs.Prelude.{◌≡◌, ◌⊎◌, [], ◌∷◌, ◌++◌, ◌↔◌, Bool, IfSome, IsTrue}
+use Rattle.std.specs.Prelude.{◌≡◌, ◌⊎◌, [], ◌∷◌, ◌++◌, ◌↔◌, Bool, Result, IfOk, IfSome, IsTrue}
+use Rattle.std.specs.List.{AllByRecursion}
 use Rattle.ts_name.specs.Paths.{Name, Path}
 use Rattle.ts_model.specs.Texts.{IsTreeBody}
 use Rattle.ts_model.specs.Trees.{Tree, Listing, at, listed, print_of, stamped, sub}
@@ -34,6 +36,10 @@ HasFile told p = IfSome told (λ tree. IsTreeBody tree × IsFile (at tree p))
 abbrev pub TellsStamp : Told → Path → Stamp → Bool → Type 0
 TellsStamp told p stamp answer = IfSome told (λ tree. IsTrue answer ↔ (stamped (at tree p) ≡ File stamp))
 
+-- where a file is there, an answer without a fault says whether it has the stamp
+abbrev pub AnswersFile : {E : Type 0} → Told → Path → Stamp → Result Bool E → Type 0
+AnswersFile told p stamp result = HasFile told p → IfOk result (TellsStamp told p stamp)
+
 -- ---- rows
 
 abbrev pub IsOf : Content Stamp → Kind → Type 0
@@ -55,6 +61,14 @@ HasAt t rows p (File stamp) = stamped (t p) ≡ File stamp
 
 abbrev pub Has : Tree → Listing Stamp → Row Stamp → Type 0
 Has t rows row = HasAt t rows row.path row.content
+
+-- the tree, where it is told, has what each row says
+abbrev pub HasAll : Told → Listing Stamp → Type 0
+HasAll told rows = IfSome told (λ tree. AllByRecursion (Has (at tree) rows) rows)
+
+-- the tree, where it is told, hasn't what each row says
+abbrev pub LacksSome : Told → Listing Stamp → Type 0
+LacksSome told rows = IfSome told (λ tree. ¬ AllByRecursion (Has (at tree) rows) rows)
 
 -- ---- faults
 

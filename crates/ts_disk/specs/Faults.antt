@@ -1,5 +1,9 @@
 -- The faults of replicas on a disk.
 use Rattle.std.specs.Prelude.{ℕ}
+use Rattle.ts_disk.specs.declared.replacement.Refusal.{Refusal}
+use Rattle.ts_disk.specs.declared.replacement.Refusal.TheVariants as refusal
+use Rattle.ts_site.specs.declared.fault.SiteFault.{SiteFault}
+use Rattle.ts_site.specs.declared.fault.SiteFault.TheVariants as site
 use Rattle.ts_disk.specs.declared.fault.DiskFault.{DiskFault}
 use Rattle.ts_disk.specs.declared.fault.DiskFault.TheVariants.{OutOfMemory, Failed, Device, Locked, Own}
 
@@ -10,3 +14,9 @@ fault_number Failed = 5
 fault_number Device = 8
 fault_number Locked = 8
 fault_number Own = 5
+
+-- the fault that a commit ends with, by why its swap isn't made
+abbrev pub refusal_fault : Refusal → SiteFault
+refusal_fault refusal.OutOfMemory = site.OutOfMemory
+refusal_fault refusal.Device = site.Device
+refusal_fault refusal.Changed = site.Changed

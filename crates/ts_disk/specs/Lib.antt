@@ -1,4 +1,6 @@
 pub mod Compared
 pub mod Faults
+pub mod Flushing
+pub mod Modes
 pub mod Names
 pub mod Swaps

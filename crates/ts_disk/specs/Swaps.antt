@@ -1,8 +1,17 @@
 -- Which entries of a plan have a swap in a replica, and where its spots are.
 --     IsCopiedInto plan number into entry     the entry of this number is copied, and into this replica of the pair where one is given
+--     IsPathCopied plan number into path      this is such an entry's path
+--     IsTargetOf plan number into root place  this is such an entry's place below a root
+--     IsNoneCopied plan number into           no entry is such
+--     notice_path notice                      the path that is reported
+--     IsOfCopied plan into notice             the path is that of an entry that is copied there
+--     AddsNotices old new                     what was to be reported still is, and perhaps more
 --     place_of spot target new old            of three places, that of the spot
-use Rattle.std.specs.Prelude.{ℕ, Option, Some, None}
+use Rattle.std.specs.Prelude.{◌≡◌, ◌++◌, ℕ, List, Option, Some, None}
+use Rattle.ts_name.specs.Paths.{Path, place_text}
 use Rattle.ts_model.specs.Plans.{Copies, other}
+use Rattle.ts_disk.specs.declared.notice.Notice.{Notice}
+use Rattle.ts_disk.specs.declared.notice.Notice.TheVariants.{Discarded, Kept, Mounted}
 use Rattle.ts_model.specs.declared.plan.Entry.{Entry}
 use Rattle.ts_model.specs.declared.plan.Plan.{Plan}
 use Rattle.ts_model.specs.declared.plan.Side.{Side}
@@ -12,6 +21,32 @@ use Rattle.ts_swap.specs.declared.places.Spot.TheVariants.{Target, New, Old}
 abbrev pub IsCopiedInto : Plan → ℕ → Option Side → Entry → Type 0
 IsCopiedInto plan number None entry = (from : Side) × Copies plan number entry from
 IsCopiedInto plan number (Some into) entry = Copies plan number entry (other into)
+
+-- the entry of this number is copied, and into this replica of the pair where one is given, and it has this path
+abbrev pub IsPathCopied : Plan → ℕ → Option Side → Path → Type 0
+IsPathCopied plan number into path = (entry : Entry) × IsCopiedInto plan number into entry × (path ≡ entry.path)
+
+-- the place is that of such an entry's path below the root
+abbrev pub IsTargetOf : Plan → ℕ → Option Side → List ℕ → List ℕ → Type 0
+IsTargetOf plan number into root place = (entry : Entry) × IsCopiedInto plan number into entry × (place ≡ root ++ place_text entry.path)
+
+-- no entry of this number is copied, or not into this replica of the pair
+abbrev pub IsNoneCopied : Plan → ℕ → Option Side → Type 0
+IsNoneCopied plan number into = (entry : Entry) → ¬ IsCopiedInto plan number into entry
+
+-- the path that is reported
+abbrev pub notice_path : Notice → Path
+notice_path (Discarded path) = path
+notice_path (Kept path place) = path
+notice_path (Mounted path) = path
+
+-- what is reported is of an entry that is copied, and into this replica of the pair where one is given
+abbrev pub IsOfCopied : Plan → Option Side → Notice → Type 0
+IsOfCopied plan into notice = (number : ℕ) × IsPathCopied plan number into (notice_path notice)
+
+-- what was to be reported still is, and then perhaps more
+abbrev pub AddsNotices : List Notice → List Notice → Type 0
+AddsNotices old new = (more : List Notice) × (new ≡ old ++ more)
 
 abbrev pub place_of : {A : Type 0} → Spot → A → A → A → A
 place_of Target target new old = target

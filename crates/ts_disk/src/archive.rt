@@ -1,4 +1,8 @@
 //! The place of an archive, and the lock on it.
+ghost use Rattle.std.specs.Prelude.{◌≡◌, ◌++◌, false, true, IfOk, OnOk, codes};
+ghost use Rattle.std.specs.String.{string_bytes};
+ghost use Rattle.ts_disk.specs.Names.{StandsIn};
+
 use crate::fault::DiskFault;
 use crate::lock::{is_at, lock_file};
 use crate::modes::{PRIVATE_FILE, permissions};
@@ -38,7 +42,10 @@ pub fn claim_archive<R: Files<File = File> + AllocGlobal>(
     files: &R,
     alloc: Global,
     name: &str,
-) -> Result<ArchivePlace, DiskFault> {
+) -> Result<ArchivePlace, DiskFault>
+    ensures new { IfOk result (λ claimed. string_bytes claimed.new ≡ string_bytes claimed.place ++ codes ".new") }
+    ensures begun { IfOk result (λ claimed. claimed.is_done ≡ false) }
+{
     let place = followed(files, alloc, name)?;
     let mode = match kind_at(files, place.as_str()).map_err(|_| DiskFault::Failed)? {
         Standing::Nothing => PRIVATE_FILE,
@@ -67,7 +74,10 @@ impl ArchivePlace {
         files: &R,
         alloc: Global,
         archive: &Print,
-    ) -> Result<(), DiskFault> {
+    ) -> Result<(), DiskFault>
+        ensures done { OnOk result (self.exit.now.is_done ≡ true) }
+        ensures kept { (self.exit.now.place ≡ self.entry.now.place) × (self.exit.now.new ≡ self.entry.now.new) }
+    {
         let mut sink = Counted::new(&self.file);
         match ts_archive::encode(alloc, archive, &mut sink) {
             Ok(()) => {}
@@ -119,9 +129,11 @@ fn followed<R: Files + AllocGlobal>(
 }
 
 /// The directory in which a place is.
-fn above(place: &str) -> &str {
+fn above(place: &str) -> &str
+    ensures { StandsIn place.now result.now }
+{
     match place.rsplit_once('/') {
-        Some(("", _)) => "/",
+        Some((above, _)) if above.is_empty() => "/",
         Some((above, _)) => above,
         None => ".",
     }

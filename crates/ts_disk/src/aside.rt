@@ -1,4 +1,8 @@
 //! Whether trees on a disk are what they were, or what was written.
+ghost use Rattle.std.specs.Prelude.{◌≡◌, ◌++◌, IfOk, List, ℕ};
+ghost use Rattle.std.specs.String.{string_bytes};
+ghost use Rattle.ts_name.specs.Paths.{place_text};
+
 use crate::compare::PIECE;
 use crate::look::Look;
 use crate::place::{Standing, kind_at, metadata_at};
@@ -66,7 +70,9 @@ fn place_aside<R: AllocGlobal>(
     path: &Path,
     top: &Path,
     aside: &str,
-) -> io::Result<String> {
+) -> io::Result<String>
+    ensures { IfOk result (λ place. (rest : List (List ℕ)) × (path.now ≡ top.now ++ rest) × (string_bytes place ≡ aside.now ++ place_text rest)) }
+{
     let alloc = files.alloc();
     if let Ok(Some(rest)) = path.below(alloc, top)
         && let Ok(place) = rest.place_below(alloc, aside)

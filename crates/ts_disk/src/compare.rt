@@ -1,7 +1,7 @@
 //! Whether what lies in a folder is what it was.
 ghost use Rattle.std.specs.List.{AllByRecursion};
 ghost use Rattle.std.specs.Prelude.{◌≡◌, ◌≢◌, ◌⊎◌, ◌↔◌, ◌∷◌, ◌++◌, [], ◌+◌, ◌<◌, ℕ, List, length, IfErr, IfOk, IfSome, IsTrue};
-ghost use Rattle.ts_disk.specs.Compared.{Has, HasFile, HasOnly, HasPart, IsOf, MayEnd, Says, TellsStamp, Troubles, site_fault};
+ghost use Rattle.ts_disk.specs.Compared.{AnswersFile, Has, HasAll, HasOnly, HasPart, IsOf, LacksSome, MayEnd, Says, Troubles, site_fault};
 ghost use Rattle.ts_folder.specs.declared.folder.Call.TheVariants as call;
 ghost use Rattle.ts_model.specs.Texts.{IsTreeBody};
 ghost use Rattle.ts_model.specs.Trees.{Ascend, at, stamped};
@@ -67,9 +67,9 @@ fn compare_all<F: Folder>(
 where
     F::File: OpenFile,
     requires { Ascend rows.now }
-    ensures same { IfOk result (λ _. IfSome (F.tells folder.now) (λ tree. AllByRecursion (Has (at tree) rows.now) rows.now)) }
+    ensures same { IfOk result (λ _. HasAll (F.tells folder.now) rows.now) }
     ensures looks { IfOk result (λ looks. length looks.items ≡ length rows.now) }
-    ensures fault { IfErr result (MayEnd (Troubles (F.lets folder.now)) (IfSome (F.tells folder.now) (λ tree. ¬ AllByRecursion (Has (at tree) rows.now) rows.now))) }
+    ensures fault { IfErr result (MayEnd (Troubles (F.lets folder.now)) (LacksSome (F.tells folder.now) rows.now)) }
     ensures lawful { IfOk result (λ _. AllByRecursion (λ row. row.content ≢ Absent → IfSome (F.tells folder.now) IsTreeBody) rows.now) }
 {
     let Ok(mut buffer) = vec![in alloc; 0u8; PIECE] else {
@@ -90,9 +90,9 @@ where
     F::File: OpenFile,
     requires room { 0 < length buffer.old }
     requires order { Ascend rows.now }
-    ensures same { IfOk result (λ _. IfSome (F.tells folder.now) (λ tree. AllByRecursion (Has (at tree) rows.now) rows.now)) }
+    ensures same { IfOk result (λ _. HasAll (F.tells folder.now) rows.now) }
     ensures looks { IfOk result (λ looks. length looks.items ≡ length rows.now) }
-    ensures fault { IfErr result (MayEnd (Troubles (F.lets folder.now)) (IfSome (F.tells folder.now) (λ tree. ¬ AllByRecursion (Has (at tree) rows.now) rows.now))) }
+    ensures fault { IfErr result (MayEnd (Troubles (F.lets folder.now)) (LacksSome (F.tells folder.now) rows.now)) }
     ensures lawful { IfOk result (λ _. AllByRecursion (λ row. row.content ≢ Absent → IfSome (F.tells folder.now) IsTreeBody) rows.now) }
 {
     let mut looks = Vec::new(alloc);
@@ -251,7 +251,7 @@ fn has_stamp<F: Folder>(
     buffer: &mut [u8],
 ) -> Result<bool, SiteFault>
     requires { 0 < length buffer.old }
-    ensures answer { (p : List (List ℕ)) → F.is_open folder.now file.old p → HasFile (F.tells folder.now) p → IfOk result (TellsStamp (F.tells folder.now) p stamp.now) }
+    ensures answer { (p : List (List ℕ)) → F.is_open folder.now file.old p → AnswersFile (F.tells folder.now) p stamp.now result }
     ensures fault { (p : List (List ℕ)) → F.is_open folder.now file.old p → IfErr result (MayEnd (F.lets folder.now call.Read p) ⊥) }
 {
     let mut hasher = Sha256::new();

@@ -1,4 +1,8 @@
 //! What a run put in place reaches the device before its archive says so.
+ghost use Rattle.std.specs.Prelude.{◌≡◌, ◌⊎◌, [], All, Any, IfErr, IfNone, IfOk, IfSome};
+ghost use Rattle.std.specs.String.{string_bytes};
+ghost use Rattle.ts_disk.specs.Flushing.{IsAboveAt};
+
 use crate::fault::DiskFault;
 use crate::place::flush_dir;
 use std::alloc::{AllocError, Global};
@@ -19,7 +23,9 @@ pub fn flush_above<R: Threads + Sync>(
     root: &str,
     paths: &[&Path],
     workers: u32,
-) -> Result<(), DiskFault> {
+) -> Result<(), DiskFault>
+    ensures fault { IfErr result (λ e. (e ≡ DiskFault.OutOfMemory) ⊎ (e ≡ DiskFault.Failed)) }
+{
     let places = places_above(alloc, root, paths)?;
     let places = places.as_slice();
     if places.is_empty() {
@@ -40,18 +46,33 @@ pub fn flush_above<R: Threads + Sync>(
 }
 
 /// The places of the directories in which these paths stand, each once.
-fn places_above(alloc: Global, root: &str, paths: &[&Path]) -> Result<Vec<String>, DiskFault> {
+fn places_above(alloc: Global, root: &str, paths: &[&Path]) -> Result<Vec<String>, DiskFault>
+    ensures all { IfOk result (λ places. All (λ path. (path.now ≡ []) ⊎ Any (λ dir. IsAboveAt root.now path.now (string_bytes dir)) places.items) paths.now) }
+    ensures only { IfOk result (λ places. All (λ dir. Any (λ path. IsAboveAt root.now path.now (string_bytes dir)) paths.now) places.items) }
+    ensures fault { IfErr result (λ e. e ≡ DiskFault.OutOfMemory) }
+{
     let mut places = Vec::new(alloc);
     for path in paths {
-        match path.parent(alloc) {
-            Ok(Some(parent)) => places.push(parent.place_below(alloc, root)?)?,
-            Ok(None) => {}
-            Err(_) => return Err(DiskFault::OutOfMemory),
+        if let Some(place) = place_above(alloc, root, path)? {
+            places.push(place)?;
         }
     }
     places.sort_unstable();
     places.dedup();
     Ok(places)
+}
+
+/// The place of the directory in which a path stands. The root stands in none.
+fn place_above(alloc: Global, root: &str, path: &Path) -> Result<Option<String>, DiskFault>
+    ensures some { IfOk result (λ found. IfSome found (λ place. IsAboveAt root.now path.now (string_bytes place))) }
+    ensures none { IfOk result (λ found. IfNone found (path.now ≡ [])) }
+    ensures fault { IfErr result (λ e. e ≡ DiskFault.OutOfMemory) }
+{
+    match path.parent(alloc) {
+        Ok(Some(parent)) => Ok(Some(parent.place_below(alloc, root)?)),
+        Ok(None) => Ok(None),
+        Err(_) => Err(DiskFault::OutOfMemory),
+    }
 }
 
 /// Flushes each of so many places, from this one on.

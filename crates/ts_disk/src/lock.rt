@@ -1,4 +1,7 @@
 //! One run at a time on a replica.
+ghost use Rattle.std.specs.Prelude.{◌≡◌, ◌++◌, IfOk, IfSome, codes};
+ghost use Rattle.std.specs.String.{string_bytes};
+
 use crate::fault::DiskFault;
 use crate::modes::PRIVATE_FILE;
 use crate::place::{Standing, is_same, look_at, make_own, mark_used, own_place};
@@ -26,12 +29,16 @@ pub struct Lock {
 impl Lock {
     /// Whether the replica took part in a run before this one: it had a directory `.twosync`, and not one that a run left which
     /// was stopped before it came so far.
-    pub fn took_part(&self) -> bool {
+    pub fn took_part(&self) -> bool
+        ensures { result ≡ self.now.took_part }
+    {
         self.took_part
     }
 
     /// Whether a run into the replica was stopped: it had a plan when it was locked.
-    pub fn was_stopped(&self) -> bool {
+    pub fn was_stopped(&self) -> bool
+        ensures { result ≡ self.now.was_stopped }
+    {
         self.was_stopped
     }
 
@@ -71,7 +78,10 @@ pub fn take_lock<R: Files<File = File>>(
     files: &R,
     alloc: Global,
     root: &str,
-) -> Result<Option<Lock>, DiskFault> {
+) -> Result<Option<Lock>, DiskFault>
+    ensures own { IfOk result (λ lock. IfSome lock (λ held. string_bytes held.own ≡ root.now ++ codes "/.twosync")) }
+    ensures place { IfOk result (λ lock. IfSome lock (λ held. string_bytes held.place ≡ root.now ++ codes "/.twosync/lock")) }
+{
     if !is_directory(files, root)? {
         return Ok(None);
     }

@@ -1,4 +1,7 @@
 //! What a look at a file tells without reading it.
+ghost use Rattle.std.specs.Prelude.{◌≡◌, ◌<◌, ◌^◌, ◌+ℤ◌, ◌≤ℤ◌, IsTrue, pos};
+ghost use Rattle.std.specs.Fs.{metadata_len};
+
 use std::fs::Metadata;
 use std::os::unix::fs::MetadataExt;
 use std::time::Duration;
@@ -20,32 +23,46 @@ pub(crate) struct Look {
 
 impl Look {
     /// The look, taken at a time since 1970.
-    pub(crate) fn new(metadata: &Metadata, now: Duration) -> Look {
+    pub(crate) fn new(metadata: &Metadata, now: Duration) -> Look
+        ensures size { result.size ≡ metadata_len metadata.now }
+    {
         let seconds = metadata.mtime();
-        let oldest = i64::try_from(now.as_secs())
-            .unwrap_or(i64::MAX)
-            .saturating_sub(COARSE);
         Look {
             device: metadata.dev(),
             inode: metadata.ino(),
             size: metadata.len(),
             seconds,
             nanoseconds: metadata.mtime_nsec(),
-            is_recent: seconds >= oldest,
+            is_recent: is_recent_at(seconds, now.as_secs()),
         }
     }
 
     /// Whether the file was changed so shortly before the look that one more change may not show in its time.
-    pub(crate) fn is_recent(&self) -> bool {
+    pub(crate) fn is_recent(&self) -> bool
+        ensures { result ≡ self.now.is_recent }
+    {
         self.is_recent
     }
 
     /// Whether a later look finds the same file, unchanged as far as its size and time tell.
-    pub(crate) fn is_same(&self, metadata: &Metadata) -> bool {
+    pub(crate) fn is_same(&self, metadata: &Metadata) -> bool
+        ensures size { IsTrue result → self.now.size ≡ metadata_len metadata.now }
+    {
         self.device == metadata.dev()
             && self.inode == metadata.ino()
             && self.size == metadata.len()
             && self.seconds == metadata.mtime()
             && self.nanoseconds == metadata.mtime_nsec()
     }
+}
+
+/// Whether a change at one time, in seconds, may share its time with a change after another.
+fn is_recent_at(seconds: i64, now: u64) -> bool
+    ensures recent { (pos now ≤ℤ (seconds +ℤ pos 4)) → IsTrue result }
+    ensures old { now < 2 ^ 63 → IsTrue result → (pos now ≤ℤ (seconds +ℤ pos 4)) }
+{
+    let oldest = i64::try_from(now)
+        .unwrap_or(i64::MAX)
+        .saturating_sub(COARSE);
+    seconds >= oldest
 }

@@ -1,4 +1,6 @@
 //! Permissions of what is put in place.
+ghost use Rattle.std.specs.Prelude.{◌<◌, IfOk, IfSome};
+
 use crate::place::{Standing, kind_of, metadata_at};
 use std::fs::{Files, Metadata};
 use std::io;
@@ -14,7 +16,9 @@ pub(crate) const PRIVATE_FILE: u32 = 0o600;
 pub(crate) const PRIVATE_DIR: u32 = 0o700;
 
 /// The permission bits of what has this mode.
-pub(crate) fn permissions(metadata: &Metadata) -> u32 {
+pub(crate) fn permissions(metadata: &Metadata) -> u32
+    ensures { result < 512 }
+{
     metadata.mode() & PERMISSIONS
 }
 
@@ -23,7 +27,9 @@ pub(crate) fn permissions_at<R: Files>(
     files: &R,
     place: &str,
     kind: Standing,
-) -> io::Result<Option<u32>> {
+) -> io::Result<Option<u32>>
+    ensures { IfOk result (λ found. IfSome found (λ bits. bits < 512)) }
+{
     Ok(match metadata_at(files, place)? {
         Some(metadata) if kind_of(metadata.file_type()) == kind => Some(permissions(&metadata)),
         _ => None,

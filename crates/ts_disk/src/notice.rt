@@ -1,4 +1,7 @@
 //! What a run has to say of paths in a replica, beside how its actions ended.
+ghost use Rattle.std.specs.Prelude.{◌≡◌, ◌≢◌, [], IfErr, IfOk, IfSome};
+ghost use Rattle.ts_name.specs.Paths.{IsAbove};
+
 use crate::fault::DiskFault;
 use crate::place::{metadata_at, own_place};
 use std::alloc::Global;
@@ -32,7 +35,11 @@ pub fn mount_above<R: Files>(
     alloc: Global,
     root: &str,
     path: &Path,
-) -> Result<Option<Path>, DiskFault> {
+) -> Result<Option<Path>, DiskFault>
+    ensures above { IfOk result (λ found. IfSome found (λ top. IsAbove top path.now)) }
+    ensures below_root { IfOk result (λ found. IfSome found (λ top. top ≢ [])) }
+    ensures fault { IfErr result (λ e. e ≡ DiskFault.OutOfMemory) }
+{
     let own = own_place(alloc, root)?;
     let Some(home) = device_at(files, own.as_str()) else {
         return Ok(None);
@@ -64,7 +71,11 @@ fn device_at<R: Files>(files: &R, place: &str) -> Option<u64> {
     }
 }
 
-fn copied(alloc: Global, path: &Path) -> Result<Path, DiskFault> {
+/// The same path once more.
+fn copied(alloc: Global, path: &Path) -> Result<Path, DiskFault>
+    ensures value { IfOk result (λ copy. copy ≡ path.now) }
+    ensures fault { IfErr result (λ e. e ≡ DiskFault.OutOfMemory) }
+{
     match path.copy(alloc) {
         Ok(path) => Ok(path),
         Err(_) => Err(DiskFault::OutOfMemory),

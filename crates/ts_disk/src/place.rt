@@ -1,5 +1,6 @@
 //! Places of the file system at a replica's root and below it.
 ghost use Rattle.std.specs.Prelude.{◌≡◌, ◌++◌, IfOk, codes};
+ghost use Rattle.std.specs.Fs.{IsDir, IsFile};
 ghost use Rattle.std.specs.String.{string_bytes};
 
 use crate::modes::PRIVATE_DIR;
@@ -78,7 +79,12 @@ pub(crate) fn metadata_at<R: Files>(files: &R, spelled: &str) -> io::Result<Opti
     }
 }
 
-pub(crate) fn kind_of(file_type: FileType) -> Standing {
+/// What has a file type of the system.
+pub(crate) fn kind_of(file_type: FileType) -> Standing
+    ensures dir { IsDir file_type → result ≡ Standing.Dir }
+    ensures file { ¬ IsDir file_type → IsFile file_type → result ≡ Standing.File }
+    ensures other { ¬ IsDir file_type → ¬ IsFile file_type → result ≡ Standing.Other }
+{
     if file_type.is_dir() {
         Standing::Dir
     } else if file_type.is_file() {

@@ -1,8 +1,9 @@
 //! The spots of a swap on a disk.
 ghost use Rattle.std.specs.Fmt.{decimal};
-ghost use Rattle.std.specs.Prelude.{◌≡◌, ◌++◌, IfErr, IfOk, codes};
+ghost use Rattle.std.specs.Prelude.{◌≡◌, ◌++◌, false, length, IfErr, IfOk, codes};
 ghost use Rattle.std.specs.String.{string_bytes};
 ghost use Rattle.ts_name.specs.Paths.{place_text};
+ghost use Rattle.ts_disk.specs.Names.{IfKept, IsNumbered};
 ghost use Rattle.ts_disk.specs.Swaps.{place_of};
 ghost use Rattle.ts_swap.specs.Leavings.{Counts};
 
@@ -54,6 +55,10 @@ impl<R: Drop> DiskPlaces<R> {
         entry: u32,
     ) -> Result<DiskPlaces<R>, DiskFault>
         ensures failures { IfOk result (λ places. places.failures ≡ 0) }
+        ensures clean { IfOk result (λ places. places.has_trash ≡ false) }
+        ensures entry { IfOk result (λ places. places.entry ≡ entry) }
+        ensures root { IfOk result (λ places. places.root ≡ length root.now) }
+        ensures own { IfOk result (λ places. string_bytes places.own ≡ root.now ++ codes "/.twosync") }
         ensures target { IfOk result (λ places. string_bytes places.at_target ≡ root.now ++ place_text path.now) }
         ensures new { IfOk result (λ places. string_bytes places.at_new ≡ root.now ++ codes "/.twosync/new-" ++ decimal entry) }
         ensures old { IfOk result (λ places. string_bytes places.at_old ≡ root.now ++ codes "/.twosync/old-" ++ decimal entry) }
@@ -199,7 +204,9 @@ impl<R: Files + AllocGlobal + Clone + Drop> DiskPlaces<R> {
 
     /// Keeps what stands at a spot as `.twosync/left-N`, where `N` is the first number that is free: what can't go back to its
     /// place, and may be the only copy of something. Answers where that is.
-    pub(crate) fn keep(&self, spot: Spot) -> io::Result<String> {
+    pub(crate) fn keep(&self, spot: Spot) -> io::Result<String>
+        ensures { IfOk result (λ place. IsNumbered (string_bytes self.now.own) (codes "left") (string_bytes place)) }
+    {
         self.move_to_free(spot, "left")
     }
 
@@ -220,7 +227,9 @@ impl<R: Files + AllocGlobal + Clone + Drop> DiskPlaces<R> {
     }
 
     /// Keeps what was kept for now under this name, and answers where that is.
-    pub(crate) fn keep_named(&self, name: &str) -> io::Result<String> {
+    pub(crate) fn keep_named(&self, name: &str) -> io::Result<String>
+        ensures { IfOk result (λ place. IsNumbered (string_bytes self.now.own) (codes "left") (string_bytes place)) }
+    {
         let own = self.own.as_str();
         let place = format!(in self.files.alloc(); "{own}/{name}")?;
         self.move_from(place.as_str(), "left")
@@ -234,13 +243,17 @@ impl<R: Files + AllocGlobal + Clone + Drop> DiskPlaces<R> {
     }
 
     /// Moves what stands at a spot to the first name `STEM-N` in the program's own directory that is free.
-    fn move_to_free(&self, spot: Spot, stem: &str) -> io::Result<String> {
+    fn move_to_free(&self, spot: Spot, stem: &str) -> io::Result<String>
+        ensures { IfOk result (λ place. IsNumbered (string_bytes self.now.own) stem.now (string_bytes place)) }
+    {
         self.move_from(self.place(spot), stem)
     }
 
     /// Moves what stands at a place in the program's own directory to the first name `STEM-N` there that is free. Nobody else
     /// works there, so what is free stays free.
-    fn move_from(&self, place: &str, stem: &str) -> io::Result<String> {
+    fn move_from(&self, place: &str, stem: &str) -> io::Result<String>
+        ensures { IfOk result (λ place. IsNumbered (string_bytes self.now.own) stem.now (string_bytes place)) }
+    {
         let alloc = self.files.alloc();
         for number in 0..NAMES_TRIED {
             let own = self.own.as_str();
@@ -255,7 +268,9 @@ impl<R: Files + AllocGlobal + Clone + Drop> DiskPlaces<R> {
 
     /// Brings the swap to an end. Where the original can't go back it is kept first: others took the target while it was
     /// absent, or the directory in which it stood is gone.
-    pub(crate) fn end(&mut self) -> io::Result<Aside> {
+    pub(crate) fn end(&mut self) -> io::Result<Aside>
+        ensures { IfOk result (λ aside. IfKept aside (IsNumbered (string_bytes self.old.own) (codes "left"))) }
+    {
         let kept = if self.is_old_stranded()? {
             Some(self.keep(Spot::Old)?)
         } else {

@@ -1,10 +1,10 @@
 //! Bringing swaps to an end that were stopped or failed.
 ghost use Rattle.std.specs.Fmt.{decimal};
-ghost use Rattle.std.specs.Prelude.{◌≡◌, ◌++◌, IfNone, IfOk, IfSome, codes};
+ghost use Rattle.std.specs.List.Sorted.{IsStrictlyIncreasing};
+ghost use Rattle.std.specs.Prelude.{◌≡◌, ◌++◌, ◌<◌, ◌^◌, ℕ, All, Any, Contains, IfErr, IfNone, IfOk, IfSome, codes};
 ghost use Rattle.std.specs.String.{string_bytes};
-ghost use Rattle.ts_disk.specs.Swaps.{IsCopiedInto};
-ghost use Rattle.ts_model.specs.declared.plan.Entry.{Entry};
-ghost use Rattle.ts_name.specs.Paths.{place_text};
+ghost use Rattle.ts_disk.specs.Names.{IsSpotOf};
+ghost use Rattle.ts_disk.specs.Swaps.{AddsNotices, IsCopiedInto, IsNoneCopied, IsOfCopied, IsPathCopied, IsTargetOf, notice_path};
 
 use crate::fault::DiskFault;
 use crate::leftover::{Aside, remove_trash};
@@ -57,7 +57,9 @@ pub fn recover_replica<R: Files + AllocGlobal + Clone + Drop>(
     alloc: Global,
     root: &str,
     notices: &mut Vec<Notice>,
-) -> Result<(), DiskFault> {
+) -> Result<(), DiskFault>
+    ensures kept { AddsNotices notices.old.items notices.new.items }
+{
     let _ = remove_trash(files, alloc, root);
     let Some(plan) = read_plan(files, alloc, root)? else {
         return Ok(());
@@ -75,7 +77,9 @@ pub fn clear_leftovers<R: Files + AllocGlobal + Clone + Drop>(
     replica: &Replica<'_>,
     plan: &Plan,
     notices: &mut Vec<Notice>,
-) -> Result<(), DiskFault> {
+) -> Result<(), DiskFault>
+    ensures kept { AddsNotices notices.old.items notices.new.items }
+{
     end_swaps(
         files,
         alloc,
@@ -94,7 +98,9 @@ fn end_swaps<R: Files + AllocGlobal + Clone + Drop>(
     plan: &Plan,
     into: Option<Side>,
     notices: &mut Vec<Notice>,
-) -> Result<(), DiskFault> {
+) -> Result<(), DiskFault>
+    ensures kept { AddsNotices notices.old.items notices.new.items }
+{
     let mut ended: Result<(), DiskFault> = Ok(());
     let names = own_names(files, alloc, root)?;
     // Recovery does nothing where neither spot of a swap is taken, and both lie in the program's own directory: so those
@@ -119,7 +125,7 @@ fn end_swaps<R: Files + AllocGlobal + Clone + Drop>(
 /// The entry of this number, if it is copied, and into this replica of the pair where one is given.
 fn copied_entry(plan: &Plan, number: u32, into: Option<Side>) -> Option<&Entry>
     ensures some { IfSome result (λ entry. IsCopiedInto plan.now number into entry.now) }
-    ensures none { IfNone result ((entry : Entry) → ¬ IsCopiedInto plan.now number into entry) }
+    ensures none { IfNone result (IsNoneCopied plan.now number into) }
 {
     let entry = plan.entries.as_slice().get(number as usize)?;
     let from = entry.reason.source()?;
@@ -155,23 +161,21 @@ fn own_names<R: Files + AllocGlobal + Clone + Drop>(
 }
 
 /// The numbers of the entries whose new or old spots are among some names, each once, in order.
-fn taken_spots(alloc: Global, names: &[String]) -> Result<Vec<u32>, DiskFault> {
+fn taken_spots(alloc: Global, names: &[String]) -> Result<Vec<u32>, DiskFault>
+    ensures all { IfOk result (λ spots. All (λ name. (n : ℕ) → n < 2 ^ 32 → IsSpotOf (string_bytes name) n → Contains spots.items n) names.now) }
+    ensures order { IfOk result (λ spots. IsStrictlyIncreasing spots.items) }
+    ensures only { IfOk result (λ spots. All (λ n. Any (λ name. IsSpotOf (string_bytes name) n) names.now) spots.items) }
+    ensures fault { IfErr result (λ e. e ≡ DiskFault.OutOfMemory) }
+{
     let mut numbers = Vec::new(alloc);
     for name in names {
         if let Some(number) = spot_number(name.as_str()) {
             numbers.push(number)?;
         }
     }
-    numbers.sort_unstable_by(|one: &u32, other: &u32| one.cmp(other));
-    let mut spots = Vec::new(alloc);
-    let mut last = None;
-    for number in &numbers {
-        if last != Some(*number) {
-            spots.push(*number)?;
-            last = Some(*number);
-        }
-    }
-    Ok(spots)
+    numbers.sort_unstable();
+    numbers.dedup();
+    Ok(numbers)
 }
 
 /// Brings the swap of the entry of this number to its end, if that entry is copied into the replica. Answers what is left of it.
@@ -182,7 +186,9 @@ fn end_swap<R: Files + AllocGlobal + Clone + Drop>(
     plan: &Plan,
     number: u32,
     into: Option<Side>,
-) -> Result<Option<Notice>, DiskFault> {
+) -> Result<Option<Notice>, DiskFault>
+    ensures { IfOk result (λ left. IfSome left (λ notice. IsPathCopied plan.now number into (notice_path notice))) }
+{
     let Some((path, mut places)) = entry_spots(files, alloc, root, plan, number, into)? else {
         return Ok(None);
     };
@@ -202,7 +208,9 @@ fn end_keeping<R: Files + AllocGlobal + Clone + Drop>(
     plan: &Plan,
     name: &str,
     into: Option<Side>,
-) -> Result<Option<Notice>, DiskFault> {
+) -> Result<Option<Notice>, DiskFault>
+    ensures { IfOk result (λ left. IfSome left (λ notice. IsOfCopied plan.now into notice)) }
+{
     let Some(number) = kept_number(name) else {
         return Ok(None);
     };
@@ -223,7 +231,13 @@ fn entry_spots<R: Files + AllocGlobal + Clone + Drop>(
     plan: &Plan,
     number: u32,
     into: Option<Side>,
-) -> Result<Option<(Path, DiskPlaces<R>)>, DiskFault> {
+) -> Result<Option<(Path, DiskPlaces<R>)>, DiskFault>
+    ensures path { IfOk result (λ found. IfSome found (λ own. IsPathCopied plan.now number into own.0)) }
+    ensures target { IfOk result (λ found. IfSome found (λ own. IsTargetOf plan.now number into root.now (string_bytes own.1.at_target))) }
+    ensures new { IfOk result (λ found. IfSome found (λ own. string_bytes own.1.at_new ≡ root.now ++ codes "/.twosync/new-" ++ decimal number)) }
+    ensures old { IfOk result (λ found. IfSome found (λ own. string_bytes own.1.at_old ≡ root.now ++ codes "/.twosync/old-" ++ decimal number)) }
+    ensures none { IfOk result (λ found. IfNone found (IsNoneCopied plan.now number into)) }
+{
     let Some(entry) = copied_entry(plan, number, into) else {
         return Ok(None);
     };
@@ -246,10 +260,10 @@ fn own_spots<R: Drop>(
     number: u32,
     into: Option<Side>,
 ) -> Result<Option<DiskPlaces<R>>, DiskFault>
-    ensures target { IfOk result (λ spots. IfSome spots (λ own. (entry : Entry) × IsCopiedInto plan.now number into entry × (string_bytes own.at_target ≡ root.now ++ place_text entry.path))) }
+    ensures target { IfOk result (λ spots. IfSome spots (λ own. IsTargetOf plan.now number into root.now (string_bytes own.at_target))) }
     ensures new { IfOk result (λ spots. IfSome spots (λ own. string_bytes own.at_new ≡ root.now ++ codes "/.twosync/new-" ++ decimal number)) }
     ensures old { IfOk result (λ spots. IfSome spots (λ own. string_bytes own.at_old ≡ root.now ++ codes "/.twosync/old-" ++ decimal number)) }
-    ensures none { IfOk result (λ spots. IfNone spots ((entry : Entry) → ¬ IsCopiedInto plan.now number into entry)) }
+    ensures none { IfOk result (λ spots. IfNone spots (IsNoneCopied plan.now number into)) }
 {
     match copied_entry(plan, number, into) {
         Some(entry) => Ok(Some(DiskPlaces::new(alloc, files, root, &entry.path, number)?)),

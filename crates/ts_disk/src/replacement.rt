@@ -1,5 +1,6 @@
 //! One commit's swap, which no other process can lose anything by.
-ghost use Rattle.std.specs.Prelude.{◌≡◌, ◌≢◌, IfErr};
+ghost use Rattle.std.specs.Prelude.{◌≡◌, ◌≢◌, ◌<◌, [], false, IfErr, IfOk, IfSome, IsErr, IsTrue, None, Some};
+ghost use Rattle.ts_disk.specs.Faults.{refusal_fault};
 ghost use Rattle.ts_swap.specs.Leavings.{Counts};
 
 use crate::aside::{is_same_tree, is_untouched};
@@ -56,7 +57,13 @@ impl<'a> Replacement<'a> {
         before: &'a SubPrint<'a>,
         staged: &'a Staged,
         source: &'a str,
-    ) -> Replacement<'a> {
+    ) -> Replacement<'a>
+        ensures places { result.places ≡ places }
+        ensures folder { result.folder.now ≡ folder.now }
+        ensures trees { (result.before.now ≡ before.now) × (result.staged.now ≡ staged.now) }
+        ensures source { result.source.now ≡ source.now }
+        ensures nothing { (result.looks.items ≡ []) × (result.is_aside ≡ false) × (result.is_late ≡ false) × (result.refusal ≡ None) }
+    {
         Replacement {
             places,
             folder,
@@ -72,14 +79,18 @@ impl<'a> Replacement<'a> {
 
     /// Notes why the swap isn't made.
     fn refuse(&mut self, refusal: Refusal) -> io::Error
-        ensures { self.new.places.failures ≡ self.old.places.failures }
+        ensures noted { self.new.refusal ≡ Some refusal }
+        ensures failures { self.new.places.failures ≡ self.old.places.failures }
     {
         self.refusal = Some(refusal);
         io::Error::from(ErrorKind::Other)
     }
 
     /// Where the permission bits of the new tree come from.
-    fn bits(&self) -> io::Result<Bits<'a>> {
+    fn bits(&self) -> io::Result<Bits<'a>>
+        ensures plain { IfOk result (λ bits. IfSome bits.kept (λ kept. kept < 512)) }
+        ensures source { IfOk result (λ bits. bits.source ≡ Some self.now.source) }
+    {
         let target = self.places.place(Spot::Target);
         Ok(Bits {
             kept: permissions_at(&self.places.files, target, Standing::File)?,
@@ -194,7 +205,10 @@ impl<'a> Replacement<'a> {
 
     /// What came of the swap, once what it leaves aside is settled.
     pub(crate) fn settle(&mut self, replaced: Result<(), Failed>) -> Result<(), SiteFault>
-        ensures { IfErr result (λ e. e ≢ SiteFault.Misfit) }
+        ensures misfit { IfErr result (λ e. e ≢ SiteFault.Misfit) }
+        ensures failed { IsErr replaced → IsErr result }
+        ensures late { IsTrue self.old.is_late → IsErr result }
+        ensures refused { IsErr replaced → IfSome self.old.refusal (λ refusal. IfErr result (λ e. e ≡ refusal_fault refusal)) }
     {
         if replaced.is_ok() {
             if self.is_late {
@@ -289,7 +303,8 @@ impl<'a> Replacement<'a> {
 
 /// The fault that tells a refusal.
 fn fault_of(refusal: Refusal) -> SiteFault
-    ensures { result ≢ SiteFault.Misfit }
+    ensures fault { result ≡ refusal_fault refusal }
+    ensures misfit { result ≢ SiteFault.Misfit }
 {
     match refusal {
         Refusal::OutOfMemory => SiteFault::OutOfMemory,

@@ -1,6 +1,10 @@
 //! A site on a disk.
-ghost use Rattle.std.specs.Prelude.{◌≡◌, ◌≢◌, IfErr, IfOk};
+ghost use Rattle.std.specs.Fmt.{decimal};
+ghost use Rattle.std.specs.Prelude.{◌≡◌, ◌≢◌, ◌++◌, IfErr, IfOk, IfSome, IsTrue, codes};
 ghost use Rattle.std.specs.String.{string_bytes};
+ghost use Rattle.ts_model.specs.Swap.{IsThere};
+ghost use Rattle.ts_swap.specs.Leavings.{spot_of};
+ghost use Rattle.ts_name.specs.Paths.{place_text};
 
 use crate::fault::DiskFault;
 use crate::places::DiskPlaces;
@@ -83,7 +87,10 @@ impl DiskSite<HostRuntime> {
     }
 
     fn places(&self, alloc: Global) -> Result<DiskPlaces<HostRuntime>, SiteFault>
-        ensures { IfErr result (λ e. e ≢ SiteFault.Misfit) }
+        ensures target { IfOk result (λ places. string_bytes places.at_target ≡ string_bytes self.now.root ++ place_text self.now.path) }
+        ensures new { IfOk result (λ places. string_bytes places.at_new ≡ string_bytes self.now.root ++ codes "/.twosync/new-" ++ decimal self.now.entry) }
+        ensures old { IfOk result (λ places. string_bytes places.at_old ≡ string_bytes self.now.root ++ codes "/.twosync/old-" ++ decimal self.now.entry) }
+        ensures misfit { IfErr result (λ e. e ≢ SiteFault.Misfit) }
     {
         let Ok(files) = self.files.clone() else {
             return Err(SiteFault::OutOfMemory);
@@ -108,7 +115,9 @@ impl DiskSite<HostRuntime> {
 }
 
 /// Whether something may lie at a spot.
-fn is_taken<P: Places>(places: &P, spot: Spot) -> bool {
+fn is_taken<P: Places>(places: &P, spot: Spot) -> bool
+    ensures { IfSome (P.spots places.now) (λ spots. IsThere spots (spot_of spot) → IsTrue result) }
+{
     places.present(spot).unwrap_or(true)
 }
 

@@ -1,5 +1,8 @@
 //! New trees, written beside a replica until they are put in place.
-ghost use Rattle.std.specs.Prelude.{◌≡◌, None};
+ghost use Rattle.std.specs.Prelude.{◌≡◌, ◌<◌, ◌++◌, [], IfOk, IfSome, IsNone, None};
+ghost use Rattle.std.specs.String.{string_bytes};
+ghost use Rattle.ts_disk.specs.Modes.{private_bits};
+ghost use Rattle.ts_name.specs.Paths.{place_text};
 
 use crate::modes::{PRIVATE_DIR, PRIVATE_FILE, permissions_at};
 use crate::place::{Standing, make_private_dir};
@@ -41,7 +44,11 @@ impl Bits<'_> {
         files: &R,
         row: &Row<T>,
         kind: Standing,
-    ) -> io::Result<u32> {
+    ) -> io::Result<u32>
+        ensures kept { kind ≡ Standing.File → row.now.path ≡ [] → IfSome self.now.kept (λ kept. IfOk result (λ mode. mode ≡ kept)) }
+        ensures plain { IfSome self.now.kept (λ kept. kept < 512) → IfOk result (λ mode. mode < 512) }
+        ensures private { IsNone self.now.kept → IsNone self.now.source → IfOk result (λ mode. mode ≡ private_bits kind) }
+    {
         let private = if kind == Standing::Dir {
             PRIVATE_DIR
         } else {
@@ -130,7 +137,9 @@ pub(crate) fn close_top<R: Files + AllocGlobal>(
 }
 
 /// The place of a row below a top.
-fn below<R: AllocGlobal, T>(files: &R, row: &Row<T>, top: &str) -> io::Result<String> {
+fn below<R: AllocGlobal, T>(files: &R, row: &Row<T>, top: &str) -> io::Result<String>
+    ensures { IfOk result (λ place. string_bytes place ≡ top.now ++ place_text row.now.path) }
+{
     match row.path.place_below(files.alloc(), top) {
         Ok(place) => Ok(place),
         Err(_) => Err(io::Error::from(ErrorKind::OutOfMemory)),
