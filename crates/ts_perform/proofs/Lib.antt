@@ -1,4 +1,5 @@
 mod Standing
+mod Digits
 mod FaultLines
 mod Trials
 mod Failures

@@ -1,7 +1,9 @@
 -- Paths that are too long for the system.
 --     path_bytes path         how many bytes a path has below a root: those of its names, each with a slash before it
+--     spot_bytes number       how many bytes the place has below a root at which the entry of this number is staged or moved aside
+--     is_past root spot entry path   the system doesn't take this path of an entry below a root of so many bytes, or not while the entry is at its spot
 --     fault_below root fault  a scan's fault below this root; where the system doesn't take the path at all, that is what it is
-use Rattle.std.specs.Prelude.{ℕ, ◌+◌, List, length, sum_by, nat_lt, if◌then◌else◌}
+use Rattle.std.specs.Prelude.{ℕ, ◌+◌, ◌-◌, ◌++◌, ◌||◌, Bool, List, codes, decimal, length, sum_by, nat_lt, if◌then◌else◌}
 use Rattle.ts_name.specs.Paths.{Path}
 use Rattle.ts_scan.specs.declared.fault.Refusal.TheVariants.{TooLong}
 use Rattle.ts_scan.specs.declared.fault.ScanFault.{ScanFault}
@@ -15,6 +17,14 @@ path_bytes path = sum_by length path + length path
 -- the most that the system takes
 abbrev pub most_bytes : ℕ
 most_bytes = 4095
+
+abbrev pub spot_bytes : ℕ → ℕ
+spot_bytes number = length (codes "/.twosync/new-" ++ decimal number)
+
+-- at its own place, or below the spot of its entry
+abbrev pub is_past : ℕ → ℕ → Path → Path → Bool
+is_past root spot entry path =
+    nat_lt most_bytes (root + path_bytes path) || nat_lt most_bytes (root + spot + (path_bytes path - path_bytes entry))
 
 abbrev pub fault_below : List ℕ → ScanFault → PerformFault
 fault_below root scan.OutOfMemory = fault.OutOfMemory

@@ -1,6 +1,8 @@
 //! Paths that are too long for the system. It takes none of more bytes than a limit of its own, with the root before it.
-ghost use Rattle.std.specs.Prelude.{◌≡◌, ◌↔◌, ◌+◌, ◌-◌, ◌<◌, ◌^◌, IsTrue, length, min};
-ghost use Rattle.ts_perform.specs.Lengths.{most_bytes, path_bytes};
+ghost use Rattle.std.specs.List.{find};
+ghost use Rattle.std.specs.Option.{option_copied};
+ghost use Rattle.std.specs.Prelude.{◌≡◌, ◌↔◌, ◌+◌, ◌-◌, ◌<◌, ◌^◌, ◌∷◌, IsTrue, decimal, length, map, min};
+ghost use Rattle.ts_perform.specs.Lengths.{is_past, most_bytes, path_bytes, spot_bytes};
 ghost use Rattle.ts_perform.specs.Trials.{IsQuiet};
 
 use crate::fault::PerformFault;
@@ -15,22 +17,17 @@ const MOST_BYTES: usize = 4095;
 /// `/.twosync/new-` or `/.twosync/old-`.
 const SPOT_BYTES: usize = 14;
 
-/// The numbers from which on there is one more decimal digit.
-const DIGITS: [usize; 9] = [
-    10,
-    100,
-    1_000,
-    10_000,
-    100_000,
-    1_000_000,
-    10_000_000,
-    100_000_000,
-    1_000_000_000,
-];
-
 /// How many decimal digits a number has.
-fn digits_of(number: usize) -> usize {
-    DIGITS.iter().filter(|bound| **bound <= number).count() + 1
+fn digits_of(number: usize) -> usize
+    ensures { result ≡ length (decimal number) }
+{
+    let mut digits = 1;
+    let mut rest = number / 10;
+    'next: while rest > 0 {
+        digits += 1;
+        rest /= 10;
+    }
+    digits
 }
 
 /// How many bytes a path has below a root.
@@ -47,25 +44,37 @@ pub(crate) fn is_too_long(root: &str, path: &Path) -> bool
     root.len().saturating_add(bytes_of(path)) > MOST_BYTES
 }
 
-/// The first path of the entry of this number that the system doesn't take below this root, or not while the entry is staged
-/// or moved aside.
+/// The first path of the entry of this number, of its own and of those in its rows, that the system doesn't take below this
+/// root, or not while the entry is staged or moved aside.
 pub(crate) fn first_too_long<'a>(
     root: &str,
     number: usize,
     entry: &'a Path,
     rows: &'a [Row<Stamp>],
-) -> Option<&'a Path> {
+) -> Option<&'a Path>
+    ensures { option_copied result ≡ find (is_past (length root.now) (spot_bytes number) entry.entry.now)
+        (entry.entry.now ∷ map (λ row. row.path) rows.entry.now) }
+{
     let spot = SPOT_BYTES.saturating_add(digits_of(number));
-    let is_past = |path: &Path| {
-        let below = bytes_of(path).saturating_sub(bytes_of(entry));
-        let staged = root.len().saturating_add(spot).saturating_add(below);
-        is_too_long(root, path) || staged > MOST_BYTES
-    };
-    if is_past(entry) {
+    if is_past(root, spot, entry, entry) {
         return Some(entry);
     }
-    let row = rows.iter().find(|row| is_past(&row.path))?;
-    Some(&row.path)
+    for row in rows {
+        if is_past(root, spot, entry, &row.path) {
+            return Some(&row.path);
+        }
+    }
+    None
+}
+
+/// Whether the system doesn't take a path of an entry below this root, or not while the entry is at its spot, which has so many
+/// bytes below the root.
+fn is_past(root: &str, spot: usize, entry: &Path, path: &Path) -> bool
+    ensures { result ≡ is_past (length root.now) spot entry.now path.now }
+{
+    let below = bytes_of(path).saturating_sub(bytes_of(entry));
+    let staged = root.len().saturating_add(spot).saturating_add(below);
+    is_too_long(root, path) || staged > MOST_BYTES
 }
 
 /// That a path is too long for the system.
