@@ -1,6 +1,9 @@
 pub mod Faults
+pub mod Inputs
 pub mod Jobs
 pub mod Lengths
+pub mod Pasts
+pub mod Printouts
 pub mod Puts
 pub mod Runs
 pub mod Snapshots

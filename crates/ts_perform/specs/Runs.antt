@@ -2,17 +2,19 @@
 --     failure_lines entries actions results     the fault of each failed action, with its entry's path, in the order of the actions
 --     notice_line notice                        a fault where what a swap left can't be removed, its place where it was kept, a mount as such
 --     notice_lines notices                      a line for each
+--     run_report, run_faults, run_status        what is reported of a run on standard output, and on standard error but for notices, and its exit status
 --     Came                                      what came of a plan: the plan and what it was checked against, how its actions ended, why the new archive wasn't written, if it wasn't, and what else is to be said
 --     report_of, faults_of, status_after        what is then reported, on standard output and standard error, and the exit status
 --     HasReported came                          both were written; or one of them could be written in part, and the status is 2
 --     IsCarriedOut .. pair came                 the plan is valid for the scans of the pair's replicas, and the results are those of a run of it there, whose archive was written
---     IsSynced .. pair came                     the same of a plan that `resume` made
+--     IsRun .. pair name came                   the same of a plan that was read from a file
+--     IsSynced .. pair came                     the same of a plan that `resume` made, and not where just one replica took part before
 --     RanQuietly Is                             a plan was run, `Is` is said of what came of it, and all was reported; or nothing was written
 --     Ran Is                                    the same, but what recovery has to say of an earlier run's swaps may be reported where nothing was run
 --     Refuses fault                             a broken plan is told on standard output, every other fault on standard error
 --     AnswersRun Is                             the same as `Ran` of a command: where nothing was run, it is refused
 --     AnswersOne Says                           what `plan` and `check` answer
-use Rattle.std.specs.Prelude.{◌≡◌, ◌⊎◌, ⊤, ℕ, List, [], ◌∷◌, ◌++◌, Option, Some, None, IfNone, Result, Ok, Err, slice_get}
+use Rattle.std.specs.Prelude.{◌≡◌, ◌⊎◌, ⊤, ℕ, Bool, List, [], ◌∷◌, ◌++◌, Option, Some, None, IfNone, Result, Ok, Err, slice_get}
 use Rattle.std.specs.Io.KnownBytes.{Appends}
 use Rattle.std.specs.String.{string_bytes}
 use Rattle.ts_name.specs.Paths.{Path}
@@ -31,11 +33,12 @@ use Rattle.ts_exec.specs.declared.outcome.ActionResult.TheVariants as ended
 use Rattle.ts_folder.specs.declared.fault.Trouble.{Trouble}
 use Rattle.ts_folder.specs.declared.folder.Call.{Call}
 use Rattle.ts_model.specs.Plans.{Broken, Valid}
-use Rattle.ts_model.specs.Texts.{Line, text}
+use Rattle.ts_model.specs.Texts.{IsPlanText, Line, text}
 use Rattle.ts_model.specs.Trees.{Listing}
 use Rattle.ts_model.specs.declared.plan.Action.{Action}
 use Rattle.ts_model.specs.declared.plan.Entry.{Entry}
 use Rattle.ts_model.specs.declared.plan.Kind.{Kind}
+use Rattle.ts_model.specs.declared.plan.Plan.{Plan}
 use Rattle.ts_model.specs.declared.plan.PlanRule.{PlanRule}
 use Rattle.ts_model.specs.declared.row.Stamp.{Stamp}
 use Rattle.ts_report.specs.Reports.{entry_of, fates, report_text, status_of, totals_of}
@@ -43,6 +46,8 @@ use Rattle.ts_text.specs.Sources.{AppendsFront}
 use Rattle.ts_trial.specs.Answers.{refusal}
 use Rattle.ts_exec.specs.Ends.{ending_at}
 use Rattle.ts_perform.specs.Faults.{fault_line, fault_number, kept_line, mount_line, own_path, place_of}
+use Rattle.ts_perform.specs.Inputs.{Finds, IsReadAt, IsReadFor}
+use Rattle.ts_perform.specs.Pasts.{IsOfBoth}
 use Rattle.ts_perform.specs.Snapshots.{IsBegun, IsPlanned}
 use Rattle.ts_perform.specs.Stands.{AreScans, IsRunOf, Stand}
 use Rattle.ts_perform.specs.Trials.{IsQuiet}
@@ -80,12 +85,7 @@ notice_lines (notice ∷ notices) = notice_line notice ∷ notice_lines notices
 abbrev pub BeginsNotices : (old new : Option (List ℕ)) → Type 0
 BeginsNotices old new = (notices : List Notice) × AppendsFront old new (text (notice_lines notices))
 
-pub record Came : Type 0 where
-  pub checkup : Checkup
-  pub results : List ActionResult
-  pub lost : Option PerformFault
-  pub notices : List Notice
-
+-- why something is lost, and what is said of that
 abbrev pub lost_by : {A : Type 0} → Result A PerformFault → Option PerformFault
 lost_by (Ok kept) = None
 lost_by (Err fault) = Some fault
@@ -94,18 +94,36 @@ abbrev pub lost_lines : Option PerformFault → List Line
 lost_lines None = []
 lost_lines (Some fault) = fault_line (fault_number fault) None ∷ []
 
-abbrev pub report_of : Came → List ℕ
-report_of came = report_text (ending_at came.results) came.checkup.plan
-
-abbrev pub faults_of : Came → List ℕ
-faults_of came = text ((failure_lines came.checkup.plan.entries came.checkup.plan.actions came.results ++ lost_lines came.lost) ++ notice_lines came.notices)
-
 abbrev pub status_with : Option PerformFault → ℕ → ℕ
 status_with None status = status
 status_with (Some fault) status = 2
 
+-- the report of a plan whose actions ended with these results
+abbrev pub run_report : Plan → List ActionResult → List ℕ
+run_report plan results = report_text (ending_at results) plan
+
+-- the fault of each failed action, and why the archive is lost, if it is
+abbrev pub run_faults : Plan → List ActionResult → Option PerformFault → List Line
+run_faults plan results lost = failure_lines plan.entries plan.actions results ++ lost_lines lost
+
+-- the status of the report's totals, or 2 where the archive is lost
+abbrev pub run_status : Plan → List ActionResult → Option PerformFault → ℕ
+run_status plan results lost = status_with lost (status_of (totals_of (fates (ending_at results) plan)))
+
+pub record Came : Type 0 where
+  pub checkup : Checkup
+  pub results : List ActionResult
+  pub lost : Option PerformFault
+  pub notices : List Notice
+
+abbrev pub report_of : Came → List ℕ
+report_of came = run_report came.checkup.plan came.results
+
+abbrev pub faults_of : Came → List ℕ
+faults_of came = text (run_faults came.checkup.plan came.results came.lost ++ notice_lines came.notices)
+
 abbrev pub status_after : Came → ℕ
-status_after came = status_with came.lost (status_of (totals_of (fates (ending_at came.results) came.checkup.plan)))
+status_after came = run_status came.checkup.plan came.results came.lost
 
 abbrev pub HasReported : Came → (old new old_faults new_faults : Option (List ℕ)) → ℕ → Type 0
 HasReported came old new old_faults new_faults status =
@@ -118,12 +136,14 @@ HasReported came old new old_faults new_faults status =
 abbrev pub HasKept : {A : Type 0} → (A → Listing Stamp → Type 0) → Checkup → List ℕ → A → Type 0
 HasKept has k words place = (rows : Listing Stamp) × LeftArchive k words rows × has place rows
 
--- the plan is valid for the archive, the rules and the scans of the pair's replicas; the results are those of one run of it, whose commits
--- were made where they stand; and the archive that this run left was written in the place that has its name, unless it is lost
+-- the plan is valid for the archive and the rules that were read for the pair, and the scans of its replicas; the results are those of
+-- one run of it, whose commits were made where they stand; and the archive that this run left was written in the place that has its name,
+-- unless it is lost
 pub record IsCarriedOut {S F A : Type 0} (stand : S → Stand) (content : S → Option (Listing (List ℕ))) (failures : S → ℕ)
     (is_at : F → List ℕ → Type 0) (tells : F → Option (Listing (List ℕ))) (lets : F → Call → Path → Trouble → Type 0)
-    (is_named : A → List ℕ → Type 0) (has : A → Listing Stamp → Type 0) (pair : Pair) (came : Came) : Type 0 where
+    (is_named : A → List ℕ → Type 0) (has : A → Listing Stamp → Type 0) (finds : Finds) (pair : Pair) (came : Came) : Type 0 where
   pub scans : AreScans is_at tells pair.first.now pair.second.now came.checkup.first came.checkup.second
+  pub read : IsReadFor finds pair came.checkup.archive came.checkup.rules
   pub valid : Valid (snapshot_of came.checkup) came.checkup.plan
   pub safe : IsSafe (snapshot_of came.checkup) came.checkup.plan
   pub words : List ℕ
@@ -134,16 +154,27 @@ pub record IsCarriedOut {S F A : Type 0} (stand : S → Stand) (content : S → 
 -- the same of this plan, with what it was checked against
 pub record IsCarriedOutFor {S F A : Type 0} (k : Checkup) (stand : S → Stand) (content : S → Option (Listing (List ℕ))) (failures : S → ℕ)
     (is_at : F → List ℕ → Type 0) (tells : F → Option (Listing (List ℕ))) (lets : F → Call → Path → Trouble → Type 0)
-    (is_named : A → List ℕ → Type 0) (has : A → Listing Stamp → Type 0) (pair : Pair) (came : Came) : Type 0 where
+    (is_named : A → List ℕ → Type 0) (has : A → Listing Stamp → Type 0) (finds : Finds) (pair : Pair) (came : Came) : Type 0 where
   pub checkup : came.checkup ≡ k
-  pub carried_out : IsCarriedOut stand content failures is_at tells lets is_named has pair came
+  pub carried_out : IsCarriedOut stand content failures is_at tells lets is_named has finds pair came
 
--- the same of a plan that `resume` made for the archive, the rules and the scans
-pub record IsSynced {S F A : Type 0} (stand : S → Stand) (content : S → Option (Listing (List ℕ))) (failures : S → ℕ)
+-- the same of the plan that was read from the file of this name
+pub record IsRun {S F A : Type 0} (stand : S → Stand) (content : S → Option (Listing (List ℕ))) (failures : S → ℕ)
     (is_at : F → List ℕ → Type 0) (tells : F → Option (Listing (List ℕ))) (lets : F → Call → Path → Trouble → Type 0)
-    (is_named : A → List ℕ → Type 0) (has : A → Listing Stamp → Type 0) (pair : Pair) (came : Came) : Type 0 where
+    (is_named : A → List ℕ → Type 0) (has : A → Listing Stamp → Type 0) (finds : Finds) (pair : Pair) (name : List ℕ)
+    (came : Came) : Type 0 where
+  pub plan : IsReadAt finds IsPlanText name came.checkup.plan
+  pub carried_out : IsCarriedOut stand content failures is_at tells lets is_named has finds pair came
+
+-- the same of a plan that `resume` made for the archive, the rules and the scans; and where just one replica took part before, the archive
+-- names no path
+pub record IsSynced {S F A L : Type 0} (stand : S → Stand) (content : S → Option (Listing (List ℕ))) (failures : S → ℕ)
+    (is_at : F → List ℕ → Type 0) (tells : F → Option (Listing (List ℕ))) (lets : F → Call → Path → Trouble → Type 0)
+    (is_named : A → List ℕ → Type 0) (has : A → Listing Stamp → Type 0) (finds : Finds)
+    (is_locked : Option L → List ℕ → Type 0) (took stopped : L → Bool → Type 0) (pair : Pair) (came : Came) : Type 0 where
   pub planned : IsPlanned came.checkup
-  pub carried_out : IsCarriedOut stand content failures is_at tells lets is_named has pair came
+  pub both : IsOfBoth is_locked took stopped pair came.checkup.archive
+  pub carried_out : IsCarriedOut stand content failures is_at tells lets is_named has finds pair came
 
 -- ---- what is answered
 

@@ -7,11 +7,12 @@
 --     IsPrintoutOf s written status  the same of some plan for this snapshot
 --     IsVerdict k written status     `valid` with status 0 of a valid plan; of another the line that refuses it, with status 3
 --     Prints Says old new result     a text with this said of it and of the status was written; or there was a fault, and nothing or a beginning of one was
+--     PrintsAlone Says ..            the same, and nothing was written to standard error
 use Rattle.std.specs.Prelude.{◌≡◌, ◌⊎◌, ℕ, List, [], ◌∷◌, Option, Result, Ok, Err, codes}
 use Rattle.std.specs.Io.KnownBytes.{Appends}
 use Rattle.ts_text.specs.Sources.{AppendsFront}
 use Rattle.ts_model.specs.Plans.{Broken, Valid}
-use Rattle.ts_model.specs.Texts.{IsPlan, plan_lines, text}
+use Rattle.ts_model.specs.Texts.{IsPlan, IsPlanText, plan_lines, text}
 use Rattle.ts_model.specs.declared.plan.Plan.{Plan}
 use Rattle.ts_model.specs.declared.plan.PlanRule.{PlanRule}
 use Rattle.ts_check.specs.Checkup.{Checkup, snapshot_of}
@@ -21,6 +22,7 @@ use Rattle.ts_plan_build.specs.Resumed.{EndsAsBegun, IsTooMuch}
 use Rattle.ts_command.specs.declared.job.Pair.{Pair}
 use Rattle.ts_model.specs.Trees.{Listing}
 use Rattle.ts_trial.specs.Answers.{refusal}
+use Rattle.ts_perform.specs.Inputs.{Finds, IsReadAt, IsReadFor}
 use Rattle.ts_perform.specs.Stands.{AreScans}
 use Rattle.ts_perform.specs.Trials.{IsQuiet}
 use Rattle.ts_perform.specs.declared.fault.PerformFault.{PerformFault}
@@ -54,14 +56,17 @@ IsVerdict k written status =
     (Valid (snapshot_of k) k.plan × (written ≡ text (codes "valid" ∷ [])) × (status ≡ 0))
     ⊎ ((rule : PlanRule) × (place : ℕ) × Broken (snapshot_of k) k.plan rule place × (written ≡ text (refusal rule place ∷ [])) × (status ≡ 3))
 
--- the same of scans of a pair's replicas
-abbrev pub IsPrintoutAt : {F : Type 0} → (F → List ℕ → Type 0) → (F → Option (Listing (List ℕ))) → Pair → List ℕ → ℕ → Type 0
-IsPrintoutAt is_at tells pair written status =
-    (k : Checkup) × AreScans is_at tells pair.first.now pair.second.now k.first k.second × IsPrintout k written status
+-- the same of scans of a pair's replicas, and of the archive and the rules that were read for it
+abbrev pub IsPrintoutAt : {F : Type 0} → (F → List ℕ → Type 0) → (F → Option (Listing (List ℕ))) → Finds → Pair → List ℕ → ℕ → Type 0
+IsPrintoutAt is_at tells finds pair written status =
+    (k : Checkup) × AreScans is_at tells pair.first.now pair.second.now k.first k.second × IsReadFor finds pair k.archive k.rules
+    × IsPrintout k written status
 
-abbrev pub IsVerdictAt : {F : Type 0} → (F → List ℕ → Type 0) → (F → Option (Listing (List ℕ))) → Pair → List ℕ → ℕ → Type 0
-IsVerdictAt is_at tells pair written status =
-    (k : Checkup) × AreScans is_at tells pair.first.now pair.second.now k.first k.second × IsVerdict k written status
+-- and of the plan that was read from the file of this name
+abbrev pub IsVerdictAt : {F : Type 0} → (F → List ℕ → Type 0) → (F → Option (Listing (List ℕ))) → Finds → Pair → (name written : List ℕ) → ℕ → Type 0
+IsVerdictAt is_at tells finds pair name written status =
+    (k : Checkup) × AreScans is_at tells pair.first.now pair.second.now k.first k.second × IsReadFor finds pair k.archive k.rules
+    × IsReadAt finds IsPlanText name k.plan × IsVerdict k written status
 
 -- nothing was written, or a beginning of a text with this said of it and of some status
 abbrev pub IsBegun : (List ℕ → ℕ → Type 0) → Option (List ℕ) → Option (List ℕ) → Type 0
@@ -71,3 +76,7 @@ IsBegun Says old new = (new ≡ old) ⊎ ((written : List ℕ) × (status : ℕ)
 abbrev pub Prints : (List ℕ → ℕ → Type 0) → Option (List ℕ) → Option (List ℕ) → Result ℕ PerformFault → Type 0
 Prints Says old new (Ok status) = (written : List ℕ) × Says written status × Appends old new written
 Prints Says old new (Err e) = IsQuiet e × IsBegun Says old new
+
+-- and nothing was written to standard error
+abbrev pub PrintsAlone : (List ℕ → ℕ → Type 0) → (old new old_faults new_faults : Option (List ℕ)) → Result ℕ PerformFault → Type 0
+PrintsAlone Says old new old_faults new_faults result = Prints Says old new result × (new_faults ≡ old_faults)

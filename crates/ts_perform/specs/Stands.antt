@@ -2,6 +2,7 @@
 --     Stand                       below which replica's root, from which replica, and at which path
 --     stand_of first second e     where the commit of an entry is made: in the replica that it is copied to. An entry that isn't copied has no commit
 --     stands_of first second      where the commits of a plan are made, in the order of its actions
+--     AreAtStands stand first second plan sites   the sites' commits are made where those of the plan are, one after another
 --     IsScanOf is_at tells root print   the print was made of a folder that was asked for by this root
 --     AreScans is_at tells first second .. ..   the two prints were, each of its own root
 --     IsRunOf                     results, words and slots are those of one run, whose commits were made where they stand
@@ -20,6 +21,7 @@ use Rattle.ts_model.specs.Trees.{Listing, at, print_of}
 use Rattle.ts_model.specs.declared.plan.Action.{Action}
 use Rattle.ts_model.specs.declared.plan.Entry.{Entry}
 use Rattle.ts_model.specs.declared.plan.Kind.TheVariants.{Piece, Commit, Mark}
+use Rattle.ts_model.specs.declared.plan.Plan.{Plan}
 use Rattle.ts_model.specs.declared.plan.Reason.{Reason}
 use Rattle.ts_model.specs.declared.row.Stamp.{Stamp}
 
@@ -60,6 +62,10 @@ stands_of first second entries (action ∷ actions) = elim action.kind [
   | Mark e ↦ stands_of first second entries actions
 ]
 
+-- each site stands where the commit is made that it is for
+abbrev pub AreAtStands : {S : Type 0} → (S → Stand) → (first second : List ℕ) → Plan → List S → Type 0
+AreAtStands stand first second plan sites = map (λ s. Some (stand s)) sites ≡ stands_of first second plan.entries plan.actions
+
 -- it is the print of the tree which that folder tells, if it tells one
 abbrev pub IsScanOf : {F : Type 0} → (F → List ℕ → Type 0) → (F → Option (Listing (List ℕ))) → List ℕ → Listing Stamp → Type 0
 IsScanOf {F} is_at tells root print = (folder : F) × is_at folder root × IfSome (tells folder) (λ tree. at print ≡ print_of (at tree))
@@ -74,7 +80,7 @@ pub record IsRunOf {S F : Type 0} (stand : S → Stand) (content : S → Option 
     (tells : F → Option (Listing (List ℕ))) (lets : F → Call → Path → Trouble → Type 0) (first second : List ℕ) (checkup : Checkup)
     (results : List ActionResult) (words : List ℕ) (slots : List (Slot S)) : Type 0 where
   pub sites : List S
-  pub stands : map (λ s. Some (stand s)) sites ≡ stands_of first second checkup.plan.entries checkup.plan.actions
+  pub stands : AreAtStands stand first second checkup.plan sites
   pub from_first : F
   pub from_second : F
   pub at_first : is_at from_first first

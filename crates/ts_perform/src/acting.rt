@@ -1,5 +1,5 @@
 //! What a checked plan comes to on two folders.
-ghost use Rattle.std.specs.Prelude.{◌≡◌, ◌≤◌, ℕ, List, length, map, Some, IfErr, IfOk, OnOk};
+ghost use Rattle.std.specs.Prelude.{◌≡◌, ◌≤◌, ℕ, List, length, map, IfErr, IfOk, OnOk};
 ghost use Rattle.std.specs.Option.{option_copied};
 ghost use Rattle.std.specs.Mem.Slots.{slots_items, slots_len};
 ghost use Rattle.ts_board.specs.Archives.{HasEnded};
@@ -8,7 +8,7 @@ ghost use Rattle.ts_board.specs.Terms.{commit_count};
 ghost use Rattle.ts_exec.specs.Failures.{of_side};
 ghost use Rattle.ts_perform.specs.Puts.{put_path, put_paths};
 ghost use Rattle.ts_perform.specs.Runs.{HasKept};
-ghost use Rattle.ts_perform.specs.Stands.{IsRunOf, source_root, stands_of, target_root};
+ghost use Rattle.ts_perform.specs.Stands.{AreAtStands, IsRunOf, source_root, target_root};
 ghost use Rattle.ts_perform.specs.Trials.{IsQuiet};
 
 use crate::disk::{Disk, Machine};
@@ -55,7 +55,7 @@ fn sites<R>(rt: &R, pair: &Pair<'_>, checked: &Checked<'_>) -> Result<Vec<R::Sit
 where
     R: Disk + AllocGlobal,
     ensures count { IfOk result (λ sites. length sites.items ≡ commit_count checked.now.plan.actions) }
-    ensures stands { IfOk result (λ sites. map (λ site. Some (R.stand site)) sites.items ≡ stands_of pair.now.first.now pair.now.second.now checked.now.plan.entries checked.now.plan.actions) }
+    ensures stands { IfOk result (λ sites. AreAtStands R.stand pair.now.first.now pair.now.second.now checked.now.plan sites.items) }
     ensures quiet { IfErr result IsQuiet }
 {
     let plan = checked.plan();

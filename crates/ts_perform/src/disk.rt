@@ -1,5 +1,5 @@
 //! The file system as commands see it.
-ghost use Rattle.std.specs.Prelude.{◌≡◌, ℕ, List, IfErr, IfOk, OnOk};
+ghost use Rattle.std.specs.Prelude.{◌≡◌, ℕ, Bool, List, Option, IfErr, IfOk, OnOk, option_map};
 ghost use Rattle.ts_model.specs.declared.row.Row.{Row};
 ghost use Rattle.ts_model.specs.declared.row.Stamp.{Stamp};
 ghost use Rattle.ts_perform.specs.Stands.{Stand};
@@ -8,7 +8,9 @@ ghost use denote.Param.Send.{IsSync};
 
 use crate::fault::PerformFault;
 use std::alloc::Global;
+use std::fs;
 use std::fs::{File, Files};
+use std::io::{ErrorKind, Read};
 use std::thread::Threads;
 use ts_disk::{ArchivePlace, DiskSite, Lock, claim_archive, flush_above, take_lock};
 use ts_folder::{DiskFolder, Folder};
@@ -28,6 +30,8 @@ pub trait Disk {
 
     type Archive: Drop;
 
+    type Opened: Read + Drop;
+
     // Where a site's commit is made.
     ghost stand: { Self.Site → Stand };
 
@@ -39,6 +43,24 @@ pub trait Disk {
 
     // This archive was written in its place.
     ghost has: { Self.Archive → List (Row Stamp) → Type 0 };
+
+    // The replica with this root was locked so, or there was nothing to lock.
+    ghost is_locked: { Option Self.Lock → List ℕ → Type 0 };
+
+    // Whether it was said of a locked replica that it took part in a run before.
+    ghost took: { Self.Lock → Bool → Type 0 };
+
+    // Whether it was said that a run into it was stopped.
+    ghost stopped: { Self.Lock → Bool → Type 0 };
+
+    // What was found by this name: nothing, or a file, with its bytes where it tells them.
+    ghost finds: { List ℕ → Option (Option (List ℕ)) → Type 0 };
+
+    /// Opens a file to be read. None where nothing is there. A directory, a device or a pipe is never opened: it might be waited
+    /// for.
+    fn open(&self, name: &str) -> Result<Option<Self::Opened>, PerformFault>
+        ensures found { IfOk result (λ found. finds name.now (option_map Self.Opened.remaining found)) }
+        ensures quiet { IfErr result IsQuiet };
 
     /// The folder at a directory. Nothing is looked at yet.
     fn folder(&self, alloc: Global, root: &str) -> Result<Self::Folder, PerformFault>
@@ -60,13 +82,16 @@ pub trait Disk {
 
     /// Locks a replica until what is answered is dropped. There is no lock where no directory is.
     fn lock(&self, alloc: Global, root: &str) -> Result<Option<Self::Lock>, PerformFault>
-        ensures { IfErr result IsQuiet };
+        ensures locked { IfOk result (λ lock. is_locked lock root.now) }
+        ensures quiet { IfErr result IsQuiet };
 
     /// Whether the replica took part in a run before it was locked.
-    fn took_part(&self, lock: &Self::Lock) -> bool;
+    fn took_part(&self, lock: &Self::Lock) -> bool
+        ensures { took lock.now result };
 
     /// Whether a run into the replica was stopped before it was locked.
-    fn was_stopped(&self, lock: &Self::Lock) -> bool;
+    fn was_stopped(&self, lock: &Self::Lock) -> bool
+        ensures { stopped lock.now result };
 
     /// Whether a locked replica is still there. It isn't where its disk was unmounted since.
     fn is_in_place(&self, lock: &Self::Lock) -> bool;
@@ -128,6 +153,14 @@ impl Disk for HostRuntime {
 
     ghost has = { λ _ _. ⊤ };
 
+    ghost is_locked = { λ _ _. ⊤ };
+
+    ghost took = { λ _ _. ⊤ };
+
+    ghost stopped = { λ _ _. ⊤ };
+
+    ghost finds = { λ _ _. ⊤ };
+
     type File = File;
 
     type Folder = DiskFolder<HostRuntime>;
@@ -137,6 +170,12 @@ impl Disk for HostRuntime {
     type Lock = Lock;
 
     type Archive = ArchivePlace;
+
+    type Opened = File;
+
+    fn open(&self, name: &str) -> Result<Option<File>, PerformFault> {
+        open_to_read(self, name)
+    }
 
     fn folder(&self, alloc: Global, root: &str) -> Result<DiskFolder<HostRuntime>, PerformFault> {
         match DiskFolder::new(alloc, self.clone()?, root) {
@@ -210,5 +249,24 @@ impl Disk for HostRuntime {
         workers: u32,
     ) -> Result<(), PerformFault> {
         Ok(flush_above(rt, self, alloc, root, paths, workers)?)
+    }
+}
+
+/// Opens a file to be read, as `Disk::open` says.
+fn open_to_read<R: Files>(rt: &R, name: &str) -> Result<Option<R::File>, PerformFault>
+    ensures quiet { IfErr result IsQuiet }
+{
+    if let Ok(metadata) = fs::metadata(rt, name)
+        && !metadata.is_file()
+    {
+        return Err(PerformFault::Failed);
+    }
+    match fs::open(rt, name) {
+        Ok(file) => Ok(Some(file)),
+        Err(e) => match e.kind() {
+            ErrorKind::NotFound => Ok(None),
+            ErrorKind::OutOfMemory => Err(PerformFault::OutOfMemory),
+            _ => Err(PerformFault::Failed),
+        },
     }
 }

@@ -1,53 +1,33 @@
 //! What commands read: archives, hold rules, plans and folders.
-ghost use Rattle.std.specs.Prelude.{◌≡◌, ◌≤◌, IfErr, IfOk};
-ghost use Rattle.ts_model.specs.Texts.{IsPlan};
+ghost use Rattle.std.specs.Prelude.{◌≡◌, ◌≤◌, [], IfErr, IfOk, IfSome, IsTrue};
+ghost use Rattle.ts_model.specs.Texts.{IsPlan, IsPlanText, IsRulesText};
+ghost use Rattle.ts_perform.specs.Inputs.{AreRulesAt, IsArchiveIn, IsReadAt, IsReadFor};
 ghost use Rattle.ts_perform.specs.Lengths.{fault_below};
 ghost use Rattle.ts_perform.specs.Stands.{AreScans, IsScanOf};
 ghost use Rattle.ts_perform.specs.Trials.{IsQuiet};
 
-use crate::disk::Machine;
+use crate::disk::{Disk, Machine};
 use crate::fault::PerformFault;
 use crate::lengths::{is_too_long, too_long};
 use crate::snapshot::Snapshot;
 use crate::task::Task;
-use std::fs;
-use std::fs::Files;
-use std::io::ErrorKind;
+use std::alloc::Global;
 use ts_command::Pair;
 use ts_hold::{Holds, RuleReader};
 use ts_model::plan::Plan;
 use ts_print::Print;
 use ts_scan::{ScanFault, scan, scan_both};
-use ts_text::{Counted, Lines, TextFault};
-
-/// Opens a file to be read. None where nothing is there. A directory, a device or a pipe is never opened:
-/// it might be waited for.
-fn open<R: Files>(rt: &R, name: &str) -> Result<Option<R::File>, PerformFault>
-    ensures quiet { IfErr result IsQuiet }
-{
-    if let Ok(metadata) = fs::metadata(rt, name)
-        && !metadata.is_file()
-    {
-        return Err(PerformFault::Failed);
-    }
-    match fs::open(rt, name) {
-        Ok(file) => Ok(Some(file)),
-        Err(e) => match e.kind() {
-            ErrorKind::NotFound => Ok(None),
-            ErrorKind::OutOfMemory => Err(PerformFault::OutOfMemory),
-            _ => Err(PerformFault::Failed),
-        },
-    }
-}
+use ts_text::{Counted, Lines, Source, TextFault};
 
 /// The archive in a file. None where nothing is there.
-pub(crate) fn read_archive<R: Files + AllocGlobal>(
+pub(crate) fn read_archive<R: Disk + AllocGlobal>(
     rt: &R,
     name: &str,
 ) -> Result<Option<Print>, PerformFault>
+    ensures read { IfOk result (IsArchiveIn R.finds name.now) }
     ensures quiet { IfErr result IsQuiet }
 {
-    let Some(file) = open(rt, name)? else {
+    let Some(file) = rt.open(name)? else {
         return Ok(None);
     };
     let mut lines = Lines::new(rt.alloc(), Counted::new(file))?;
@@ -55,35 +35,45 @@ pub(crate) fn read_archive<R: Files + AllocGlobal>(
 }
 
 /// The rules in a file, or none where no file is named. They are read line by line: the first bad line ends it.
-fn read_holds<R: Files + AllocGlobal>(rt: &R, name: Option<&str>) -> Result<Holds, PerformFault>
+fn read_holds<R: Disk + AllocGlobal>(rt: &R, name: Option<&str>) -> Result<Holds, PerformFault>
+    ensures read { IfOk result (AreRulesAt R.finds name.entry) }
     ensures quiet { IfErr result IsQuiet }
 {
     let Some(name) = name else {
         return Ok(Holds::none(rt.alloc()));
     };
-    let Some(file) = open(rt, name)? else {
+    let Some(file) = rt.open(name)? else {
         return Err(PerformFault::NotThere);
     };
     let mut lines = Lines::new(rt.alloc(), Counted::new(file))?;
-    let mut reader = RuleReader::new(rt.alloc());
+    rules_in(rt.alloc(), &mut lines)
+}
+
+/// The rules that all lines spell.
+fn rules_in<S: Source>(alloc: Global, lines: &mut Lines<S>) -> Result<Holds, PerformFault>
+    ensures spelled { IfOk result (λ rules. IfSome lines.old.left (λ text. IsRulesText text rules)) }
+    ensures quiet { IfErr result IsQuiet }
+{
+    let mut reader = RuleReader::new(alloc);
     // a file without an end has lines past the limit, and is left there
     for line in 1..=u64::MAX {
-        match lines.next() {
-            Ok(Some(rule)) => reader.line(rule)?,
-            Ok(None) => break,
+        match lines.advance() {
+            Ok(true) => reader.line(lines.line())?,
+            Ok(false) => return Ok(reader.finish()),
             Err(TextFault::NotCanonical) => return Err(PerformFault::BadRule { line }),
             Err(fault) => return Err(PerformFault::from(fault)),
         }
     }
-    Ok(reader.finish())
+    unreachable!()
 }
 
 /// The plan in a file.
-fn read_plan<R: Files + AllocGlobal>(rt: &R, name: &str) -> Result<Plan, PerformFault>
+fn read_plan<R: Disk + AllocGlobal>(rt: &R, name: &str) -> Result<Plan, PerformFault>
+    ensures read { IfOk result (IsReadAt R.finds IsPlanText name.now) }
     ensures fits { IfOk result (λ plan. IsPlan plan) }
     ensures quiet { IfErr result IsQuiet }
 {
-    let Some(file) = open(rt, name)? else {
+    let Some(file) = rt.open(name)? else {
         return Err(PerformFault::NotThere);
     };
     let mut lines = Lines::new(rt.alloc(), Counted::new(file))?;
@@ -134,7 +124,8 @@ struct Known {
 
 impl Known {
     /// Reads the archive, and then the rules. An archive that isn't there has no paths.
-    fn read<R: Files + AllocGlobal>(rt: &R, pair: &Pair<'_>) -> Result<Known, PerformFault>
+    fn read<R: Disk + AllocGlobal>(rt: &R, pair: &Pair<'_>) -> Result<Known, PerformFault>
+        ensures read { IfOk result (λ known. IsReadFor R.finds pair.now known.archive known.holds) }
         ensures quiet { IfErr result IsQuiet }
     {
         let archive = match read_archive(rt, pair.archive)? {
@@ -193,6 +184,7 @@ impl Snapshot {
     /// Reads the archive and the rules, and then scans both replicas.
     pub(crate) fn read<R: Machine>(task: &Task<'_, R>) -> Result<Snapshot, PerformFault>
         ensures scans { IfOk result (λ s. AreScans R.is_at R.Folder.tells task.now.pair.now.first.now task.now.pair.now.second.now s.first s.second) }
+        ensures read { IfOk result (λ s. IsReadFor R.finds task.now.pair.now s.archive s.holds) }
         ensures quiet { IfErr result IsQuiet }
     {
         let known = Known::read(task.rt, task.pair)?;
@@ -207,6 +199,8 @@ impl Snapshot {
         is_one_new: bool,
     ) -> Result<Snapshot, PerformFault>
         ensures scans { IfOk result (λ s. AreScans R.is_at R.Folder.tells task.now.pair.now.first.now task.now.pair.now.second.now s.first s.second) }
+        ensures both { IfOk result (λ s. IsTrue is_one_new → s.archive ≡ []) }
+        ensures read { IfOk result (λ s. IsReadFor R.finds task.now.pair.now s.archive s.holds) }
         ensures quiet { IfErr result IsQuiet }
     {
         let known = Known::read(task.rt, task.pair)?;
@@ -223,7 +217,10 @@ impl Snapshot {
         plan: &str,
     ) -> Result<(Snapshot, Plan), PerformFault>
         ensures fits { IfOk result (λ read. IsPlan read.1) }
-        ensures scans { IfOk result (λ read. AreScans R.is_at R.Folder.tells task.now.pair.now.first.now task.now.pair.now.second.now read.0.first read.0.second) }
+        ensures plan { IfOk result (λ read. IsReadAt R.finds IsPlanText plan.now read.1) }
+        ensures scans { IfOk result (λ read. AreScans R.is_at R.Folder.tells task.now.pair.now.first.now task.now.pair.now.second.now
+            read.0.first read.0.second) }
+        ensures read { IfOk result (λ read. IsReadFor R.finds task.now.pair.now read.0.archive read.0.holds) }
         ensures quiet { IfErr result IsQuiet }
     {
         let known = Known::read(task.rt, task.pair)?;

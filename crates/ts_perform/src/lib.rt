@@ -7,6 +7,7 @@ pub mod disk;
 pub mod fault;
 mod inputs;
 mod lengths;
+mod past;
 pub mod performing;
 mod reporting;
 mod room;

@@ -1,23 +1,24 @@
 //! Commands, one by one.
-ghost use Rattle.std.specs.Prelude.{◌≡◌, ◌≤◌, IfErr, IfSome};
-ghost use Rattle.ts_model.specs.Trial.{HasContentsApart, Trial};
-ghost use Rattle.ts_perform.specs.Jobs.{IfCheck, IfPlan, IfRun, IfSync};
-ghost use Rattle.ts_perform.specs.Runs.{AnswersOne, AnswersRun, IsCarriedOut, IsSynced, Ran, Refuses};
-ghost use Rattle.ts_perform.specs.Snapshots.{IsPrintoutAt, IsVerdictAt, Prints};
-ghost use Rattle.ts_perform.specs.Trials.{Answers, IsQuiet};
+ghost use Rattle.std.specs.Prelude.{◌≡◌, ◌≤◌, IfErr, None};
+ghost use Rattle.ts_model.specs.Trial.{Trial};
+ghost use Rattle.ts_perform.specs.Jobs.{IfCheck, IfPlan, IfRun, IfScan, IfShow, IfSync, IfTell};
+ghost use Rattle.ts_perform.specs.Printouts.{IsBodyOf, IsScanText, IsShown, IsTold};
+ghost use Rattle.ts_perform.specs.Runs.{AnswersOne, AnswersRun, IsRun, IsSynced, Ran, Refuses};
+ghost use Rattle.ts_perform.specs.Snapshots.{IsPrintoutAt, IsVerdictAt, Prints, PrintsAlone};
+ghost use Rattle.ts_perform.specs.Trials.{Answers, IfApart, IsQuiet};
 ghost use Rattle.ts_trial.specs.Answers.{WritesOne};
 
 use crate::answers::{write_fault, write_fault_at, write_refusal};
-use crate::disk::Machine;
+use crate::disk::{Disk, Machine};
 use crate::fault::PerformFault;
 use crate::inputs::{read_archive, scan_folder};
 use crate::snapshot::Snapshot;
 use crate::task::Task;
 use std::alloc::Global;
-use std::fs::Files;
+use std::fmt::Display;
 use std::thread::Threads;
 use ts_command::{Command, Job};
-use ts_print::PrintFault;
+use ts_print::{Print, PrintFault};
 use ts_text::{Lines, Sink, Source, write_all};
 use ts_trial::trial;
 
@@ -36,14 +37,24 @@ pub fn perform<R: Machine, I: Source + Drop, O: Sink, E: Sink>(
     out: &mut O,
     err: &mut E,
 ) -> u8
-    ensures trial { command.now.job ≡ Job.Trial → IfSome (I.holds input) (λ bytes. HasContentsApart bytes → Answers (Trial bytes) (O.holds out.old) (O.holds out.new) result) }
-    ensures plan { IfPlan command.now.job (λ pair. AnswersOne (IsPrintoutAt R.is_at R.Folder.tells pair)
+    ensures tell { IfTell command.now.job (AnswersOne (IsTold None)
         (O.holds out.old) (O.holds out.new) (E.holds err.old) (E.holds err.new) result) }
-    ensures check { IfCheck command.now.job (λ pair. AnswersOne (IsVerdictAt R.is_at R.Folder.tells pair)
+    ensures trial { command.now.job ≡ Job.Trial → IfApart (I.holds input) (λ bytes. Answers (Trial bytes)
+        (O.holds out.old) (O.holds out.new) result) }
+    ensures scan { IfScan command.now.job (λ root. AnswersOne (IsScanText R.is_at R.Folder.tells root)
         (O.holds out.old) (O.holds out.new) (E.holds err.old) (E.holds err.new) result) }
-    ensures run { IfRun command.now.job (λ pair. AnswersRun (IsCarriedOut R.stand R.Site.content R.Site.failures R.is_at R.Folder.tells R.Folder.lets R.is_named R.has pair)
+    ensures show { IfShow command.now.job (λ name. AnswersOne (IsShown R.finds name)
         (O.holds out.old) (O.holds out.new) (E.holds err.old) (E.holds err.new) result) }
-    ensures sync { IfSync command.now.job (λ pair. AnswersRun (IsSynced R.stand R.Site.content R.Site.failures R.is_at R.Folder.tells R.Folder.lets R.is_named R.has pair)
+    ensures plan { IfPlan command.now.job (λ pair. AnswersOne (IsPrintoutAt R.is_at R.Folder.tells R.finds pair)
+        (O.holds out.old) (O.holds out.new) (E.holds err.old) (E.holds err.new) result) }
+    ensures check { IfCheck command.now.job (λ pair plan. AnswersOne (IsVerdictAt R.is_at R.Folder.tells R.finds pair plan)
+        (O.holds out.old) (O.holds out.new) (E.holds err.old) (E.holds err.new) result) }
+    ensures run { IfRun command.now.job (λ pair plan. AnswersRun (IsRun
+        R.stand R.Site.content R.Site.failures R.is_at R.Folder.tells R.Folder.lets R.is_named R.has R.finds pair plan)
+        (O.holds out.old) (O.holds out.new) (E.holds err.old) (E.holds err.new) result) }
+    ensures sync { IfSync command.now.job (λ pair. AnswersRun (IsSynced
+        R.stand R.Site.content R.Site.failures R.is_at R.Folder.tells R.Folder.lets R.is_named R.has
+        R.finds R.is_locked R.took R.stopped pair)
         (O.holds out.old) (O.holds out.new) (E.holds err.old) (E.holds err.new) result) }
 {
     match answer(rt, command, input, out, err) {
@@ -77,22 +88,30 @@ fn answer<R: Machine, I: Source + Drop, O: Sink, E: Sink>(
     out: &mut O,
     err: &mut E,
 ) -> Result<u8, PerformFault>
-    ensures trial { command.now.job ≡ Job.Trial → IfSome (I.holds input) (λ bytes. HasContentsApart bytes → WritesOne (Trial bytes) (O.holds out.old) (O.holds out.new) result) }
-    ensures quiet { command.now.job ≡ Job.Trial → IfErr result IsQuiet }
-    ensures plan { IfPlan command.now.job (λ pair. Prints (IsPrintoutAt R.is_at R.Folder.tells pair) (O.holds out.old) (O.holds out.new) result × (E.holds err.new ≡ E.holds err.old)) }
-    ensures check { IfCheck command.now.job (λ pair. Prints (IsVerdictAt R.is_at R.Folder.tells pair) (O.holds out.old) (O.holds out.new) result × (E.holds err.new ≡ E.holds err.old)) }
-    ensures run { IfRun command.now.job (λ pair. Ran (IsCarriedOut R.stand R.Site.content R.Site.failures R.is_at R.Folder.tells R.Folder.lets R.is_named R.has pair)
+    ensures tell { IfTell command.now.job (PrintsAlone (IsTold None)
         (O.holds out.old) (O.holds out.new) (E.holds err.old) (E.holds err.new) result) }
-    ensures sync { IfSync command.now.job (λ pair. Ran (IsSynced R.stand R.Site.content R.Site.failures R.is_at R.Folder.tells R.Folder.lets R.is_named R.has pair)
+    ensures trial { command.now.job ≡ Job.Trial → IfApart (I.holds input) (λ bytes. WritesOne (Trial bytes)
+        (O.holds out.old) (O.holds out.new) result) }
+    ensures quiet { command.now.job ≡ Job.Trial → IfErr result IsQuiet }
+    ensures scan { IfScan command.now.job (λ root. PrintsAlone (IsScanText R.is_at R.Folder.tells root)
+        (O.holds out.old) (O.holds out.new) (E.holds err.old) (E.holds err.new) result) }
+    ensures show { IfShow command.now.job (λ name. PrintsAlone (IsShown R.finds name)
+        (O.holds out.old) (O.holds out.new) (E.holds err.old) (E.holds err.new) result) }
+    ensures plan { IfPlan command.now.job (λ pair. PrintsAlone (IsPrintoutAt R.is_at R.Folder.tells R.finds pair)
+        (O.holds out.old) (O.holds out.new) (E.holds err.old) (E.holds err.new) result) }
+    ensures check { IfCheck command.now.job (λ pair plan. PrintsAlone (IsVerdictAt R.is_at R.Folder.tells R.finds pair plan)
+        (O.holds out.old) (O.holds out.new) (E.holds err.old) (E.holds err.new) result) }
+    ensures run { IfRun command.now.job (λ pair plan. Ran (IsRun
+        R.stand R.Site.content R.Site.failures R.is_at R.Folder.tells R.Folder.lets R.is_named R.has R.finds pair plan)
+        (O.holds out.old) (O.holds out.new) (E.holds err.old) (E.holds err.new) result) }
+    ensures sync { IfSync command.now.job (λ pair. Ran (IsSynced
+        R.stand R.Site.content R.Site.failures R.is_at R.Folder.tells R.Folder.lets R.is_named R.has
+        R.finds R.is_locked R.took R.stopped pair)
         (O.holds out.old) (O.holds out.new) (E.holds err.old) (E.holds err.new) result) }
 {
     let workers = command.workers;
     match &command.job {
-        Job::Tell { text } => {
-            let text = format!(in rt.alloc(); "{text}")?;
-            write_all(out, text.as_bytes())?;
-            Ok(0)
-        }
+        Job::Tell { text } => tell(rt.alloc(), text, out),
         Job::Trial => answer_bundle(rt, input, out, workers),
         Job::Scan { folder } => print_scan(rt, folder, workers, out),
         Job::Show { archive } => show(rt, archive, out),
@@ -101,6 +120,15 @@ fn answer<R: Machine, I: Source + Drop, O: Sink, E: Sink>(
         Job::Run { pair, plan } => Task { rt, pair, workers }.run_plan(plan, out, err),
         Job::Sync { pair } => Task { rt, pair, workers }.sync(out, err),
     }
+}
+
+/// Prints what is to be told, and nothing else.
+fn tell<T: Display, O: Sink>(alloc: Global, told: &T, out: &mut O) -> Result<u8, PerformFault>
+    ensures { Prints (IsTold (T.output told.now)) (O.holds out.old) (O.holds out.new) result }
+{
+    let text = format!(in alloc; "{told}")?;
+    write_all(out, text.as_bytes())?;
+    Ok(0)
 }
 
 /// Answers a bundle.
@@ -112,7 +140,7 @@ fn answer_bundle<R: AllocGlobal + Threads + Sync, I: Source + Drop, O: Sink>(
 ) -> Result<u8, PerformFault>
     requires some { 1 ≤ workers }
     requires few { workers ≤ 64 }
-    ensures answered { IfSome (I.holds input) (λ bytes. HasContentsApart bytes → WritesOne (Trial bytes) (O.holds out.old) (O.holds out.new) result) }
+    ensures answered { IfApart (I.holds input) (λ bytes. WritesOne (Trial bytes) (O.holds out.old) (O.holds out.new) result) }
     ensures quiet { IfErr result IsQuiet }
 {
     let alloc = rt.alloc();
@@ -132,6 +160,7 @@ fn print_scan<R: Machine, O: Sink>(
 ) -> Result<u8, PerformFault>
     requires some { 1 ≤ workers }
     requires few { workers ≤ 64 }
+    ensures { Prints (IsScanText R.is_at R.Folder.tells folder.now) (O.holds out.old) (O.holds out.new) result }
 {
     let print = scan_folder(rt, folder, workers)?;
     ts_archive::encode(rt.alloc(), &print, out)?;
@@ -139,15 +168,20 @@ fn print_scan<R: Machine, O: Sink>(
 }
 
 /// Prints an archive's body.
-fn show<R: Files + AllocGlobal, O: Sink>(
-    rt: &R,
-    name: &str,
-    out: &mut O,
-) -> Result<u8, PerformFault> {
+fn show<R: Disk + AllocGlobal, O: Sink>(rt: &R, name: &str, out: &mut O) -> Result<u8, PerformFault>
+    ensures { Prints (IsShown R.finds name.now) (O.holds out.old) (O.holds out.new) result }
+{
     let Some(archive) = read_archive(rt, name)? else {
         return Err(PerformFault::NotThere);
     };
-    match ts_print::encode(rt.alloc(), &archive, out) {
+    print_body(rt.alloc(), &archive, out)
+}
+
+/// Prints the body of this archive.
+fn print_body<O: Sink>(alloc: Global, archive: &Print, out: &mut O) -> Result<u8, PerformFault>
+    ensures { Prints (IsBodyOf archive.now) (O.holds out.old) (O.holds out.new) result }
+{
+    match ts_print::encode(alloc, archive, out) {
         Ok(()) => Ok(0),
         Err(PrintFault::OutOfMemory) => Err(PerformFault::OutOfMemory),
         Err(PrintFault::Failed) => Err(PerformFault::Failed),
@@ -157,7 +191,7 @@ fn show<R: Files + AllocGlobal, O: Sink>(
 
 /// Prints a plan for the pair.
 fn print_plan<R: Machine, O: Sink>(task: &Task<'_, R>, out: &mut O) -> Result<u8, PerformFault>
-    ensures { Prints (IsPrintoutAt R.is_at R.Folder.tells task.now.pair.now) (O.holds out.old) (O.holds out.new) result }
+    ensures { Prints (IsPrintoutAt R.is_at R.Folder.tells R.finds task.now.pair.now) (O.holds out.old) (O.holds out.new) result }
 {
     let snapshot = Snapshot::read(task)?;
     snapshot.print_plan(task.rt.alloc(), out)
@@ -169,7 +203,8 @@ fn check_plan<R: Machine, O: Sink>(
     plan: &str,
     out: &mut O,
 ) -> Result<u8, PerformFault>
-    ensures { Prints (IsVerdictAt R.is_at R.Folder.tells task.now.pair.now) (O.holds out.old) (O.holds out.new) result }
+    ensures { Prints (IsVerdictAt R.is_at R.Folder.tells R.finds task.now.pair.now plan.now)
+        (O.holds out.old) (O.holds out.new) result }
 {
     let (snapshot, plan) = Snapshot::read_for(task, plan)?;
     snapshot.print_verdict(task.rt.alloc(), &plan, out)

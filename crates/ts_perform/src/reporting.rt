@@ -2,9 +2,7 @@
 ghost use Rattle.std.specs.Option.{option_copied};
 ghost use Rattle.std.specs.Prelude.{◌≡◌, ◌∷◌, ◌++◌, [], length, IfOk};
 ghost use Rattle.ts_model.specs.Texts.{text};
-ghost use Rattle.ts_exec.specs.Ends.{ending_at};
-ghost use Rattle.ts_perform.specs.Runs.{failure_line, failure_lines, notice_line, notice_lines, lost_by, lost_lines, path_for, status_with};
-ghost use Rattle.ts_report.specs.Reports.{fates, report_text, status_of, totals_of};
+ghost use Rattle.ts_perform.specs.Runs.{failure_line, failure_lines, lost_by, notice_line, notice_lines, path_for, run_faults, run_report, run_status};
 ghost use Rattle.ts_text.specs.Sources.{Writes};
 
 use crate::answers::{write_fault, write_kept, write_mount};
@@ -32,9 +30,9 @@ pub(crate) fn report_outcome<S: Site, O: Sink, E: Sink>(
     err: &mut E,
 ) -> Result<u8, PerformFault>
     requires count { length outcome.now.results.items ≡ length checked.now.plan.actions }
-    ensures report { Writes (O.holds out.old) (O.holds out.new) (report_text (ending_at outcome.now.results.items) checked.now.plan) result }
-    ensures faults { Writes (E.holds err.old) (E.holds err.new) (text (failure_lines checked.now.plan.entries checked.now.plan.actions outcome.now.results.items ++ lost_lines (lost_by kept))) result }
-    ensures status { IfOk result (λ status. status ≡ status_with (lost_by kept) (status_of (totals_of (fates (ending_at outcome.now.results.items) checked.now.plan)))) }
+    ensures report { Writes (O.holds out.old) (O.holds out.new) (run_report checked.now.plan outcome.now.results.items) result }
+    ensures faults { Writes (E.holds err.old) (E.holds err.new) (text (run_faults checked.now.plan outcome.now.results.items (lost_by kept))) result }
+    ensures status { IfOk result (λ status. status ≡ run_status checked.now.plan outcome.now.results.items (lost_by kept)) }
 {
     let plan = checked.plan();
     let _count = checked.action_count();
@@ -61,10 +59,10 @@ pub(crate) fn report_all<S: Site, O: Sink, E: Sink>(
     err: &mut E,
 ) -> Result<u8, PerformFault>
     requires count { length outcome.now.results.items ≡ length checked.now.plan.actions }
-    ensures report { Writes (O.holds out.old) (O.holds out.new) (report_text (ending_at outcome.now.results.items) checked.now.plan) result }
-    ensures faults { Writes (E.holds err.old) (E.holds err.new) (text ((failure_lines checked.now.plan.entries checked.now.plan.actions outcome.now.results.items
-        ++ lost_lines (lost_by kept)) ++ notice_lines notices.now)) result }
-    ensures status { IfOk result (λ status. status ≡ status_with (lost_by kept) (status_of (totals_of (fates (ending_at outcome.now.results.items) checked.now.plan)))) }
+    ensures report { Writes (O.holds out.old) (O.holds out.new) (run_report checked.now.plan outcome.now.results.items) result }
+    ensures faults { Writes (E.holds err.old) (E.holds err.new)
+        (text (run_faults checked.now.plan outcome.now.results.items (lost_by kept) ++ notice_lines notices.now)) result }
+    ensures status { IfOk result (λ status. status ≡ run_status checked.now.plan outcome.now.results.items (lost_by kept)) }
 {
     let status = report_outcome(alloc, checked, outcome, kept, out, err)?;
     report_notices(alloc, notices, err)?;

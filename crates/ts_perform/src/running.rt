@@ -1,7 +1,9 @@
 //! Plans carried out on two folders.
 ghost use Rattle.std.specs.Prelude.{◌≡◌, ℕ, List, IfErr, IfOk};
 ghost use Rattle.ts_model.specs.Texts.{IsPlan};
-ghost use Rattle.ts_perform.specs.Runs.{BeginsNotices, IsCarriedOut, IsCarriedOutFor, IsSynced, Ran, RanQuietly};
+ghost use Rattle.ts_perform.specs.Inputs.{IsReadFor};
+ghost use Rattle.ts_perform.specs.Pasts.{IsPastOf, SaysOneNew};
+ghost use Rattle.ts_perform.specs.Runs.{BeginsNotices, IsCarriedOutFor, IsRun, IsSynced, Ran, RanQuietly};
 ghost use Rattle.ts_perform.specs.Snapshots.{checkup_of, IsPlanned};
 ghost use Rattle.ts_perform.specs.Stands.{AreScans};
 ghost use Rattle.ts_perform.specs.Trials.{IsQuiet};
@@ -9,6 +11,7 @@ ghost use Rattle.ts_perform.specs.Trials.{IsQuiet};
 use crate::acting::{act, keep_archive, replica};
 use crate::disk::{Disk, Machine};
 use crate::fault::PerformFault;
+use crate::past::{Past, is_one_new};
 use crate::reporting::{FAILED, report_all, report_notices};
 use crate::snapshot::Snapshot;
 use crate::task::Task;
@@ -37,7 +40,8 @@ impl<R: Machine> Task<'_, R> {
         out: &mut O,
         err: &mut E,
     ) -> Result<u8, PerformFault>
-        ensures ran { Ran (IsCarriedOut R.stand R.Site.content R.Site.failures R.is_at R.Folder.tells R.Folder.lets R.is_named R.has self.now.pair.now)
+        ensures ran { Ran (IsRun
+            R.stand R.Site.content R.Site.failures R.is_at R.Folder.tells R.Folder.lets R.is_named R.has R.finds self.now.pair.now plan.now)
             (O.holds out.old) (O.holds out.new) (E.holds err.old) (E.holds err.new) result }
     {
         let mut claims = self.claim()?;
@@ -53,7 +57,9 @@ impl<R: Machine> Task<'_, R> {
         out: &mut O,
         err: &mut E,
     ) -> Result<u8, PerformFault>
-        ensures ran { Ran (IsSynced R.stand R.Site.content R.Site.failures R.is_at R.Folder.tells R.Folder.lets R.is_named R.has self.now.pair.now)
+        ensures ran { Ran (IsSynced
+            R.stand R.Site.content R.Site.failures R.is_at R.Folder.tells R.Folder.lets R.is_named R.has
+            R.finds R.is_locked R.took R.stopped self.now.pair.now)
             (O.holds out.old) (O.holds out.new) (E.holds err.old) (E.holds err.new) result }
     {
         let mut claims = self.claim()?;
@@ -82,6 +88,8 @@ impl<R: Machine> Task<'_, R> {
 
     /// Locks both replicas and the archive, so that no other run disturbs this one.
     fn claim(&self) -> Result<Claims<R>, PerformFault>
+        ensures first { IfOk result (λ claims. R.is_locked claims.first self.now.pair.now.first.now) }
+        ensures second { IfOk result (λ claims. R.is_locked claims.second self.now.pair.now.second.now) }
         ensures named { IfOk result (λ claims. R.is_named claims.archive self.now.pair.now.archive.now) }
         ensures quiet { IfErr result IsQuiet }
     {
@@ -130,19 +138,27 @@ impl<R: Machine> Task<'_, R> {
         }
     }
 
-    /// Whether just one of the replicas took part in a run before. Where a run into both was stopped, it may have noted that
-    /// at one of them alone.
-    fn is_one_new(&self, claims: &Claims<R>) -> bool {
-        let took_part = |lock: &Option<R::Lock>| match lock {
-            Some(lock) => self.rt.took_part(lock),
-            None => false,
-        };
-        let was_stopped = |lock: &Option<R::Lock>| match lock {
-            Some(lock) => self.rt.was_stopped(lock),
-            None => false,
-        };
-        took_part(&claims.first) != took_part(&claims.second)
-            && !(was_stopped(&claims.first) && was_stopped(&claims.second))
+    /// What is known of a replica from before it was locked. Where there is no lock, nothing is.
+    fn past(&self, lock: &Option<R::Lock>) -> Past
+        ensures { IsPastOf R.took R.stopped lock.now result }
+    {
+        match lock {
+            Some(lock) => Past {
+                took_part: self.rt.took_part(lock),
+                was_stopped: self.rt.was_stopped(lock),
+            },
+            None => Past {
+                took_part: false,
+                was_stopped: false,
+            },
+        }
+    }
+
+    /// Whether just one of the replicas took part in a run before.
+    fn is_one_new(&self, claims: &Claims<R>) -> bool
+        ensures { SaysOneNew R.took R.stopped claims.now.first claims.now.second result }
+    {
+        is_one_new(self.past(&claims.first), self.past(&claims.second))
     }
 
     /// Whether a replica is still there, if it was locked.
@@ -201,7 +217,8 @@ impl<R: Machine> Task<'_, R> {
         err: &mut E,
     ) -> Result<u8, PerformFault>
         requires named { R.is_named claims.old.archive self.now.pair.now.archive.now }
-        ensures ran { RanQuietly (IsCarriedOut R.stand R.Site.content R.Site.failures R.is_at R.Folder.tells R.Folder.lets R.is_named R.has self.now.pair.now)
+        ensures ran { RanQuietly (IsRun
+            R.stand R.Site.content R.Site.failures R.is_at R.Folder.tells R.Folder.lets R.is_named R.has R.finds self.now.pair.now plan.now)
             (O.holds out.old) (O.holds out.new) (E.holds err.old) (E.holds err.new) result }
     {
         self.recover(notices)?;
@@ -218,8 +235,12 @@ impl<R: Machine> Task<'_, R> {
         out: &mut O,
         err: &mut E,
     ) -> Result<u8, PerformFault>
+        requires first { R.is_locked claims.old.first self.now.pair.now.first.now }
+        requires second { R.is_locked claims.old.second self.now.pair.now.second.now }
         requires named { R.is_named claims.old.archive self.now.pair.now.archive.now }
-        ensures ran { RanQuietly (IsSynced R.stand R.Site.content R.Site.failures R.is_at R.Folder.tells R.Folder.lets R.is_named R.has self.now.pair.now)
+        ensures ran { RanQuietly (IsSynced
+            R.stand R.Site.content R.Site.failures R.is_at R.Folder.tells R.Folder.lets R.is_named R.has
+            R.finds R.is_locked R.took R.stopped self.now.pair.now)
             (O.holds out.old) (O.holds out.new) (E.holds err.old) (E.holds err.new) result }
     {
         self.recover(notices)?;
@@ -242,8 +263,10 @@ impl<R: Machine> Task<'_, R> {
     ) -> Result<u8, PerformFault>
         requires plan { IsPlan plan.now }
         requires scans { AreScans R.is_at R.Folder.tells self.now.pair.now.first.now self.now.pair.now.second.now snapshot.now.first snapshot.now.second }
+        requires read { IsReadFor R.finds self.now.pair.now snapshot.now.archive snapshot.now.holds }
         requires named { R.is_named claims.old.archive self.now.pair.now.archive.now }
-        ensures ran { RanQuietly (IsCarriedOutFor (checkup_of snapshot.now plan.now) R.stand R.Site.content R.Site.failures R.is_at R.Folder.tells R.Folder.lets R.is_named R.has self.now.pair.now)
+        ensures ran { RanQuietly (IsCarriedOutFor (checkup_of snapshot.now plan.now)
+            R.stand R.Site.content R.Site.failures R.is_at R.Folder.tells R.Folder.lets R.is_named R.has R.finds self.now.pair.now)
             (O.holds out.old) (O.holds out.new) (E.holds err.old) (E.holds err.new) result }
     {
         let alloc = self.rt.alloc();

@@ -21,6 +21,7 @@ returns-in-Ok g c =
           checkup = same;
           carried_out = record {
             scans = rw same c.requires.scans;
+            read = rw same c.requires.read;
             valid = subst (λ (k : Checkup). Valid (snapshot_of k) k.plan) (sym same) c.in_ok-checked.ensures.valid;
             safe = subst (λ (k : Checkup). IsSafe (snapshot_of k) k.plan) (sym same) c.in_ok-checked.ensures.safe;
             words = words;

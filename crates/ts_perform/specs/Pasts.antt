@@ -1,0 +1,33 @@
+-- Whether just one replica of a pair took part in a run before.
+--     IsPastOf took stopped lock past          that is what is said of a lock; where there is none, nothing is known
+--     IsOneNew first second                    just one of them took part, and a run into both of them wasn't stopped
+--     SaysOneNew took stopped first second one whether that is so, by what is said of two locks
+--     IsOfBoth .. pair rows                    where it is so of the locks of the pair's replicas, the archive names no path
+use Rattle.std.specs.Prelude.{◌≡◌, ◌≢◌, ◌↔◌, ℕ, Bool, false, List, [], Option, Some, None, IsTrue}
+use Rattle.ts_command.specs.declared.job.Pair.{Pair}
+use Rattle.ts_model.specs.Trees.{Listing}
+use Rattle.ts_model.specs.declared.row.Stamp.{Stamp}
+use Rattle.ts_perform.specs.declared.past.Past.{Past}
+
+abbrev pub IsPastOf : {L : Type 0} → (took stopped : L → Bool → Type 0) → Option L → Past → Type 0
+IsPastOf took stopped None past = past ≡ record { took_part = false; was_stopped = false }
+IsPastOf took stopped (Some lock) past = took lock past.took_part × stopped lock past.was_stopped
+
+pub record IsOneNew (first second : Past) : Type 0 where
+  pub one : first.took_part ≢ second.took_part
+  pub going : ¬ (IsTrue first.was_stopped × IsTrue second.was_stopped)
+
+abbrev pub SaysOneNew : {L : Type 0} → (took stopped : L → Bool → Type 0) → (first second : Option L) → Bool → Type 0
+SaysOneNew took stopped first second one =
+    (of_first : Past) × (of_second : Past) × IsPastOf took stopped first of_first × IsPastOf took stopped second of_second
+    × (IsTrue one ↔ IsOneNew of_first of_second)
+
+pub record IsOfBoth {L : Type 0} (is_locked : Option L → List ℕ → Type 0) (took stopped : L → Bool → Type 0) (pair : Pair)
+    (rows : Listing Stamp) : Type 0 where
+  pub first : Option L
+  pub second : Option L
+  pub locked_first : is_locked first pair.first.now
+  pub locked_second : is_locked second pair.second.now
+  pub one : Bool
+  pub says : SaysOneNew took stopped first second one
+  pub empty : IsTrue one → rows ≡ []
