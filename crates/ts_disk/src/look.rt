@@ -56,7 +56,7 @@ impl Look {
     }
 }
 
-/// Whether a change at one time, in seconds, may share its time with a change after another.
+/// Whether a file that was changed in one second may, as seen in another, be changed once more and keep its time.
 fn is_recent_at(seconds: i64, now: u64) -> bool
     ensures recent { (pos now ≤ℤ (seconds +ℤ pos 4)) → IsTrue result }
     ensures old { now < 2 ^ 63 → IsTrue result → (pos now ≤ℤ (seconds +ℤ pos 4)) }
