@@ -79,6 +79,7 @@ cases/main main: ts_board::Board::split ts_board::Held::commit ts_board::Closed:
 SCRIPTS = """
 commands.sh: expect 'first sync' 0: ts_command::command ts_perform::perform ts_perform::HostRuntime::folder
 commands.sh: expect 'first sync' 0: ts_perform::HostRuntime::site ts_perform::HostRuntime::lock
+commands.sh: expect 'show' 0: ts_perform::HostRuntime::open
 commands.sh: expect 'first sync' 0: ts_perform::HostRuntime::take_part ts_perform::HostRuntime::flush_above
 commands.sh: expect 'first sync' 0: ts_disk::Lock::is_in_place ts_disk::Lock::take_part ts_disk::check_leftovers
 commands.sh: expect 'first sync' 0: ts_disk::save_plan ts_disk::DiskSite::new ts_disk::DiskSite::commit ts_disk::flush_above
