@@ -1,12 +1,12 @@
 //! What changed since the archive, and what is held.
 use crate::shared::{path, print_of};
 use std::alloc::Global;
-use ts_dirty::{Marks, Walk, detect};
+use ts_dirty::{Marks, detect};
 use ts_hold::Holds;
 use ts_model::plan::Side;
 use ts_model::row::{Content, Stamp};
 use ts_name::Path;
-use ts_print::Print;
+use ts_print::{Print, Triples, walk3};
 
 const ONE: &[u8] = b"f /a 1 ca978112ca1bbdcafac231b39a23dc4da786eff8147c4e72b9807785afee48bb";
 
@@ -147,7 +147,7 @@ fn letter(content: &Content<Stamp>) -> u8 {
 }
 
 /// What is there at the walk's next path in the archive and the replicas, where that is the wanted path.
-fn step(walk: &mut Walk<'_>, wanted: &Path) -> Option<[u8; 3]> {
+fn step(walk: &mut Triples<'_>, wanted: &Path) -> Option<[u8; 3]> {
     let seen = walk.next()?;
     if *seen.path != *wanted {
         return None;
@@ -166,12 +166,28 @@ fn walked(
     first: &Print,
     second: &Print,
 ) -> Option<([[u8; 3]; 3], bool)> {
-    let mut walk = Walk::new(archive.rows(), first.rows(), second.rows());
+    let mut walk = walk3(archive, first, second);
     let mut steps = [[0; 3]; 3];
     for (place, text) in steps.iter_mut().zip(["/a", "/a/b", "/a!"]) {
         *place = step(&mut walk, &path(alloc, text)?)?;
     }
     Some((steps, walk.next().is_none()))
+}
+
+/// Whether a walk passes just what is at `/a` and below it, and goes on behind that.
+fn passes_below(archive: &Print, first: &Print, second: &Print, top: &Path) -> bool {
+    let mut walk = walk3(archive, first, second);
+    let mut passed = 0;
+    for _ in 0..9 {
+        if walk.next_from(top).is_none() {
+            break;
+        }
+        passed += 1;
+    }
+    let Some(next) = walk.next() else {
+        return false;
+    };
+    passed == 2 && !top.is_prefix(next.path)
 }
 
 /// The same of prints of these lines.
@@ -182,11 +198,22 @@ fn walked_lines(alloc: Global) -> Option<([[u8; 3]; 3], bool)> {
     walked(alloc, &archive, &first, &second)
 }
 
+/// The same of prints of these lines.
+fn lines_pass_below(alloc: Global) -> Option<bool> {
+    let archive = print_of(alloc, &[ONE])?;
+    let first = print_of(alloc, &[b"d /a", b"d /a/b"])?;
+    let second = print_of(alloc, &[b"d /a!"])?;
+    let top = path(alloc, "/a")?;
+    Some(passes_below(&archive, &first, &second, &top))
+}
+
+#[test]
+fn a_walk_ends_behind_what_is_below(rt: HostRuntime) {
+    assert!(rt; lines_pass_below(rt.alloc()) == Some(true));
+}
+
 #[test]
 fn a_walk_gives_each_path_once(rt: HostRuntime) {
     let steps = [*b"fd-", *b"-d-", *b"--d"];
     assert!(rt; walked_lines(rt.alloc()) == Some((steps, true)));
 }
-
-#[test]
-fn want_of_memory_is_fault_1(rt: HostRuntime) {}

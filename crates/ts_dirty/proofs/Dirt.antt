@@ -14,7 +14,7 @@ use Rattle.ts_model.specs.declared.plan.Side.TheVariants as side
 use Rattle.ts_dirty.specs.Found.{AreAscending, AreTopmost, HasBelow, HasAbove, Found, IsFoundOf}
 use Rattle.ts_name.proofs.Order.{before_trans, before_cases, before_turned, is_lt_Less}
 use Rattle.ts_name.proofs.Prefixes.{above_itself, above_trans, above_either}
-use Rattle.ts_dirty.proofs.Order.{above_upto, above_between}
+use Rattle.ts_print.proofs.Order.{above_upto, above_between}
 use Rattle.ts_model.proofs.Deciding.{same_stamp_at}
 
 -- ---- by halving

@@ -17,12 +17,12 @@ use Rattle.ts_model.specs.declared.hold.Rule.TheVariants.{OnePath, LastName}
 use Rattle.ts_model.specs.declared.row.Content.{Content}
 use Rattle.ts_model.specs.declared.row.Content.TheVariants.{Absent}
 use Rattle.ts_model.specs.declared.row.Stamp.{Stamp}
-use Rattle.ts_dirty.specs.Walks.{Left, IsWalkStep}
+use Rattle.ts_print.specs.Walks.{IsLeft, IsThere, IsWalkStep, Left}
 use Rattle.ts_dirty.specs.Found.{IsFoundOf}
-use Rattle.ts_dirty.proofs.Walks.{IsLeft, IsThere, nowhere_not_present, left_all, left_none, step_forward, step_left, step_there, step_between}
+use Rattle.ts_print.proofs.Walks.{nowhere_not_present, left_all, left_none, step_forward, step_left, step_there, step_between}
 use Rattle.ts_name.proofs.Order.{before_itself, before_trans, before_cases, decide_before, before_turned}
 use Rattle.ts_name.proofs.Prefixes.{above_itself}
-use Rattle.ts_dirty.proofs.Order.{upto_before, above_between}
+use Rattle.ts_print.proofs.Order.{upto_before, above_between}
 
 -- the paths up to b of which P holds
 pub record IsUpto (P : Path → Type 0) (b : Path) (ps : List Path) : Type 0 where

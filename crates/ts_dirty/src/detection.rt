@@ -2,15 +2,13 @@ ghost use Rattle.std.specs.Prelude.{◌≡◌, ◌≢◌, ◌↔◌, ◌∷◌, 
 ghost use Rattle.ts_dirty.specs.Found.{IsFoundOf, LastIsAbove};
 ghost use Rattle.ts_model.specs.Holds.{Names};
 ghost use Rattle.ts_model.specs.Sync.{listed_snapshot};
-ghost use Rattle.ts_model.specs.Trees.{IsListing};
 
 use crate::marks::Marks;
-use crate::walk::{Triple, Walk};
 use std::alloc::{AllocError, Global};
 use ts_hold::Holds;
-use ts_model::row::{Content, Row, Stamp};
+use ts_model::row::{Content, Stamp};
 use ts_name::Path;
-use ts_print::Print;
+use ts_print::{Print, Triple, walk3};
 
 /// Compares both replicas with the archive, path by path.
 ///
@@ -26,29 +24,12 @@ pub fn detect(
 ) -> Result<Marks, AllocError>
     ensures { IfOk result (λ marks. IsFoundOf (listed_snapshot archive.now first.now second.now holds.now) marks) }
 {
-    compare(alloc, archive.rows(), first.rows(), second.rows(), holds)
-}
-
-/// The same of the prints' rows.
-fn compare(
-    alloc: Global,
-    archive: &[Row<Stamp>],
-    first: &[Row<Stamp>],
-    second: &[Row<Stamp>],
-    holds: &Holds,
-) -> Result<Marks, AllocError>
-    requires archive { IsListing archive.now }
-    requires first { IsListing first.now }
-    requires second { IsListing second.now }
-    ensures { IfOk result (λ marks. IsFoundOf (listed_snapshot archive.now first.now second.now holds.now) marks) }
-{
     let _rules = holds.rules();
     let mut changed_first = Vec::new(alloc);
     let mut changed_second = Vec::new(alloc);
     let mut apart = Vec::new(alloc);
     let mut held = Vec::new(alloc);
-    let mut walk = Walk::new(archive, first, second);
-    while let Some(seen) = walk.next() {
+    for seen in walk3(archive, first, second) {
         note(
             alloc,
             &mut changed_first,

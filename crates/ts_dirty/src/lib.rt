@@ -3,8 +3,6 @@
 
 mod detection;
 mod marks;
-mod walk;
 
 pub use detection::detect;
 pub use marks::Marks;
-pub use walk::{Triple, Walk};

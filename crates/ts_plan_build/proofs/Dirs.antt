@@ -12,7 +12,7 @@ use Rattle.ts_model.specs.declared.plan.Reason.TheVariants as reason
 use Rattle.ts_model.specs.declared.plan.Kind.TheVariants.{Mark}
 use Rattle.ts_name.proofs.Order.{before_itself, before_turned}
 use Rattle.ts_name.proofs.Prefixes.{above_itself, above_trans}
-use Rattle.ts_dirty.proofs.Order.{above_upto, above_between}
+use Rattle.ts_print.proofs.Order.{above_upto, above_between}
 use Rattle.ts_plan_build.specs.declared.builder.NewDir.{NewDir}
 use Rattle.ts_plan_build.specs.Blocks.{block, mark_of}
 use Rattle.ts_plan_build.specs.Built.{IsAboveMark, IsBuilt, AreOff, AreLeft, IsKept, AreOrdered}

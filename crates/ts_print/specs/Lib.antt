@@ -5,3 +5,4 @@ pub mod Fields
 pub mod Parts
 pub mod Prints
 pub mod Readers
+pub mod Walks

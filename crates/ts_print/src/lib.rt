@@ -10,6 +10,7 @@ pub mod reader;
 pub mod staged;
 pub mod stamps;
 pub mod sub_print;
+pub mod triples;
 pub mod walk;
 
 pub use decoding::decode;
@@ -20,6 +21,7 @@ pub use reader::PrintReader;
 pub use staged::Staged;
 pub use stamps::stamp_of;
 pub use sub_print::SubPrint;
+pub use triples::{Triple, Triples, walk3};
 pub use ts_model::plan::{Action, Entry, Kind, Plan, PlanRule, Reason, Side};
 pub use ts_model::row::Stamp;
 pub use walk::Walk;

@@ -10,11 +10,11 @@ use Rattle.ts_model.specs.declared.row.Content.TheVariants.{Absent, Dir}
 use Rattle.ts_model.specs.declared.row.Stamp.{Stamp}
 use Rattle.ts_model.specs.declared.plan.Entry.{Entry}
 use Rattle.ts_model.specs.declared.plan.Reason.{Reason}
-use Rattle.ts_dirty.specs.Walks.{Left, IsWalkStep}
+use Rattle.ts_print.specs.Walks.{IsLeft, IsThere, IsWalkStep, Left}
 use Rattle.ts_name.proofs.Order.{decide_before, before_turned, before_below}
 use Rattle.ts_name.proofs.Prefixes.{above_trans, last_name, snoc_not_empty, same_parent, snoc_not_empty}
-use Rattle.ts_dirty.proofs.Order.{above_between}
-use Rattle.ts_dirty.proofs.Walks.{IsLeft, IsThere, left_all, left_none, step_forward, step_left, step_there, step_between}
+use Rattle.ts_print.proofs.Order.{above_between}
+use Rattle.ts_print.proofs.Walks.{left_all, left_none, step_forward, step_left, step_there, step_between}
 use Rattle.ts_dirty.proofs.Upto.{upto_later, upto_next, upto_root, ascending_more, each_more}
 use Rattle.ts_recon.specs.Reasons.{AreReasons, IsReasonOf, IsSeen, with_reason}
 use Rattle.ts_model.proofs.Reasons.{one_because, nothing_no_reason}

@@ -7,7 +7,7 @@ use Rattle.ts_name.specs.Paths.{Path, IsBefore}
 use Rattle.ts_model.specs.Sync.{Snapshot, Because, HasReason}
 use Rattle.ts_model.specs.declared.row.Content.{Content}
 use Rattle.ts_model.specs.declared.row.Stamp.{Stamp}
-use Rattle.ts_dirty.specs.declared.walk.Triple.{Triple}
+use Rattle.ts_print.specs.declared.triples.Triple.{Triple}
 use Rattle.ts_model.specs.declared.plan.Reason.{Reason}
 use Rattle.ts_model.specs.declared.plan.Reason.TheVariants as reason
 use Rattle.ts_model.specs.declared.plan.Entry.{Entry}

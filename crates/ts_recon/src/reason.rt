@@ -4,9 +4,10 @@ ghost use Rattle.ts_model.specs.Sync.{Because, IsBelowDirs, Snapshot};
 ghost use Rattle.ts_model.specs.declared.row.Content.TheVariants.{Dir};
 ghost use Rattle.ts_recon.specs.Reasons.{IsBecause, IsReasonOf, differing_reason, IsTripleOf};
 
-use ts_dirty::{Marks, Triple};
+use ts_dirty::Marks;
 use ts_model::plan::{Reason, Side};
 use ts_model::row::{Content, Stamp};
+use ts_print::Triple;
 
 /// The reason of the path, None where it has none. Its parent is a directory of both replicas where it has at
 /// most `shared` names.

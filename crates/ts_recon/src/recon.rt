@@ -1,17 +1,15 @@
 ghost use Rattle.std.specs.Prelude.{◌≡◌, ◌-◌, IfOk, List, cond, min};
 ghost use Rattle.ts_dirty.specs.Found.{IsFoundOf};
 ghost use Rattle.ts_model.specs.Sync.{listed_snapshot};
-ghost use Rattle.ts_model.specs.Trees.{IsListing};
 ghost use Rattle.ts_model.specs.declared.hold.Rule.{Rule};
 ghost use Rattle.ts_recon.specs.Reasons.{AreReasons, with_reason};
 
 use crate::reason::{is_shared, reason_at};
 use std::alloc::{AllocError, Global};
-use ts_dirty::{Marks, Walk};
+use ts_dirty::Marks;
 use ts_model::plan::{Entry, Reason};
-use ts_model::row::{Row, Stamp};
 use ts_name::Path;
-use ts_print::Print;
+use ts_print::{Print, walk3};
 
 /// The paths that have a reason, each with it, in path order. The marks are those of the same prints.
 ///
@@ -28,28 +26,10 @@ pub fn reasons(
     ensures { (rules : List Rule) → IsFoundOf (listed_snapshot archive.now first.now second.now rules) marks.now
         → IfOk result (λ entries. AreReasons (listed_snapshot archive.now first.now second.now rules) entries.items) }
 {
-    gather(alloc, archive.rows(), first.rows(), second.rows(), marks)
-}
-
-/// The same of the prints' rows.
-fn gather(
-    alloc: Global,
-    archive: &[Row<Stamp>],
-    first: &[Row<Stamp>],
-    second: &[Row<Stamp>],
-    marks: &Marks,
-) -> Result<Vec<Entry>, AllocError>
-    requires archive { IsListing archive.now }
-    requires first { IsListing first.now }
-    requires second { IsListing second.now }
-    ensures { (rules : List Rule) → IsFoundOf (listed_snapshot archive.now first.now second.now rules) marks.now
-        → IfOk result (λ entries. AreReasons (listed_snapshot archive.now first.now second.now rules) entries.items) }
-{
     let mut entries = Vec::new(alloc);
-    let mut walk = Walk::new(archive, first, second);
     // how many names of the path that the walk is at lead down directories of both replicas
     let mut shared = 0;
-    while let Some(seen) = walk.next() {
+    for seen in walk3(archive, first, second) {
         add(
             alloc,
             &mut entries,

@@ -1,11 +1,11 @@
 use Rattle.std.proofs.Common.{◌≡◌, true, false, Equal}
-use Rattle.ts_dirty.proofs.Rows.{step_first, step_nothing, same_first, not_Equal}
+use Rattle.ts_print.proofs.Rows.{step_first, step_nothing, same_first, not_Equal}
 use Rattle.std.proofs.Common.{subst}
 use Rattle.ts_model.specs.declared.row.Row.{Row}
 use Rattle.ts_model.specs.declared.row.Stamp.{Stamp}
 use Rattle.std.specs.Ordering.{is_eq}
 use Rattle.ts_name.specs.Paths.{path_cmp}
-use Rattle.ts_dirty.proofs.walk.step_to.Goals as goal
+use Rattle.ts_print.proofs.triples.step_to.Goals as goal
 use Rattle.ts_name.specs.Laws.{is_eq_Equal}
 
 pub returns-then-is_eq-clause-step : goal.returns-then-is_eq-clause-step

@@ -1,8 +1,8 @@
 use Rattle.std.proofs.Common.{◌≡◌, true, false}
 use Rattle.std.specs.Ordering.{is_lt}
 use Rattle.ts_name.specs.Paths.{path_cmp}
-use Rattle.ts_dirty.proofs.Rows.{earlier_first, earlier_best, earlier_none, not_Less}
-use Rattle.ts_dirty.proofs.walk.earlier.Goals as goal
+use Rattle.ts_print.proofs.Rows.{earlier_first, earlier_best, earlier_none, not_Less}
+use Rattle.ts_print.proofs.triples.earlier.Goals as goal
 use Rattle.ts_name.proofs.Order.{is_lt_Less}
 
 pub returns-in_default : goal.returns-in_default

@@ -1,5 +1,5 @@
 -- Rows that ascend, one after another.
-use Rattle.std.proofs.Common.{◌≡◌, ◌≢◌, ◌⊎◌, true, false, [], ◌∷◌, ◌∙◌, refl, sym, ap, subst, inl, inr}
+use Rattle.std.proofs.Common.{◌≡◌, ◌≢◌, ◌⊎◌, false, [], ◌∷◌, ◌∙◌, refl, sym, ap, subst, inl, inr}
 use Rattle.std.proofs.Common.{◌≤◌, ◌-◌, length, take, drop, get_or, ◌<◌, arith, Ordering, Equal, Greater, Option, Some, None, Less, Bor, MatchOption, IfSome}
 use Rattle.std.specs.Option.{option_copied}
 use Rattle.std.specs.Ordering.{is_lt, is_eq}
@@ -11,10 +11,10 @@ use Rattle.ts_model.specs.Trees.{Listing, listed, at, Ascend, IsListing}
 use Rattle.ts_model.specs.declared.row.Content.{Content}
 use Rattle.ts_model.specs.declared.row.Content.TheVariants.{Absent}
 use Rattle.ts_model.specs.declared.row.Row.{Row}
-use Rattle.ts_dirty.specs.Walks.{ArePlain, IsStep, HasNoneBefore, IsEarlier, IsLeastPath}
-use Rattle.ts_name.specs.Laws.{path_total, tied_paths, same_path_itself, same_path_differ}
+use Rattle.ts_print.specs.Walks.{ArePlain, IsRest, IsStep, HasNoneBefore, IsEarlier, IsLeastPath}
+use Rattle.ts_name.specs.Laws.{path_total, tied_paths}
 use Rattle.ts_name.proofs.Order.{before_itself, before_trans, before_cases, before_turned, decide_before}
-use Rattle.ts_dirty.proofs.Order.{before_upto, upto_before}
+use Rattle.ts_print.proofs.Order.{before_upto, upto_before}
 use Rattle.ts_model.proofs.Rows.{listed_here, listed_there}
 use Rattle.ts_model.proofs.Listings.{root_not_listed}
 
@@ -71,11 +71,6 @@ pub step_none : {F : Type 0} (p : Path) → IsStep {F = F} p Absent [] []
 step_none p = record { here = refl; before = λ q h. refl; later = λ q h. refl; gone = λ q h. refl; no_more = omega arith; less = λ there. absurd (there refl) }
 
 -- ---- from a whole listing to what is left of it
-
--- rest has what stands in whole after b, and nothing else
-pub record IsRest {F : Type 0} (b : Path) (whole rest : Listing F) : Type 0 where
-  pub later : (q : Path) → IsBefore b q → listed rest q ≡ at whole q
-  pub gone : (q : Path) → ¬ IsBefore b q → listed rest q ≡ Absent
 
 -- at first everything is left
 pub rest_all : {F : Type 0} (whole : Listing F) → IsListing whole → IsRest [] whole whole
