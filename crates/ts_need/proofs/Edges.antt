@@ -24,24 +24,12 @@ pub Tells-from : (b : Bool) (P : Type 0) → (IsTrue b → P) → (P → IsTrue 
 Tells-from true P h k = holds refl (h refl)
 Tells-from false P h k = fails refl (λ p. let e = k p in cc)
 
--- the opposite test tells the opposite
-pub Tells-not : (b : Bool) (P Q : Type 0) → (P → ¬ Q) → (¬ P → Q) → Tells b P → Tells (not b) Q
-Tells-not b P Q h k (holds e p) = fails (ap not e) (h p)
-Tells-not b P Q h k (fails e n) = holds (ap not e) (k n)
-
 module _ (s : Snapshot) (lawful : IsSnapshot s) (p : Path) where
-  -- a subtree is as in the archive where nothing at or below p changed
-  pub same_unchanged : (on : Side) → sub (replica s on) p ≡ sub s.archive p → ¬ IsChanged s on p
-  same_unchanged on same changed = changed.1 (at_each same changed.0)
-
   pub differ_changed : (on : Side) → ¬ (sub (replica s on) p ≡ sub s.archive p) → IsChanged s on p
   differ_changed on differ = elim (decide_changed s lawful on p) [
     | yes changed ↦ changed
     | no not_changed ↦ absurd (differ (by_each (sub (replica s on) p) (sub s.archive p) (λ rest. stable (same_stamp_at (sub (replica s on) p rest) (sub s.archive p rest)) (λ n. not_changed (rest, n)))))
   ]
-
-  pub Tells-changed : (on : Side) (same : Bool) → (IsTrue same → sub (replica s on) p ≡ sub s.archive p) → (sub (replica s on) p ≡ sub s.archive p → IsTrue same) → Tells (not same) (IsChanged s on p)
-  Tells-changed on same h k = Tells-not same _ _ (same_unchanged on) (differ_changed on) (Tells-from same _ h k)
 
   -- the reason of a path that isn't a directory in both replicas, where the replicas differ
   pub differ_reason : IsBelowDirs s.first s.second p → ¬ AreBothDirs s.first s.second p → ¬ (sub s.first p ≡ sub s.second p)

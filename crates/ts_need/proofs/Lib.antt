@@ -1,5 +1,6 @@
-pub mod Listed
-pub mod Climbs
-pub mod Touches
 pub mod Edges
+pub mod Entries
+pub mod Found
 pub mod Lacking
+pub mod Meetings
+pub mod Standing

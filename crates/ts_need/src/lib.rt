@@ -2,6 +2,7 @@
 #![tactic(auto)]
 
 pub mod broken;
+mod differences;
 mod reasons;
 mod rules;
 pub mod state;

@@ -1,147 +1,128 @@
-//! The reason of one path.
+//! The reason of each path, in one pass over the three prints.
 
-ghost use Rattle.std.specs.Prelude.{◌≡◌, ◌≢◌, ◌↔◌, ◌++◌, ◌∷◌, [], ℕ, Any, IsTrue, IfOk, Some};
-ghost use Rattle.ts_model.specs.Holds.{Names};
-ghost use Rattle.ts_model.specs.Sync.{AreBothDirs, IsBelowDirs, TouchesHeld};
-ghost use Rattle.ts_model.specs.Trees.{IsListing, at, sub};
+ghost use Rattle.std.specs.Option.{option_copied};
+ghost use Rattle.std.specs.Prelude.{◌≡◌, ◌↔◌, ◌≤◌, ◌&&◌, ◌||◌, IsTrue, Some, None, cond, not};
+ghost use Rattle.ts_model.specs.Trees.{IsListing, Listing};
 ghost use Rattle.ts_model.specs.declared.row.Content.TheVariants.{Dir};
-ghost use Rattle.ts_need.specs.Needs.{AreListings, HasNamedBelow, IsNamedAbove, IsReasonOf, difference_reason, snapshot_of};
+ghost use Rattle.ts_model.specs.declared.row.Stamp.{Stamp};
+ghost use Rattle.ts_name.specs.Paths.{Path};
+ghost use Rattle.ts_need.specs.Merges.{IsAboveIn, IsAt, IsReasoned};
+ghost use Rattle.ts_need.specs.Needs.{edge_reason};
+ghost use Rattle.ts_print.specs.Walks.{IsWalkStep, Left, left_count};
 
-use crate::state::State;
-use std::alloc::{AllocError, Global};
+use crate::differences::{Differences, gather};
 use ts_hold::Holds;
 use ts_model::plan::Reason;
-use ts_model::row::{Content, Row, Stamp};
+use ts_model::row::Content;
 use ts_name::Path;
-use ts_print::Print;
+use ts_print::{Seen, Triple, Triples};
 
-/// Whether a print has a directory there.
-fn is_dir(print: &Print, path: &Path) -> bool
-    ensures { IsTrue result ↔ (at print.now path.now ≡ Dir) }
+/// Whether a directory stands there.
+fn is_dir(seen: &Seen) -> bool
+    ensures { IsTrue result ↔ (seen.now ≡ Dir) }
 {
-    matches!(print.get(path), Content::Dir)
-}
-
-/// Whether two prints have the same at a path and below it.
-fn is_same_below(xs: &Print, ys: &Print, path: &Path) -> bool
-    ensures { IsTrue result ↔ (sub (at xs.now) path.now ≡ sub (at ys.now) path.now) }
-{
-    xs.sub_eq(ys, path)
-}
-
-/// Whether a rule names the path of some row.
-fn has_named(holds: &Holds, rows: &[Row<Stamp>]) -> bool
-    ensures { IsTrue result ↔ Any (λ row. Names holds.now row.path) rows.now }
-{
-    for row in rows {
-        if holds.holds(&row.path) {
-            return true;
-        }
-    }
-    false
-}
-
-/// Whether a rule names a path strictly above this one.
-fn is_named_above(alloc: Global, holds: &Holds, path: &Path) -> Result<bool, AllocError>
-    ensures { IfOk result (λ named. IsTrue named ↔ IsNamedAbove holds.now path.now) }
-{
-    let mut above = path.parent(alloc)?;
-    while let Some(p) = above {
-        if holds.holds(&p) {
-            return Ok(true);
-        }
-        above = p.parent(alloc)?;
-    }
-    Ok(false)
-}
-
-/// Whether a rule names a path that is there, at this path or below it.
-fn has_named_below(state: &State, path: &Path) -> bool
-    ensures { IsTrue result ↔ HasNamedBelow state.now path.now }
-{
-    has_named(state.holds, state.first.sub(path))
-        || has_named(state.holds, state.second.sub(path))
-        || has_named(state.holds, state.archive.sub(path))
-}
-
-/// Whether a held path is above a path whose parent is a directory in both replicas, below it, or the path itself.
-fn touches_held(alloc: Global, state: &State, path: &Path) -> Result<bool, AllocError>
-    requires listing { AreListings state.now }
-    requires below { IsBelowDirs (at state.now.first.now) (at state.now.second.now) path.now }
-    ensures { IfOk result (λ held. IsTrue held ↔ TouchesHeld (snapshot_of state.now) path.now) }
-{
-    if is_named_above(alloc, state.holds, path)? {
-        return Ok(true);
-    }
-    Ok(has_named_below(state, path))
+    matches!(seen, Content::Dir)
 }
 
 /// Whether both replicas have a directory there.
-fn are_dirs(state: &State, path: &Path) -> bool
-    ensures { IsTrue result ↔ AreBothDirs (at state.now.first.now) (at state.now.second.now) path.now }
+fn are_dirs(seen: &Triple<'_>) -> bool
+    ensures { IsTrue result ↔ ((seen.now.first ≡ Dir) × (seen.now.second ≡ Dir)) }
 {
-    is_dir(state.first, path) && is_dir(state.second, path)
+    is_dir(&seen.first) && is_dir(&seen.second)
 }
 
-/// Whether the parent is a directory in both replicas.
-fn is_below_dirs(alloc: Global, state: &State, path: &Path) -> Result<bool, AllocError>
-    ensures { IfOk result (λ below. IsTrue below ↔ IsBelowDirs (at state.now.first.now) (at state.now.second.now) path.now) }
+/// Whether the holder is the path or above it.
+fn is_below(holder: Option<&Path>, path: &Path) -> bool
+    ensures { IsTrue result ↔ IsAboveIn (option_copied holder.entry) path.now }
 {
-    match path.parent(alloc)? {
-        Some(parent) => Ok(are_dirs(state, &parent)),
-        None => Ok(false),
+    match holder {
+        Some(above) => above.is_prefix(path),
+        None => false,
     }
 }
 
-/// The reason of a path where the replicas differ.
-fn reason_of_difference(first_changed: bool, second_changed: bool, held: bool) -> Reason
-    ensures { result ≡ difference_reason first_changed second_changed held }
+/// The reason of a directory in both replicas: it is new where the archive has none.
+fn reason_of_dirs(seen: &Triple<'_>) -> Option<Reason>
+    ensures old { seen.now.archive ≡ Dir → result ≡ None }
+    ensures new { (¬ (seen.now.archive ≡ Dir)) → result ≡ Some Reason.Dir }
 {
-    if first_changed && second_changed {
-        Reason::Conflict
-    } else if held {
-        Reason::Held
-    } else if first_changed {
-        Reason::First
+    if is_dir(&seen.archive) {
+        None
     } else {
-        Reason::Second
+        Some(Reason::Dir)
     }
 }
 
-/// The reason of a path that isn't a directory in both replicas, though its parent is.
-fn reason_of_edge(alloc: Global, state: &State, path: &Path) -> Result<Option<Reason>, AllocError>
-    requires listing { AreListings state.now }
-    requires below { IsBelowDirs (at state.now.first.now) (at state.now.second.now) path.now }
-    requires edge { ¬ AreBothDirs (at state.now.first.now) (at state.now.second.now) path.now }
-    ensures { IfOk result (λ found. IsReasonOf (snapshot_of state.now) path.now found) }
+/// The reason of a path that isn't a directory in both replicas.
+fn reason_of_edge(found: &Differences, is_below_holder: bool) -> Option<Reason>
+    ensures { result ≡ edge_reason found.now.first found.now.second found.now.apart (is_below_holder || found.now.is_named) }
 {
-    let first_changed = !is_same_below(state.first, state.archive, path);
-    if is_same_below(state.first, state.second, path) {
-        return Ok(if first_changed {
+    if !found.apart {
+        return if found.first {
             Some(Reason::Same)
         } else {
             None
-        });
+        };
     }
-    let second_changed = !is_same_below(state.second, state.archive, path);
-    let held = touches_held(alloc, state, path)?;
-    Ok(Some(reason_of_difference(first_changed, second_changed, held)))
+    Some(if found.first && found.second {
+        Reason::Conflict
+    } else if is_below_holder || found.is_named {
+        Reason::Held
+    } else if found.first {
+        Reason::First
+    } else {
+        Reason::Second
+    })
 }
 
-/// The reason of a path, if it has one.
-pub fn reason_of(alloc: Global, state: &State, path: &Path) -> Result<Option<Reason>, AllocError>
-    requires { AreListings state.now }
-    ensures { IfOk result (λ found. IsReasonOf (snapshot_of state.now) path.now found) }
+/// The topmost held directory that the paths after a directory may be below.
+fn next_holder<'a>(
+    holder: Option<&'a Path>,
+    directory: &'a Path,
+    is_below_holder: bool,
+    is_named: bool,
+) -> Option<&'a Path>
+    ensures { option_copied result ≡ cond (not is_below_holder && is_named) (Some directory.entry.now) (option_copied holder.entry) }
 {
-    if !is_below_dirs(alloc, state, path)? {
-        return Ok(None);
+    if !is_below_holder && is_named {
+        Some(directory)
+    } else {
+        holder
     }
-    if are_dirs(state, path) {
-        return Ok(if is_dir(state.archive, path) {
-            None
-        } else {
-            Some(Reason::Dir)
-        });
+}
+
+/// What a pass has after a path: its reason, and the topmost held directory that the next paths may be below.
+#[derive(Clone, Copy)]
+pub struct Reasoned<'a> {
+    pub reason: Option<Reason>,
+    pub holder: Option<&'a Path>,
+}
+
+/// The reason of the path that a walk has come to, where it is below directories of both replicas. After it the walk is at the
+/// next such path. `holder` is the topmost held directory that the path may be below.
+pub fn find_reason<'a>(
+    walk: &mut Triples<'a>,
+    seen: &Triple<'a>,
+    holder: Option<&'a Path>,
+    holds: &Holds,
+) -> Reasoned<'a>
+    ensures found { (A F S : Listing Stamp) (b : Path) (old : Left) → IsListing A → IsListing F → IsListing S
+        → IsAt A F S holds.now b old (option_copied holder.entry) → IsWalkStep seen.now.path.now seen.now.archive seen.now.first seen.now.second old walk.old
+        → (after : Path) × IsAt A F S holds.now after walk.new (option_copied result.holder)
+        × IsReasoned A F S holds.now b seen.now.path.now after result.reason }
+    ensures shorter { left_count walk.new ≤ left_count walk.old }
+{
+    let is_below_holder = is_below(holder, seen.path);
+    if are_dirs(seen) {
+        let is_named = holds.holds(seen.path);
+        return Reasoned {
+            reason: reason_of_dirs(seen),
+            holder: next_holder(holder, seen.path, is_below_holder, is_named),
+        };
     }
-    reason_of_edge(alloc, state, path)
+    let found = gather(walk, seen, holds);
+    Reasoned {
+        reason: reason_of_edge(&found, is_below_holder),
+        holder,
+    }
 }

@@ -1,22 +1,47 @@
 //! The two rules about reasons.
 
-ghost use Rattle.std.specs.Prelude.{◌≡◌, ◌≤◌, ◌≢◌, ◌↔◌, ℕ, length, IsTrue, IfOk, IfNone, IfSome, Some, None, slice_get, count_by};
-ghost use Rattle.ts_model.specs.Plans.{HasWrongReason, IsOutOfOrder, Lacks};
-ghost use Rattle.ts_need.specs.Needs.{AreListings, IsFirst, IsNeedAnswer, LacksAmong, Never, lesser_of, snapshot_of, IsLackOf};
-ghost use Rattle.std.specs.Ordering.{is_lt};
+ghost use Rattle.std.specs.Prelude.{◌≡◌, ◌≢◌, ◌⊎◌, ◌↔◌, ◌≤◌, ℕ, IfOk, IsTrue, Option, Some, None, MatchOption, slice_get};
+ghost use Rattle.ts_model.specs.Plans.{IsOutOfOrder};
 ghost use Rattle.ts_model.specs.Sync.{listed_snapshot};
-ghost use Rattle.ts_model.specs.declared.plan.Entry.{Entry};
-ghost use Rattle.ts_name.specs.Paths.{path_cmp};
+ghost use Rattle.ts_need.specs.Merges.{MeetsEntries};
+ghost use Rattle.ts_need.specs.Needs.{IsNeedAnswer, Never};
 
 use crate::broken::Broken;
-use crate::reasons::reason_of;
-use crate::state::State;
+use crate::reasons::find_reason;
 use std::alloc::{AllocError, Global};
+use std::cmp::Ordering;
 use ts_hold::Holds;
 use ts_model::plan::{Entry, PlanRule, Reason};
-use ts_model::row::{Row, Stamp};
 use ts_name::Path;
-use ts_print::Print;
+use ts_print::{Print, walk3};
+
+/// What a path and its reason are to the entry that comes next.
+#[derive(Clone, Copy, Debug, PartialEq, Eq)]
+enum Meeting {
+    /// The entry comes before the path, and so has no reason; or it is the path with another reason.
+    Wrong,
+    /// The entry is the path with its reason.
+    Right,
+    /// The path has a reason and is no entry.
+    Lacking,
+    /// The path has no reason and is no entry.
+    Nothing,
+}
+
+/// Compares a path and its reason with the entry of this number.
+fn meet(entries: &[Entry], next: usize, path: &Path, found: Option<Reason>) -> Meeting
+    ensures { MeetsEntries entries.now next path.now found result }
+{
+    match entries.get(next) {
+        Some(entry) => match entry.path.cmp(path) {
+            Ordering::Less => Meeting::Wrong,
+            Ordering::Equal if is_reason(found, entry.reason) => Meeting::Right,
+            Ordering::Equal => Meeting::Wrong,
+            Ordering::Greater => miss(found),
+        },
+        None => miss(found),
+    }
+}
 
 /// Whether this is the reason that was found.
 fn is_reason(found: Option<Reason>, reason: Reason) -> bool
@@ -28,136 +53,64 @@ fn is_reason(found: Option<Reason>, reason: Reason) -> bool
     }
 }
 
-/// The first entry whose path hasn't the entry's reason.
-fn first_wrong_reason(
-    alloc: Global,
-    state: &State,
-    entries: &[Entry],
-) -> Result<Option<usize>, AllocError>
-    requires { AreListings state.now }
-    ensures { IfOk result (λ found. IsFirst (HasWrongReason (snapshot_of state.now) entries.now) found) }
+/// What a path is that is no entry.
+fn miss(found: Option<Reason>) -> Meeting
+    ensures { MatchOption found (result ≡ Meeting.Nothing) (λ _. result ≡ Meeting.Lacking) }
 {
-    for (k, entry) in entries.iter().enumerate() {
-        let found = reason_of(alloc, state, &entry.path)?;
-        if !is_reason(found, entry.reason) {
-            return Ok(Some(k));
-        }
-    }
-    Ok(None)
-}
-
-/// How many entries come before a path, where none has it.
-fn place_of(entries: &[Entry], path: &Path) -> Option<usize>
-    requires { Never (IsOutOfOrder entries.now) }
-    ensures none { IfNone result ((k : ℕ) × (entry : Entry) × (slice_get entries.now k ≡ Some entry) × (entry.path ≡ path.now)) }
-    ensures absent { IfSome result (λ _. (k : ℕ) (entry : Entry) → slice_get entries.now k ≡ Some entry → entry.path ≢ path.now) }
-    ensures place { IfSome result (λ place. place ≡ count_by (λ e. is_lt (path_cmp e.path path.now)) entries.now) }
-{
-    entries.binary_search_by(|entry| entry.path.cmp(path)).err()
-}
-
-/// The place of a path that has a reason and is no entry.
-fn lacking_place(
-    alloc: Global,
-    state: &State,
-    entries: &[Entry],
-    path: &Path,
-) -> Result<Option<usize>, AllocError>
-    requires listing { AreListings state.now }
-    requires order { Never (IsOutOfOrder entries.now) }
-    ensures { IfOk result (IsLackOf (snapshot_of state.now) entries.now path.now) }
-{
-    let Some(place) = place_of(entries, path) else {
-        return Ok(None);
-    };
-    match reason_of(alloc, state, path)? {
-        Some(_) => Ok(Some(place)),
-        None => Ok(None),
+    match found {
+        Some(_) => Meeting::Lacking,
+        None => Meeting::Nothing,
     }
 }
 
-/// The lesser of the two.
-fn lesser(one: Option<usize>, other: Option<usize>) -> Option<usize>
-    ensures { result ≡ lesser_of one other }
+/// The answer where a rule is broken.
+fn broken(rule: PlanRule, place: usize) -> Option<Broken>
+    ensures { (found : Broken) × (result ≡ Some found) × (found.rule ≡ rule) × (found.place ≡ place) }
 {
-    match (one, other) {
-        (Some(j), Some(k)) => Some(j.min(k)),
-        (Some(j), None) => Some(j),
-        (None, found) => found,
-    }
+    Some(Broken {
+        rule,
+        place: place as u64,
+    })
 }
 
-/// The least place where a path of these rows has a reason and is no entry.
-fn least_lacking(
-    alloc: Global,
-    state: &State,
-    entries: &[Entry],
-    rows: &[Row<Stamp>],
-) -> Result<Option<usize>, AllocError>
-    requires listing { AreListings state.now }
-    requires order { Never (IsOutOfOrder entries.now) }
-    ensures { IfOk result (λ found. IsFirst (LacksAmong (snapshot_of state.now) entries.now rows.now (length rows.now)) found) }
-{
-    let mut least = None;
-    for row in rows {
-        let place = lacking_place(alloc, state, entries, &row.path)?;
-        least = lesser(least, place);
-    }
-    Ok(least)
-}
-
-/// The least place where a path with a reason is no entry.
-fn first_lacking(
-    alloc: Global,
-    state: &State,
-    entries: &[Entry],
-) -> Result<Option<usize>, AllocError>
-    requires listing { AreListings state.now }
-    requires order { Never (IsOutOfOrder entries.now) }
-    ensures { IfOk result (λ found. IsFirst (Lacks (snapshot_of state.now) entries.now) found) }
-{
-    let in_first = least_lacking(alloc, state, entries, state.first.rows())?;
-    let in_second = least_lacking(alloc, state, entries, state.second.rows())?;
-    let in_archive = least_lacking(alloc, state, entries, state.archive.rows())?;
-    Ok(lesser(in_first, lesser(in_second, in_archive)))
-}
-
-/// The lesser of the two rules about reasons that is broken, with its least place; none where both hold.
+/// The lesser of the two rules about reasons that is broken, with its least place; none where both hold. It takes no memory.
+///
+/// The three prints are gone through once, beside the entries.
 ///
 /// # Errors
 ///
-/// `AllocError` where memory ran out.
-pub fn first_wrong<'a>(
-    alloc: Global,
+/// None comes: the answer of a checker that takes memory would have the same form.
+pub fn first_wrong(
+    _alloc: Global,
     entries: &[Entry],
-    archive: &'a Print,
-    first: &'a Print,
-    second: &'a Print,
-    holds: &'a Holds,
+    archive: &Print,
+    first: &Print,
+    second: &Print,
+    holds: &Holds,
 ) -> Result<Option<Broken>, AllocError>
     requires { Never (IsOutOfOrder entries.now) }
     ensures { IfOk result (λ found. IsNeedAnswer (listed_snapshot archive.now first.now second.now holds.now) entries.now found) }
 {
-    let _archive = archive.rows();
-    let _first = first.rows();
-    let _second = second.rows();
-    let state = State {
-        archive,
-        first,
-        second,
-        holds,
-    };
-    if let Some(place) = first_wrong_reason(alloc, &state, entries)? {
-        return Ok(Some(Broken {
-            rule: PlanRule::ReasonsHold,
-            place: place as u64,
-        }));
+    let _rules = holds.rules();
+    let mut walk = walk3(archive, first, second);
+    let mut holder = None;
+    let mut next = 0;
+    let mut lacking = None;
+    while let Some(seen) = walk.next() {
+        let reasoned = find_reason(&mut walk, &seen, holder, holds);
+        holder = reasoned.holder;
+        match meet(entries, next, seen.path, reasoned.reason) {
+            Meeting::Wrong => return Ok(broken(PlanRule::ReasonsHold, next)),
+            Meeting::Right => next += 1,
+            Meeting::Lacking => lacking = lacking.or(Some(next)),
+            Meeting::Nothing => {}
+        }
     }
-    match first_lacking(alloc, &state, entries)? {
-        Some(place) => Ok(Some(Broken {
-            rule: PlanRule::EntriesComplete,
-            place: place as u64,
-        })),
+    if next < entries.len() {
+        return Ok(broken(PlanRule::ReasonsHold, next));
+    }
+    match lacking {
+        Some(place) => Ok(broken(PlanRule::EntriesComplete, place)),
         None => Ok(None),
     }
 }
