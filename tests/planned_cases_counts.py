@@ -70,6 +70,7 @@ if __name__ == "__main__":
             reason = reason_of(archive, first, second, held, path)
             if reason:
                 met[reason] += 1
-    print("%d cases: reasons as defined, plans accepted" % CASES)
+    print("%d cases: marks and reasons as defined, plans accepted" % CASES)
     for reason in REASONS:
         print("%s: %d" % (reason, met[reason]))
+    print("%d cases with altered entries: the rule and the place as defined" % CASES)

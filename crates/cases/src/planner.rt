@@ -1,18 +1,21 @@
 //! Meets the planner with the checker, on generated cases: nested trees, archives that partly match them, and hold rules.
-//! In each the reasons are those that a search over all paths finds by the definitions, and the plan for what is there
-//! passes the checker. Says how many entries had each reason; ends with an error where one was never met.
+//! In each the marks and the reasons are those that a search over all paths finds by the definitions, the plan for what is
+//! there passes the checker, and of entries that are nearly right the checker names the rule and the place that the search
+//! finds. Says how many entries had each reason; ends with an error where a reason or an answer was never met.
 
+mod altered;
 mod cases;
 mod reasons;
 
-use crate::planner::cases::{Case, places};
-use crate::planner::reasons::{is_same, searched};
+use crate::planner::altered::{Tally, altered, try_entries};
+use crate::planner::cases::{Case, Place, places};
+use crate::planner::reasons::{Sight, found_at, is_same, searched, sights};
 use anyhow::{Result, bail, ensure};
 use rand_pcg::Pcg32;
 use std::alloc::Global;
 use ts_check::check;
-use ts_dirty::detect;
-use ts_model::plan::{Entry, Reason};
+use ts_dirty::{Marks, detect};
+use ts_model::plan::{Entry, Reason, Side};
 use ts_plan_build::resume;
 
 /// How many cases are tried.
@@ -46,9 +49,30 @@ impl Met {
     }
 }
 
+/// Whether the marks say of each path what a search finds.
+fn are_marked(marks: &Marks, places: &[Place], sights: &[Sight]) -> bool {
+    places.iter().all(|place| {
+        let path = &place.path;
+        let found = found_at(sights, path);
+        marks.changed(Side::First, path) == found.first
+            && marks.changed(Side::Second, path) == found.second
+            && marks.dirty(Side::First, path) == (found.first || found.is_held)
+            && marks.dirty(Side::Second, path) == (found.second || found.is_held)
+            && marks.agree(path) != found.apart
+            && marks.touches_held(path) == found.is_held
+    })
+}
+
 /// Tries the planner on a case, whose reasons are wanted, and the checker on its plan.
-fn try_case(alloc: Global, case: &Case, wanted: &[Entry]) -> Result<()> {
+fn try_case(
+    alloc: Global,
+    case: &Case,
+    places: &[Place],
+    sights: &[Sight],
+    wanted: &[Entry],
+) -> Result<()> {
     let marks = detect(alloc, &case.archive, &case.first, &case.second, &case.holds)?;
+    ensure!(are_marked(&marks, places, sights), "other marks");
     let found = ts_recon::reasons(alloc, &case.archive, &case.first, &case.second, &marks)?;
     ensure!(is_same(found.as_slice(), wanted), "other reasons");
     let plan = resume(alloc, &case.archive, &case.first, &case.second, &case.holds)?;
@@ -71,19 +95,48 @@ pub fn try_cases<R: Print + AllocGlobal>(rt: &R) -> Result<()> {
     let alloc = rt.alloc();
     let places = places(alloc)?;
     let mut random = Pcg32::new(2_026, 11);
+    // dice of their own, so that the cases stay the same
+    let mut changes = Pcg32::new(2_026, 12);
     let mut met = Met { counts: [0; 6] };
+    let mut tally = Tally {
+        right: 0,
+        wrong: 0,
+        lacking: 0,
+    };
     for number in 0..CASES {
         let case = Case::random(alloc, places.as_slice(), &mut random)?;
-        let wanted = searched(alloc, &case, places.as_slice())?;
+        let sights = sights(alloc, &case, places.as_slice())?;
+        let wanted = searched(alloc, &case, places.as_slice(), sights.as_slice())?;
         met.note(wanted.as_slice());
-        if let Err(fault) = try_case(alloc, &case, wanted.as_slice()) {
+        let tried = try_case(
+            alloc,
+            &case,
+            places.as_slice(),
+            sights.as_slice(),
+            wanted.as_slice(),
+        );
+        if let Err(fault) = tried {
             bail!("case {number}: {fault}");
         }
+        let entries = altered(alloc, places.as_slice(), wanted.as_slice(), &mut changes)?;
+        if let Err(fault) = try_entries(alloc, &case, entries, wanted.as_slice(), &mut tally) {
+            bail!("case {number} with altered entries: {fault}");
+        }
     }
-    println!(rt; "{CASES} cases: reasons as defined, plans accepted")?;
+    println!(rt; "{CASES} cases: marks and reasons as defined, plans accepted")?;
     for (count, reason) in met.counts.iter().zip(REASONS) {
         println!(rt; "{reason:?}: {count}")?;
         ensure!(*count > 0, "{reason:?} was never met");
     }
+    let Tally {
+        right,
+        wrong,
+        lacking,
+    } = tally;
+    ensure!(
+        right > 0 && wrong > 0 && lacking > 0,
+        "an answer on altered entries was never met"
+    );
+    println!(rt; "{CASES} cases with altered entries: the rule and the place as defined")?;
     Ok(())
 }

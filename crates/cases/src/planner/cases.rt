@@ -91,7 +91,7 @@ impl Case {
 }
 
 /// A number below `end`.
-fn below(random: &mut Pcg32, end: u32) -> u32
+pub fn below(random: &mut Pcg32, end: u32) -> u32
     requires { 0 < end }
     ensures { result < end }
 {

@@ -17,7 +17,7 @@ pub fn is_same(found: &[Entry], wanted: &[Entry]) -> bool {
 
 /// A path, what stands there in the archive and the replicas, and whether it is held.
 #[derive(Drop)]
-struct Sight<'a> {
+pub struct Sight<'a> {
     path: &'a Path,
     archive: Seen,
     first: Seen,
@@ -50,12 +50,51 @@ fn sight_of<'a>(case: &Case, path: &'a Path) -> Sight<'a> {
     }
 }
 
-/// The paths that have a reason, each with it.
-pub fn searched(alloc: Global, case: &Case, places: &[Place]) -> Result<Vec<Entry>> {
+/// What stands at each of the paths.
+pub fn sights<'a>(alloc: Global, case: &Case, places: &'a [Place]) -> Result<Vec<Sight<'a>>> {
     let mut sights = Vec::new(alloc);
     for place in places {
         sights.push(sight_of(case, &place.path))?;
     }
+    Ok(sights)
+}
+
+/// What differs at a path or below it, and whether a held path is there, below it or above it.
+#[derive(Clone, Copy, PartialEq, Eq)]
+pub struct Found {
+    pub first: bool,
+    pub second: bool,
+    pub apart: bool,
+    pub is_held: bool,
+}
+
+/// Looks at all paths for those at this one, below it and above it.
+pub fn found_at(sights: &[Sight], path: &Path) -> Found {
+    let mut found = Found {
+        first: false,
+        second: false,
+        apart: false,
+        is_held: false,
+    };
+    for sight in sights {
+        if path.is_prefix(sight.path) {
+            found.first = found.first || sight.first != sight.archive;
+            found.second = found.second || sight.second != sight.archive;
+            found.apart = found.apart || sight.first != sight.second;
+            found.is_held = found.is_held || sight.is_held;
+        }
+        found.is_held = found.is_held || (sight.is_held && sight.path.is_prefix(path));
+    }
+    found
+}
+
+/// The paths that have a reason, each with it.
+pub fn searched(
+    alloc: Global,
+    case: &Case,
+    places: &[Place],
+    sights: &[Sight],
+) -> Result<Vec<Entry>> {
     let mut found = Vec::new(alloc);
     for place in places {
         let Some(parent) = place.path.parent(alloc)? else {
@@ -65,7 +104,7 @@ pub fn searched(alloc: Global, case: &Case, places: &[Place]) -> Result<Vec<Entr
             continue;
         }
         let here = sight_of(case, &place.path);
-        if let Some(reason) = reason_of(sights.as_slice(), &here) {
+        if let Some(reason) = reason_of(sights, &here) {
             let path = place.path.copy(alloc)?;
             found.push(Entry { path, reason })?;
         }
@@ -78,24 +117,12 @@ fn reason_of(sights: &[Sight], here: &Sight) -> Option<Reason> {
     if here.is_shared() {
         return (here.archive != Content::Dir).then_some(Reason::Dir);
     }
-    let mut first = false;
-    let mut second = false;
-    let mut apart = false;
-    let mut held = false;
-    for sight in sights {
-        if here.path.is_prefix(sight.path) {
-            first = first || sight.first != sight.archive;
-            second = second || sight.second != sight.archive;
-            apart = apart || sight.first != sight.second;
-            held = held || sight.is_held;
-        }
-        held = held || (sight.is_held && sight.path.is_prefix(here.path));
-    }
-    match (apart, first, second) {
+    let found = found_at(sights, here.path);
+    match (found.apart, found.first, found.second) {
         (false, true, _) => Some(Reason::Same),
         (false, false, _) => None,
         (true, true, true) => Some(Reason::Conflict),
-        _ if held => Some(Reason::Held),
+        _ if found.is_held => Some(Reason::Held),
         (true, true, false) => Some(Reason::First),
         (true, false, true) => Some(Reason::Second),
         (true, false, false) => None,
