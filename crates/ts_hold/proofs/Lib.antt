@@ -1,5 +1,7 @@
+pub mod Chains
 pub mod Fitting
+pub mod Lookups
 pub mod Naming
-pub mod RuleLines
 pub mod Patterns
+pub mod RuleLines
 pub mod Writing

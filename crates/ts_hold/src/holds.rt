@@ -1,13 +1,17 @@
 //! Hold rules.
-ghost use Rattle.std.specs.Prelude.{◌≡◌, ◌≢◌, ◌↔◌, [], List, IfErr, IfOk, IsTrue, map};
+ghost use Rattle.std.specs.Prelude.{◌≡◌, ◌≢◌, ◌↔◌, [], List, IfErr, IfOk, IsTrue, length, map};
+ghost use Rattle.std.specs.Bool.{MatchBool};
 ghost use Rattle.ts_model.specs.Holds.{Names, RuleNames};
 ghost use Rattle.ts_model.specs.Texts.{IsRules, IsRulesText, rule_line, text};
 ghost use Rattle.ts_model.specs.declared.hold.Rule.{Rule};
 ghost use Rattle.ts_text.specs.Lines.{FailuresFit};
 ghost use Rattle.ts_text.specs.Sources.{Writes};
 ghost use Rattle.ts_text.specs.declared.fault.TextFault.TheVariants as fault;
+ghost use Rattle.ts_hold.specs.Keys.{NoEndNames, NoFrontNames, NoneNames};
 
 use crate::faults::HoldFault;
+use crate::index::Index;
+use crate::keys::{NO_END, NO_FRONT, mixed, path_key};
 use crate::lines::first_line;
 use crate::pattern::fits;
 use crate::reader::RuleReader;
@@ -22,6 +26,7 @@ use ts_text::{Sink, TextFault, write_line};
 #[derive(Drop)]
 pub struct Holds {
     pub(crate) rules: Vec<Rule>,
+    pub(crate) index: Index,
 }
 
 impl Model for Holds {
@@ -31,9 +36,11 @@ impl Model for Holds {
 
     ghost Value = { List Rule };
 
+    ghost use Rattle.ts_hold.specs.Keys.{AreKeys};
+
     ghost view = { λ h. h.rules.items };
 
-    ghost invariant = { λ h. IsRules h.rules.items };
+    ghost invariant = { λ h. IsRules h.rules.items × AreKeys h.rules.items h.index };
 }
 
 impl Holds {
@@ -45,6 +52,7 @@ impl Holds {
     {
         Holds {
             rules: Vec::new(alloc),
+            index: Index::new(alloc),
         }
     }
 
@@ -61,12 +69,19 @@ impl Holds {
         ensures { IsTrue result ↔ Names self.now path.now }
     {
         let rules = self.rules();
-        for rule in rules {
-            if names(rule, path) {
-                return true;
-            }
+        if rules.is_empty() {
+            return false;
         }
-        false
+        if some_named(rules, &self.index, path_key(path), path) {
+            return true;
+        }
+        let Some(name) = path.last() else {
+            return false;
+        };
+        if named_by_front(rules, &self.index, name, path) {
+            return true;
+        }
+        named_by_end(rules, &self.index, name, path)
     }
 
     /// The rules that a text spells, one a line. A bad line is reported by its number, the first one of them.
@@ -102,6 +117,53 @@ impl Holds {
         }
         Ok(())
     }
+}
+
+/// Whether some rule with this key names the path.
+fn some_named(rules: &[Rule], index: &Index, key: u64, path: &Path) -> bool
+    requires { length index.now ≡ length rules.now }
+    ensures { MatchBool result (Names rules.now path.now) (NoneNames rules.now index.now key path.now) }
+{
+    let mut next = index.last(key);
+    'next: while let Some(number) = next {
+        if names(&rules[number], path) {
+            return true;
+        }
+        next = index.before(number);
+    }
+    false
+}
+
+/// Whether some rule with the key of a front of the path's last name names the path.
+fn named_by_front(rules: &[Rule], index: &Index, name: &[u8], path: &Path) -> bool
+    requires { length index.now ≡ length rules.now }
+    ensures { MatchBool result (Names rules.now path.now) (NoFrontNames rules.now index.now name.now path.now) }
+{
+    let mut key = NO_FRONT;
+    for byte in name {
+        if some_named(rules, index, key, path) {
+            return true;
+        }
+        key = mixed(key, u64::from(*byte));
+    }
+    some_named(rules, index, key, path)
+}
+
+/// Whether some rule with the key of an end of the path's last name names the path.
+fn named_by_end(rules: &[Rule], index: &Index, name: &[u8], path: &Path) -> bool
+    requires { length index.now ≡ length rules.now }
+    ensures { MatchBool result (Names rules.now path.now) (NoEndNames rules.now index.now name.now path.now) }
+{
+    let mut key = NO_END;
+    let mut rest = name;
+    'next: while let Some((byte, before)) = rest.split_last() {
+        if some_named(rules, index, key, path) {
+            return true;
+        }
+        key = mixed(key, u64::from(*byte));
+        rest = before;
+    }
+    some_named(rules, index, key, path)
 }
 
 fn names(rule: &Rule, path: &Path) -> bool

@@ -3,6 +3,8 @@
 
 mod faults;
 mod holds;
+mod index;
+mod keys;
 pub mod laws;
 mod lines;
 mod pattern;

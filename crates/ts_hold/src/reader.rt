@@ -4,6 +4,8 @@ ghost use Rattle.ts_model.specs.Texts.{IsRules};
 
 use crate::faults::HoldFault;
 use crate::holds::Holds;
+use crate::index::Index;
+use crate::keys::rule_key;
 use crate::lines::parse_rule;
 use std::alloc::Global;
 use std::marker::Model;
@@ -16,6 +18,7 @@ const MOST_RULES: usize = 4096;
 pub struct RuleReader {
     alloc: Global,
     rules: Vec<Rule>,
+    index: Index,
 }
 
 impl Model for RuleReader {
@@ -25,9 +28,11 @@ impl Model for RuleReader {
 
     ghost Value = { List Rule };
 
+    ghost use Rattle.ts_hold.specs.Keys.{AreKeys};
+
     ghost view = { λ r. r.rules.items };
 
-    ghost invariant = { λ r. IsRules r.rules.items };
+    ghost invariant = { λ r. IsRules r.rules.items × AreKeys r.rules.items r.index };
 }
 
 impl RuleReader {
@@ -40,6 +45,7 @@ impl RuleReader {
         RuleReader {
             alloc,
             rules: Vec::new(alloc),
+            index: Index::new(alloc),
         }
     }
 
@@ -56,7 +62,12 @@ impl RuleReader {
         let Some(rule) = parse_rule(self.alloc, line)? else {
             return Err(self.fault());
         };
+        let key = rule_key(&rule);
         self.rules.push(rule)?;
+        if self.index.push(self.alloc, key).is_err() {
+            self.rules.pop();
+            return Err(HoldFault::OutOfMemory);
+        }
         Ok(())
     }
 
@@ -64,8 +75,12 @@ impl RuleReader {
     pub fn finish(self) -> Holds
         ensures { result ≡ self }
     {
-        let RuleReader { alloc: _, rules } = self;
-        Holds { rules }
+        let RuleReader {
+            alloc: _,
+            rules,
+            index,
+        } = self;
+        Holds { rules, index }
     }
 
     /// That the next line is bad.
