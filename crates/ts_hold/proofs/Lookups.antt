@@ -1,20 +1,25 @@
 -- Keys of rules: each path that a rule names has the rule's key, so that no path is missed.
-use Rattle.std.proofs.Common.{◌≡◌, ◌≢◌, ◌⊎◌, true, false, Result, Ok, Err, ℕ, ◌+◌, ◌<◌, ◌≤◌, List, [], ◌∷◌, ◌++◌, Option, Some, None}
+use Rattle.std.proofs.Common.{◌≡◌, ◌≢◌, ◌⊎◌, Bool, true, false, Result, Ok, Err, ℕ, ◌+◌, ◌<◌, ◌≤◌, List, [], ◌∷◌, ◌++◌, Option, Some, None}
 use Rattle.std.proofs.Common.{length, map, take, drop, get_or, sum_by, below_more, refl, sym, ap, ◌∙◌, subst, inl, inr, append_assoc, arith, length-append}
-use Rattle.std.specs.Prelude.{MatchOption, OnErr, OnOk}
+use Rattle.std.specs.Prelude.{if◌then◌else◌, IsOk, MatchOption, OnErr, OnOk}
 use Rattle.std.specs.Option.{option_to_list}
-use Rattle.std.specs.Result.{is_err}
+use Rattle.std.specs.Result.{MatchResult, is_err, is_ok}
+use Rattle.std.specs.Bool.{MatchBool}
 use Rattle.std.proofs.lemmas.Bool.{cases_lt, false≢true}
-use Rattle.std.proofs.lemmas.List.{take_at, take_more, drop_at, length_push, get_or_push, get_or_append_left, same_from_push}
+use Rattle.std.specs.List.{insert}
+use Rattle.std.proofs.lemmas.List.{take_at, take_more, drop_at, length_push, get_or_push, get_or_append_left, get_or_default, same_from_push}
 use Rattle.ts_name.specs.Paths.{Name, Path}
 use Rattle.ts_model.specs.declared.hold.Symbol.{Symbol}
 use Rattle.ts_model.specs.declared.hold.Symbol.TheVariants.{Star, Byte}
 use Rattle.ts_model.specs.declared.hold.Rule.{Rule}
-use Rattle.ts_model.specs.Holds.{Fits, RuleNames}
+use Rattle.ts_model.specs.declared.hold.Rule.TheVariants.{OnePath, LastName}
+use Rattle.ts_model.specs.Holds.{Fits, Names, RuleNames}
 use Rattle.ts_model.specs.Texts.{IsRules, RuleFits}
 use Rattle.ts_name.proofs.Utf8.{all_append}
-use Rattle.ts_hold.specs.Keys.{mixed, front_key, end_key, last_key, path_key, NameHasKey, IsKeyOf, AreKeys, IsFrontKey, IsEndKey, IsPatternKey, NoneNames}
+use Rattle.ts_hold.specs.Keys.{mixed, front_key, end_key, last_key, path_key, NameHasKey, IsKeyOf, AreKeys, IsFrontKey, IsEndKey, IsPatternKey, NoneNames, NoPathNames}
+use Rattle.ts_hold.specs.Orders.{IsOrder, IsThere, IsPlace, NeedsPlace, NeedsNoPlace, rule_at}
 use Rattle.ts_hold.proofs.Fitting.{begins}
+use Rattle.ts_hold.proofs.Orders.{none_there, order_kept, order_more, there_names}
 
 -- ---- one byte more
 
@@ -105,8 +110,6 @@ key_of_path path last key is_last is_key = cc
 
 -- ---- rules
 
--- ---- no rule is missed
-
 -- no keys, and one more
 pub keys_push : (rules : List Rule) (keys : List ℕ) (rule : Rule) (key : ℕ) → AreKeys rules keys → IsKeyOf rule key → AreKeys (rules ++ rule ∷ []) (keys ++ key ∷ [])
 keys_push rules keys rule key are is = record {
@@ -144,6 +147,18 @@ pub on_ok : {T E : Type 0} (r : Result T E) (P : Type 0) → false ≡ is_err r 
 on_ok (Ok x) P is told = told
 on_ok (Err e) P is told = absurd (false≢true is)
 
+-- ---- rules of one path
+
+-- what a search in their order tells
+pub found_in_order : (rules : List Rule) (order : List ℕ) (path : Path) (place : Result ℕ ℕ) (found : Bool) → IsOrder rules order → found ≡ is_ok place
+    → MatchResult place (IsThere rules order path) (IsPlace rules order path) → MatchBool found (Names rules path) (NoPathNames rules path)
+found_in_order rules order path (Ok k) found ordered is there =
+    let same = there_names rules order path k there in
+    subst (λ z. MatchBool z (Names rules path) (NoPathNames rules path)) (sym is)
+    (get_or order k 0, OnePath path, ordered.within k there.within, get_or_default rules (get_or order k 0) (OnePath path) (LastName []) (ordered.within k there.within) ∙ same, refl)
+found_in_order rules order path (Err k) found ordered is at =
+    subst (λ z. MatchBool z (Names rules path) (NoPathNames rules path)) (sym is) (none_there rules order path k ordered at)
+
 -- ---- the rules with one key
 
 -- what no look at later numbers has found, where this is the number that comes next
@@ -177,3 +192,19 @@ pub record NoneNearer (rules : List Rule) (keys : List ℕ) (name : Name) (path 
   pub name_is : name ≡ rest ++ done
   pub key_is : key ≡ end_key done
   pub none : (k : ℕ) → length rest < k → k ≤ length name → NoneNames rules keys (end_key (drop k name)) path
+
+-- ---- the order with a rule more
+
+pub order_with_none : (rules : List Rule) (order : List ℕ) (rule : Rule) → IsOrder rules order → NeedsNoPlace rules order rule → IsOrder (rules ++ rule ∷ []) order
+order_with_none rules order (OnePath new) ordered there = order_kept rules order (OnePath new) ordered (λ path same. let e : new ≡ path = cc in subst (λ z. (k : ℕ) × (k < length order) × (rule_at rules order k ≡ OnePath z)) e there)
+order_with_none rules order (LastName pattern) ordered there = order_kept rules order (LastName pattern) ordered (λ path same. absurd cc)
+
+pub order_with : (rules : List Rule) (order : List ℕ) (rule : Rule) (place : ℕ) → IsOrder rules order → NeedsPlace rules order rule place
+    → IsOrder (rules ++ rule ∷ []) (insert order place (length rules))
+order_with rules order (OnePath new) place ordered at = order_more rules order (OnePath new) new place ordered refl at
+order_with rules order (LastName pattern) place ordered at = absurd at
+
+-- what was put in where there was room
+pub inserted : {T E : Type 0} (r : Result T E) (with without now : List ℕ) → IsOk r → now ≡ (if is_ok r then with else without) → now ≡ with
+inserted (Ok x) with without now ok is = is
+inserted (Err e) with without now ok is = absurd (false≢true ok)

@@ -7,12 +7,14 @@ ghost use Rattle.ts_model.specs.declared.hold.Rule.{Rule};
 ghost use Rattle.ts_text.specs.Lines.{FailuresFit};
 ghost use Rattle.ts_text.specs.Sources.{Writes};
 ghost use Rattle.ts_text.specs.declared.fault.TextFault.TheVariants as fault;
-ghost use Rattle.ts_hold.specs.Keys.{NoEndNames, NoFrontNames, NoneNames};
+ghost use Rattle.ts_hold.specs.Keys.{AreKeys, NoEndNames, NoFrontNames, NoPathNames, NoneNames};
+ghost use Rattle.ts_hold.specs.Orders.{IsOrder};
 
 use crate::faults::HoldFault;
 use crate::index::Index;
 use crate::keys::{NO_END, NO_FRONT, mixed, path_key};
 use crate::lines::first_line;
+use crate::order::place_of;
 use crate::pattern::fits;
 use crate::reader::RuleReader;
 use crate::write::push_rule;
@@ -27,20 +29,21 @@ use ts_text::{Sink, TextFault, write_line};
 pub struct Holds {
     pub(crate) rules: Vec<Rule>,
     pub(crate) index: Index,
+    // the numbers of the rules of one path, in the order of their paths
+    pub(crate) order: Vec<u16>,
 }
 
 impl Model for Holds {
     ghost use Rattle.std.specs.Prelude.{List};
     ghost use Rattle.ts_model.specs.declared.hold.Rule.{Rule};
-    ghost use Rattle.ts_model.specs.Texts.{IsRules};
 
     ghost Value = { List Rule };
 
-    ghost use Rattle.ts_hold.specs.Keys.{AreKeys};
+    ghost use Rattle.ts_hold.specs.Keys.{IsFound};
 
     ghost view = { λ h. h.rules.items };
 
-    ghost invariant = { λ h. IsRules h.rules.items × AreKeys h.rules.items h.index };
+    ghost invariant = { λ h. IsFound h.rules.items h.index h.order.items };
 }
 
 impl Holds {
@@ -53,6 +56,7 @@ impl Holds {
         Holds {
             rules: Vec::new(alloc),
             index: Index::new(alloc),
+            order: Vec::new(alloc),
         }
     }
 
@@ -72,7 +76,7 @@ impl Holds {
         if rules.is_empty() {
             return false;
         }
-        if some_named(rules, &self.index, path_key(path), path) {
+        if path_named(rules, &self.index, &self.order, path) {
             return true;
         }
         let Some(name) = path.last() else {
@@ -116,6 +120,18 @@ impl Holds {
             write_line(sink, &line)?;
         }
         Ok(())
+    }
+}
+
+/// Whether some rule of one path names the path.
+fn path_named(rules: &[Rule], index: &Index, order: &[u16], path: &Path) -> bool
+    requires keys { AreKeys rules.now index.now }
+    requires order { IsOrder rules.now order.now }
+    ensures { MatchBool result (Names rules.now path.now) (NoPathNames rules.now path.now) }
+{
+    match index.last(path_key(path)) {
+        Some(_) => place_of(rules, order, path).is_ok(),
+        None => false,
     }
 }
 

@@ -7,6 +7,7 @@ mod index;
 mod keys;
 pub mod laws;
 mod lines;
+mod order;
 mod pattern;
 mod reader;
 mod symbols;
