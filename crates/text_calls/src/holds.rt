@@ -91,6 +91,55 @@ fn rules_name_paths(rt: HostRuntime) {
     }
 }
 
+/// Rules of each kind.
+const EACH_KIND: &[u8] =
+    b"path /d/a\npath /d/b/c\nname plain\nname %2A\nname *.tmp\nname *.tar.gz\nname core*\nname *cache*\n\
+name a*z\nname img*.x\nname *\xa9\nname \xe2\x82*\n";
+
+/// Paths, and whether one of the rules of each kind names them.
+const AMONG_EACH_KIND: &[(&[u8], bool)] = &[
+    (b"", false),
+    (b"/d/a", true),
+    (b"/e/a", false),
+    (b"/d/b", false),
+    (b"/d/b/c", true),
+    (b"/d/plain", true),
+    (b"/plains", false),
+    (b"/*", true),
+    (b"/.tmp", true),
+    (b"/n.tmp", true),
+    (b"/n.tmp/x", false),
+    (b"/ntmp", false),
+    (b"/n.tar.gz", true),
+    (b"/tar.gz", false),
+    (b"/core", true),
+    (b"/core.1", true),
+    (b"/score", false),
+    (b"/xcachey", true),
+    (b"/cach", false),
+    (b"/az", true),
+    (b"/abcz", true),
+    (b"/abc", false),
+    (b"/bz", false),
+    (b"/img1.x", true),
+    (b"/im.x", false),
+    (b"/img1.y", false),
+    (b"/x\xc3\xa9", true),
+    (b"/\xc3\xa9x", false),
+    (b"/\xe2\x82\xac", true),
+    (b"/\xe2\x86\x92", false),
+];
+
+#[test]
+fn rules_of_each_kind_are_found(rt: HostRuntime) {
+    for (text, want) in AMONG_EACH_KIND {
+        assert!(rt;
+            names(rt.alloc(), EACH_KIND, *text) == Some(*want),
+            "{text:?}"
+        );
+    }
+}
+
 /// A text before and a text behind so many times another.
 fn around(
     alloc: Global,
@@ -118,6 +167,18 @@ fn many_rules_name(alloc: Global) -> Option<bool> {
     let rules = repeated(alloc, b"name *aaaaaaaaaaaaaaaaaaaaaaaaaaaaaab*\n", 4096)?;
     let text = around(alloc, b"/", b"a", 255, b"")?;
     names(alloc, &rules, &text)
+}
+
+/// Whether the last one of 4,096 rules is found.
+fn last_rule_names(alloc: Global, text: &[u8]) -> Option<bool> {
+    let rules = around(alloc, b"", b"name *.o\n", 4095, b"path /d/a\n")?;
+    names(alloc, &rules, text)
+}
+
+#[test]
+fn the_last_rule_is_found(rt: HostRuntime) {
+    assert!(rt; last_rule_names(rt.alloc(), b"/d/a") == Some(true));
+    assert!(rt; last_rule_names(rt.alloc(), b"/d/b") == Some(false));
 }
 
 /// Trying every way to part the name among the stars would never end.

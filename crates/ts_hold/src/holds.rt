@@ -1,14 +1,20 @@
 //! Hold rules.
-ghost use Rattle.std.specs.Prelude.{◌≡◌, ◌≢◌, ◌↔◌, [], List, IfErr, IfOk, IsTrue, map};
+ghost use Rattle.std.specs.Prelude.{◌≡◌, ◌≢◌, ◌↔◌, [], List, IfErr, IfOk, IsTrue, length, map};
+ghost use Rattle.std.specs.Bool.{MatchBool};
 ghost use Rattle.ts_model.specs.Holds.{Names, RuleNames};
 ghost use Rattle.ts_model.specs.Texts.{IsRules, IsRulesText, rule_line, text};
 ghost use Rattle.ts_model.specs.declared.hold.Rule.{Rule};
 ghost use Rattle.ts_text.specs.Lines.{FailuresFit};
 ghost use Rattle.ts_text.specs.Sources.{Writes};
 ghost use Rattle.ts_text.specs.declared.fault.TextFault.TheVariants as fault;
+ghost use Rattle.ts_hold.specs.Keys.{AreKeys, NoEndNames, NoFrontNames, NoPathNames, NoneNames};
+ghost use Rattle.ts_hold.specs.Orders.{IsOrder};
 
 use crate::faults::HoldFault;
+use crate::index::Index;
+use crate::keys::{NO_END, NO_FRONT, mixed, path_key};
 use crate::lines::first_line;
+use crate::order::place_of;
 use crate::pattern::fits;
 use crate::reader::RuleReader;
 use crate::write::push_rule;
@@ -22,18 +28,22 @@ use ts_text::{Sink, TextFault, write_line};
 #[derive(Drop)]
 pub struct Holds {
     pub(crate) rules: Vec<Rule>,
+    pub(crate) index: Index,
+    // the numbers of the rules of one path, in the order of their paths
+    pub(crate) order: Vec<u16>,
 }
 
 impl Model for Holds {
     ghost use Rattle.std.specs.Prelude.{List};
     ghost use Rattle.ts_model.specs.declared.hold.Rule.{Rule};
-    ghost use Rattle.ts_model.specs.Texts.{IsRules};
 
     ghost Value = { List Rule };
 
+    ghost use Rattle.ts_hold.specs.Keys.{IsFound};
+
     ghost view = { λ h. h.rules.items };
 
-    ghost invariant = { λ h. IsRules h.rules.items };
+    ghost invariant = { λ h. IsFound h.rules.items h.index h.order.items };
 }
 
 impl Holds {
@@ -45,6 +55,8 @@ impl Holds {
     {
         Holds {
             rules: Vec::new(alloc),
+            index: Index::new(alloc),
+            order: Vec::new(alloc),
         }
     }
 
@@ -61,12 +73,19 @@ impl Holds {
         ensures { IsTrue result ↔ Names self.now path.now }
     {
         let rules = self.rules();
-        for rule in rules {
-            if names(rule, path) {
-                return true;
-            }
+        if rules.is_empty() {
+            return false;
         }
-        false
+        if path_named(rules, &self.index, &self.order, path) {
+            return true;
+        }
+        let Some(name) = path.last() else {
+            return false;
+        };
+        if named_by_front(rules, &self.index, name, path) {
+            return true;
+        }
+        named_by_end(rules, &self.index, name, path)
     }
 
     /// The rules that a text spells, one a line. A bad line is reported by its number, the first one of them.
@@ -102,6 +121,65 @@ impl Holds {
         }
         Ok(())
     }
+}
+
+/// Whether some rule of one path names the path.
+fn path_named(rules: &[Rule], index: &Index, order: &[u16], path: &Path) -> bool
+    requires keys { AreKeys rules.now index.now }
+    requires order { IsOrder rules.now order.now }
+    ensures { MatchBool result (Names rules.now path.now) (NoPathNames rules.now path.now) }
+{
+    match index.last(path_key(path)) {
+        Some(_) => place_of(rules, order, path).is_ok(),
+        None => false,
+    }
+}
+
+/// Whether some rule with this key names the path.
+fn some_named(rules: &[Rule], index: &Index, key: u64, path: &Path) -> bool
+    requires { length index.now ≡ length rules.now }
+    ensures { MatchBool result (Names rules.now path.now) (NoneNames rules.now index.now key path.now) }
+{
+    let mut next = index.last(key);
+    'next: while let Some(number) = next {
+        if names(&rules[number], path) {
+            return true;
+        }
+        next = index.before(number);
+    }
+    false
+}
+
+/// Whether some rule with the key of a front of the path's last name names the path.
+fn named_by_front(rules: &[Rule], index: &Index, name: &[u8], path: &Path) -> bool
+    requires { length index.now ≡ length rules.now }
+    ensures { MatchBool result (Names rules.now path.now) (NoFrontNames rules.now index.now name.now path.now) }
+{
+    let mut key = NO_FRONT;
+    for byte in name {
+        if some_named(rules, index, key, path) {
+            return true;
+        }
+        key = mixed(key, u64::from(*byte));
+    }
+    some_named(rules, index, key, path)
+}
+
+/// Whether some rule with the key of an end of the path's last name names the path.
+fn named_by_end(rules: &[Rule], index: &Index, name: &[u8], path: &Path) -> bool
+    requires { length index.now ≡ length rules.now }
+    ensures { MatchBool result (Names rules.now path.now) (NoEndNames rules.now index.now name.now path.now) }
+{
+    let mut key = NO_END;
+    let mut rest = name;
+    'next: while let Some((byte, before)) = rest.split_last() {
+        if some_named(rules, index, key, path) {
+            return true;
+        }
+        key = mixed(key, u64::from(*byte));
+        rest = before;
+    }
+    some_named(rules, index, key, path)
 }
 
 fn names(rule: &Rule, path: &Path) -> bool

@@ -3,8 +3,11 @@
 
 mod faults;
 mod holds;
+mod index;
+mod keys;
 pub mod laws;
 mod lines;
+mod order;
 mod pattern;
 mod reader;
 mod symbols;

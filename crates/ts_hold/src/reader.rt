@@ -1,11 +1,14 @@
 //! Reading hold rules line by line.
-ghost use Rattle.std.specs.Prelude.{◌≡◌, [], IfErr, OnErr, OnOk};
-ghost use Rattle.ts_model.specs.Texts.{IsRules};
+ghost use Rattle.std.specs.Prelude.{◌≡◌, ◌<◌, ◌++◌, ◌∷◌, [], length, IfErr, OnErr, OnOk};
+ghost use Rattle.ts_model.specs.Texts.{IsRules, RuleFits};
 
 use crate::faults::HoldFault;
 use crate::holds::Holds;
+use crate::index::Index;
+use crate::keys::rule_key;
 use crate::lines::parse_rule;
-use std::alloc::Global;
+use crate::order::place_for;
+use std::alloc::{AllocError, Global};
 use std::marker::Model;
 use ts_model::hold::Rule;
 
@@ -16,18 +19,21 @@ const MOST_RULES: usize = 4096;
 pub struct RuleReader {
     alloc: Global,
     rules: Vec<Rule>,
+    index: Index,
+    order: Vec<u16>,
 }
 
 impl Model for RuleReader {
     ghost use Rattle.std.specs.Prelude.{List};
     ghost use Rattle.ts_model.specs.declared.hold.Rule.{Rule};
-    ghost use Rattle.ts_model.specs.Texts.{IsRules};
 
     ghost Value = { List Rule };
 
+    ghost use Rattle.ts_hold.specs.Keys.{IsFound};
+
     ghost view = { λ r. r.rules.items };
 
-    ghost invariant = { λ r. IsRules r.rules.items };
+    ghost invariant = { λ r. IsFound r.rules.items r.index r.order.items };
 }
 
 impl RuleReader {
@@ -40,6 +46,8 @@ impl RuleReader {
         RuleReader {
             alloc,
             rules: Vec::new(alloc),
+            index: Index::new(alloc),
+            order: Vec::new(alloc),
         }
     }
 
@@ -56,7 +64,30 @@ impl RuleReader {
         let Some(rule) = parse_rule(self.alloc, line)? else {
             return Err(self.fault());
         };
+        self.add(rule)?;
+        Ok(())
+    }
+
+    /// Adds a rule, with what it is found by.
+    fn add(&mut self, rule: Rule) -> Result<(), AllocError>
+        requires lawful { RuleFits rule }
+        requires room { length self.old < 4096 }
+        ensures ok { OnOk result (self.new ≡ self.old ++ rule ∷ []) }
+        ensures kept { OnErr result (self.new ≡ self.old) }
+    {
+        let key = rule_key(&rule);
+        let place = place_for(&self.rules, &self.order, &rule);
+        self.order.reserve(1)?;
+        let number = self.rules.len() as u16;
         self.rules.push(rule)?;
+        if self.index.push(self.alloc, key).is_err() {
+            self.rules.pop();
+            return Err(AllocError);
+        }
+        if let Some(place) = place {
+            // there is room
+            let _ = self.order.insert(place, number);
+        }
         Ok(())
     }
 
@@ -64,8 +95,17 @@ impl RuleReader {
     pub fn finish(self) -> Holds
         ensures { result ≡ self }
     {
-        let RuleReader { alloc: _, rules } = self;
-        Holds { rules }
+        let RuleReader {
+            alloc: _,
+            rules,
+            index,
+            order,
+        } = self;
+        Holds {
+            rules,
+            index,
+            order,
+        }
     }
 
     /// That the next line is bad.

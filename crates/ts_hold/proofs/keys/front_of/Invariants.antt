@@ -1,0 +1,9 @@
+use Rattle.std.proofs.Common.{length}
+use Rattle.ts_hold.specs.Keys.{IsFrontKey}
+use Rattle.ts_hold.proofs.keys.front_of.Given as goal
+
+abbrev pub invariant-next : goal.invariant-next
+invariant-next l = IsFrontKey l.pattern l.key l.rest
+
+abbrev pub decreases-next : goal.decreases-next
+decreases-next l = length l.rest
