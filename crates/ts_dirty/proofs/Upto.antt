@@ -2,22 +2,19 @@
 use Rattle.std.proofs.Common.{◌≡◌, ◌≢◌, ◌⊎◌, ◌↔◌, ℕ, ◌-◌, ◌<◌, Bool, true, false, cond, List, [], ◌∷◌, ◌++◌, length, length-append, get_or, Contains, refl, sym, ap, ◌∙◌, subst, inl, inr, arith, IsTrue}
 use Rattle.std.proofs.lemmas.Bool.{cases_lt}
 use Rattle.std.proofs.lemmas.List.{get_or_append_left, get_or_push, get_or_default}
-use Rattle.std.proofs.lemmas.List.Elements.{All-from_recursion, Contains-get_or, Contains-push_cases, Contains-push, Contains-append_left}
+use Rattle.std.proofs.lemmas.List.Elements.{Contains-get_or, Contains-push_cases, Contains-push, Contains-append_left}
 use Rattle.ts_name.specs.Paths.{Path, IsAbove, IsBefore}
 use Rattle.ts_dirty.specs.Found.{AreAscending, AreTopmost, HasAbove, LastIsAbove}
-use Rattle.std.specs.List.{AllByRecursion}
-use Rattle.std.specs.Prelude.{Any}
-use Rattle.ts_name.specs.Paths.{Name}
 use Rattle.ts_model.specs.Trees.{Listing, at, IsListing}
-use Rattle.ts_model.specs.Holds.{Names, RuleNames}
-use Rattle.ts_model.specs.Texts.{IsRules, RuleFits}
+use Rattle.ts_model.specs.Holds.{Names}
+use Rattle.ts_model.specs.Texts.{IsRules}
 use Rattle.ts_model.specs.Sync.{Snapshot, listed_snapshot, IsHeldIn}
 use Rattle.ts_model.specs.declared.hold.Rule.{Rule}
-use Rattle.ts_model.specs.declared.hold.Rule.TheVariants.{OnePath, LastName}
 use Rattle.ts_model.specs.declared.row.Content.{Content}
 use Rattle.ts_model.specs.declared.row.Content.TheVariants.{Absent}
 use Rattle.ts_model.specs.declared.row.Stamp.{Stamp}
 use Rattle.ts_print.specs.Walks.{IsLeft, IsThere, IsWalkStep, Left}
+use Rattle.ts_hold.proofs.Naming.{root_unnamed}
 use Rattle.ts_dirty.specs.Found.{IsFoundOf}
 use Rattle.ts_print.proofs.Walks.{nowhere_not_present, left_all, left_none, step_forward, step_left, step_there, step_between}
 use Rattle.ts_name.proofs.Order.{before_itself, before_trans, before_cases, decide_before, before_turned}
@@ -250,19 +247,6 @@ module _ (A F S : Listing Stamp) (rules : List Rule) where
         ]
       ]
 
-  -- no rule names the root
-  no_root : (rules : List Rule) → AllByRecursion RuleFits rules → ¬ Any (RuleNames []) rules
-  no_root rules fit named =
-      unnamed named.1 (subst RuleFits named.3 (All-from_recursion RuleFits rules fit named.0 named.1 named.2)) named.4
-    where
-      snoc : (q : Path) (name : Name) → q ++ name ∷ [] ≢ []
-      snoc [] name e = cc
-      snoc (x ∷ q) name e = cc
-
-      unnamed : (rule : Rule) → RuleFits rule → ¬ RuleNames [] rule
-      unnamed (OnePath path) fits e = fits.1 (sym e)
-      unnamed (LastName pattern) fits found = snoc found.0 found.1 (sym found.2)
-
   pub walked_none : IsListing A → IsListing F → IsListing S → IsRules rules → IsWalked (record { archive = A; first = F; second = S }) [] [] [] []
   walked_none lists_a lists_f lists_s fit = record {
     b = [];
@@ -270,7 +254,7 @@ module _ (A F S : Listing Stamp) (rules : List Rule) where
     in_first = upto_none (λ q. at F q ≢ at A q) (λ n. n refl);
     in_second = upto_none (λ q. at S q ≢ at A q) (λ n. n refl);
     in_apart = upto_none (λ q. at F q ≢ at S q) (λ n. n refl);
-    in_held = top_none (IsHeldIn s) (λ h. no_root rules fit.each h.named);
+    in_held = top_none (IsHeldIn s) (λ h. root_unnamed rules fit h.named);
   }
 
   -- after the last path nothing is left

@@ -1,5 +1,5 @@
 -- The reason of a path by what is the same and what is held.
-use Rattle.std.proofs.Common.{◌≡◌, ◌≢◌, Bool, true, false, not, IsTrue, Option, Some, None, sym, refl, ap, ◌∙◌, subst, inl, inr}
+use Rattle.std.proofs.Common.{◌≡◌, ◌≢◌, Bool, true, false, IsTrue, Option, Some, None, sym, refl, ap, ◌∙◌, subst, inl, inr}
 use Rattle.ts_name.specs.Paths.{Path}
 use Rattle.ts_model.specs.Sync.{Snapshot, IsSnapshot, IsChanged, TouchesHeld, IsBelowDirs, AreBothDirs, HasReason, replica}
 use Rattle.ts_model.specs.Trees.{sub}
@@ -9,7 +9,7 @@ use Rattle.ts_model.specs.declared.plan.Side.{Side}
 use Rattle.ts_model.specs.declared.plan.Side.TheVariants as side
 use Rattle.ts_model.specs.declared.row.Content.TheVariants.{Dir}
 use Rattle.ts_laws.proofs.Basics.{stable}
-use Rattle.ts_name.proofs.Basics.{by_each, at_each}
+use Rattle.ts_name.proofs.Basics.{by_each}
 use Rattle.ts_laws.proofs.Deciding.{decide_changed}
 use Rattle.ts_model.proofs.Reasons.{one_because}
 use Rattle.ts_need.specs.Needs.{IsReasonOf, difference_reason}

@@ -2,14 +2,13 @@
 use Rattle.std.proofs.Common.{◌≡◌, ◌≢◌, ◌⊎◌, ◌↔◌, Bool, true, false, cond, ◌||◌, ◌&&◌, not, IsTrue, IfSome, List, [], ◌∷◌, ◌++◌, Option, Some, None, refl, sym, ap, subst, ◌∙◌, inl, inr, append-nil, append_assoc}
 use Rattle.ts_name.specs.Paths.{Name, Path, IsAbove, IsBefore}
 use Rattle.ts_name.proofs.Order.{above_first, before_cases, before_itself, before_trans, decide_before}
-use Rattle.ts_name.proofs.Prefixes.{above_itself, above_trans, last_name, snoc_not_empty}
+use Rattle.ts_name.proofs.Prefixes.{above_itself, above_trans, last_name}
 use Rattle.ts_model.specs.Sync.{Snapshot, AreBothDirs, Agree, HasReason, IsBelowDirs, IsChanged, IsHeldIn, IsSnapshot, TouchesHeld, listed_snapshot}
 use Rattle.ts_model.specs.Trees.{IsListing, Listing, at, sub}
-use Rattle.std.proofs.lemmas.List.Elements.{All-from_recursion}
-use Rattle.ts_model.specs.Holds.{Names, RuleNames}
-use Rattle.ts_model.specs.Texts.{IsRules, RuleFits}
+use Rattle.ts_model.specs.Holds.{Names}
+use Rattle.ts_model.specs.Texts.{IsRules}
+use Rattle.ts_hold.proofs.Naming.{root_unnamed}
 use Rattle.ts_model.specs.declared.hold.Rule.{Rule}
-use Rattle.ts_model.specs.declared.hold.Rule.TheVariants.{LastName, OnePath}
 use Rattle.ts_model.specs.declared.plan.Reason.{Reason}
 use Rattle.ts_model.specs.declared.plan.Reason.TheVariants as reason
 use Rattle.ts_model.specs.declared.plan.Side.TheVariants as side
@@ -60,14 +59,6 @@ module _ (A F S : Listing Stamp) (rules : List Rule) (lists_a : IsListing A) (li
 
   -- ---- the beginning
 
-  -- no rule names the root
-  root_unnamed : IsRules rules → ¬ Names rules []
-  root_unnamed fit named = unnamed named.1 (subst RuleFits named.3 (All-from_recursion RuleFits rules fit.each named.0 named.1 named.2)) named.4
-    where
-      unnamed : (rule : Rule) → RuleFits rule → ¬ RuleNames [] rule
-      unnamed (OnePath path) fits e = fits.1 (sym e)
-      unnamed (LastName pattern) fits found = snoc_not_empty found.0 found.1 (sym found.2)
-
   pub at_start : (left : Left) (holder : Option Path) → IsRules rules → left ≡ record { archive = A; first = F; second = S } → holder ≡ None → IsAt A F S rules [] left holder
   at_start left holder fit e_left e_holder = subst (λ (l : Left). IsAt A F S rules [] l holder) (sym e_left) (subst (λ (o : Option Path). IsAt A F S rules [] (record { archive = A; first = F; second = S }) o) (sym e_holder) begin)
     where
@@ -80,7 +71,7 @@ module _ (A F S : Listing Stamp) (rules : List Rule) (lists_a : IsListing A) (li
         is_left = left_all A F S lists_a lists_f lists_s;
         open_dirs = λ q name rest n later some. (ap (at F) (root_only q n), ap (at S) (root_only q n));
         held = tt;
-        covers = λ h q is n later some above. root_unnamed fit (subst (λ (z : Path). Names rules z) (root_only h n) is.named);
+        covers = λ h q is n later some above. root_unnamed rules fit (subst (λ (z : Path). Names rules z) (root_only h n) is.named);
       }
 
   -- ---- a step to p
