@@ -1,18 +1,24 @@
-//! Plans for two replicas of many paths, of which one in a hundred changed in one of them. Without words it does a few and
-//! says what it found; with a number of paths it also says how long it took.
+//! Plans for two replicas of many paths, of which one in a hundred changed in one of them, and checks the plan. Without words
+//! it does a few and says what it found; with a number of paths, and perhaps one of hold rules that name none of them, it also
+//! says how long each took.
 
 use crate::paths::line_at;
 use crate::words::number;
-use anyhow::Result;
+use anyhow::{Result, bail};
 use std::alloc::Global;
 use std::rt::Clock;
 use std::time::Instant;
+use ts_check::check;
 use ts_hold::Holds;
+use ts_model::plan::Plan;
 use ts_plan_build::resume;
 use ts_print::PrintReader;
 
 /// How many paths there are where no number is given.
 const FEW: u32 = 2_000;
+
+/// How many hold rules there are where no number is given.
+const FEW_RULES: u32 = 2;
 
 /// How many paths there are for one that changed.
 const FOR_ONE_CHANGE: u32 = 100;
@@ -28,26 +34,87 @@ fn print_of(alloc: Global, paths: u32, is_changed: bool) -> Result<ts_print::Pri
     Ok(reader.finish()?)
 }
 
-/// Plans for so many paths, or for a few.
+/// So many hold rules that name nothing: a quarter of them paths, a quarter names, and half patterns with a star.
+fn rules_of(alloc: Global, rules: u32) -> Result<Holds> {
+    let mut text = String::new(alloc);
+    for number in 0..rules {
+        let line = match number % 4 {
+            0 => format!(in alloc; "path /none/{number}\n")?,
+            1 => format!(in alloc; "name none{number}\n")?,
+            _ => format!(in alloc; "name *.none{number}\n")?,
+        };
+        text.push_str(line.as_str())?;
+    }
+    Ok(Holds::parse(alloc, text.as_bytes())?)
+}
+
+/// What a plan is made for.
+#[derive(Drop)]
+struct Case {
+    archive: ts_print::Print,
+    first: ts_print::Print,
+    second: ts_print::Print,
+    holds: Holds,
+}
+
+fn case_of(alloc: Global, paths: u32, rules: u32) -> Result<Case> {
+    Ok(Case {
+        archive: print_of(alloc, paths, false)?,
+        first: print_of(alloc, paths, true)?,
+        second: print_of(alloc, paths, false)?,
+        holds: rules_of(alloc, rules)?,
+    })
+}
+
+/// The plan for a case, and how many milliseconds it took.
+fn planned<R: Clock + AllocGlobal>(rt: &R, case: &Case) -> Result<(Plan, u128)> {
+    let start = Instant::now(rt)?;
+    let plan = resume(
+        rt.alloc(),
+        &case.archive,
+        &case.first,
+        &case.second,
+        &case.holds,
+    )?;
+    Ok((plan, start.elapsed(rt)?.as_millis()))
+}
+
+/// How many milliseconds it takes to check a plan.
+fn checked<R: Clock + AllocGlobal>(rt: &R, case: &Case, plan: &Plan) -> Result<u128> {
+    let start = Instant::now(rt)?;
+    let answer = check(
+        rt.alloc(),
+        plan,
+        &case.archive,
+        &case.first,
+        &case.second,
+        &case.holds,
+    );
+    if let Err(fault) = answer {
+        bail!("{fault}");
+    }
+    Ok(start.elapsed(rt)?.as_millis())
+}
+
+/// Plans for so many paths, or for a few, and checks the plan.
 pub fn measure<R>(rt: &R, words: &[String]) -> Result<()>
 where
     R: Clock + Print + AllocGlobal,
 {
-    let alloc = rt.alloc();
     let is_asked = !words.is_empty();
     let paths = if is_asked { number(words, 0)? } else { FEW };
-    let archive = print_of(alloc, paths, false)?;
-    let first = print_of(alloc, paths, true)?;
-    let second = print_of(alloc, paths, false)?;
-    let holds = Holds::parse(alloc, b"path /held\nname *.part\n")?;
-    let start = Instant::now(rt)?;
-    let plan = resume(alloc, &archive, &first, &second, &holds)?;
-    let took = start.elapsed(rt)?;
+    let rules = if words.len() > 1 {
+        number(words, 1)?
+    } else {
+        FEW_RULES
+    };
+    let case = case_of(rt.alloc(), paths, rules)?;
+    let (plan, planning) = planned(rt, &case)?;
+    let checking = checked(rt, &case, &plan)?;
     let (entries, actions) = (plan.entries.as_slice().len(), plan.actions.as_slice().len());
-    println!(rt; "{paths} paths: {entries} entries, {actions} actions")?;
+    println!(rt; "{paths} paths, {rules} rules: {entries} entries, {actions} actions, valid")?;
     if is_asked {
-        let millis = took.as_millis();
-        println!(rt; "planned in {millis} ms")?;
+        println!(rt; "planned in {planning} ms, checked in {checking} ms")?;
     }
     Ok(())
 }
