@@ -196,7 +196,8 @@ pub record NoneNearer (rules : List Rule) (keys : List ℕ) (name : Name) (path 
 -- ---- the order with a rule more
 
 pub order_with_none : (rules : List Rule) (order : List ℕ) (rule : Rule) → IsOrder rules order → NeedsNoPlace rules order rule → IsOrder (rules ++ rule ∷ []) order
-order_with_none rules order (OnePath new) ordered there = order_kept rules order (OnePath new) ordered (λ path same. let e : new ≡ path = cc in subst (λ z. (k : ℕ) × (k < length order) × (rule_at rules order k ≡ OnePath z)) e there)
+order_with_none rules order (OnePath new) ordered there =
+    order_kept rules order (OnePath new) ordered (λ path same. let e : new ≡ path = cc in subst (λ z. (k : ℕ) × (k < length order) × (rule_at rules order k ≡ OnePath z)) e there)
 order_with_none rules order (LastName pattern) ordered there = order_kept rules order (LastName pattern) ordered (λ path same. absurd cc)
 
 pub order_with : (rules : List Rule) (order : List ℕ) (rule : Rule) (place : ℕ) → IsOrder rules order → NeedsPlace rules order rule place

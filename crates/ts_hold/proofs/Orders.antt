@@ -111,7 +111,8 @@ order_more rules order rule new place ordered is_new at = record {
         ∙ get_or_push rules rule (LastName []) (length rules) refl
 
     at_lower : (k : ℕ) → k < place → rule_at (rules ++ rule ∷ []) (insert order place (length rules)) k ≡ rule_at rules order k
-    at_lower k low = ap (λ z. get_or (rules ++ rule ∷ []) z (LastName [])) (get_or-insert_below order place (length rules) 0 k low at.within) ∙ stays rules order rule k ordered (omega (arith, at.within))
+    at_lower k low =
+        ap (λ z. get_or (rules ++ rule ∷ []) z (LastName [])) (get_or-insert_below order place (length rules) 0 k low at.within) ∙ stays rules order rule k ordered (omega (arith, at.within))
 
     at_higher : (m : ℕ) → place ≤ m → m < length order → rule_at (rules ++ rule ∷ []) (insert order place (length rules)) (m + 1) ≡ rule_at rules order m
     at_higher m high inside = ap (λ z. get_or (rules ++ rule ∷ []) z (LastName [])) (get_or-insert_above order place (length rules) 0 m high at.within) ∙ stays rules order rule m ordered inside
@@ -148,7 +149,8 @@ order_more rules order rule new place ordered is_new at = record {
     new_at path now e = ap (λ z. rule_order z path) (e ∙ is_new)
 
     less : (j k : ℕ) (path : Path) → j < k → (x y : Rule) → Shifted rules order rule place j x → Shifted rules order rule place k y → rule_order y path ≡ Less → rule_order x path ≡ Less
-    less j k path before x y (lower low is_x) (lower high is_y) is = of path x (rule_at rules order j) is_x ∙ ordered.less j k path before (omega (arith, at.within)) (sym (of path y (rule_at rules order k) is_y) ∙ is)
+    less j k path before x y (lower low is_x) (lower high is_y) is =
+        of path x (rule_at rules order j) is_x ∙ ordered.less j k path before (omega (arith, at.within)) (sym (of path y (rule_at rules order k) is_y) ∙ is)
     less j k path before x y (lower low is_x) (put same is_y) is = of path x (rule_at rules order j) is_x ∙ less_less (rule_at rules order j) new path (at.less j low) (sym (new_at path y is_y) ∙ is)
     less j k path before x y (lower low is_x) (higher m up high inside is_y) is =
         of path x (rule_at rules order j) is_x ∙ ordered.less j m path (omega arith) inside (sym (of path y (rule_at rules order m) is_y) ∙ is)
@@ -162,8 +164,10 @@ order_more rules order rule new place ordered is_new at = record {
         of path x (rule_at rules order n) is_x ∙ ordered.less n m path (omega arith) inside (sym (of path y (rule_at rules order m) is_y) ∙ is)
 
     greater : (j k : ℕ) (path : Path) → j < k → (x y : Rule) → Shifted rules order rule place j x → Shifted rules order rule place k y → rule_order x path ≡ Greater → rule_order y path ≡ Greater
-    greater j k path before x y (lower low is_x) (lower high is_y) is = of path y (rule_at rules order k) is_y ∙ ordered.greater j k path before (omega (arith, at.within)) (sym (of path x (rule_at rules order j) is_x) ∙ is)
-    greater j k path before x y (lower low is_x) (put same is_y) is = new_at path y is_y ∙ less_greater (rule_at rules order j) new path (at.less j low) (sym (of path x (rule_at rules order j) is_x) ∙ is)
+    greater j k path before x y (lower low is_x) (lower high is_y) is =
+        of path y (rule_at rules order k) is_y ∙ ordered.greater j k path before (omega (arith, at.within)) (sym (of path x (rule_at rules order j) is_x) ∙ is)
+    greater j k path before x y (lower low is_x) (put same is_y) is =
+        new_at path y is_y ∙ less_greater (rule_at rules order j) new path (at.less j low) (sym (of path x (rule_at rules order j) is_x) ∙ is)
     greater j k path before x y (lower low is_x) (higher m up high inside is_y) is =
         of path y (rule_at rules order m) is_y ∙ ordered.greater j m path (omega arith) inside (sym (of path x (rule_at rules order j) is_x) ∙ is)
     greater j k path before x y (put same is_x) (lower high is_y) is = absurd (omega arith)

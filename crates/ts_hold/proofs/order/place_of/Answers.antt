@@ -6,7 +6,8 @@ pub next-preserved-in-Less : goal.next-preserved-in-Less
 next-preserved-in-Less c =
     let inside : c.next.low + (c.next.high - c.next.low) / 2 < length c.args.order.now = omega (arith, c.next-test.true, c.next.invariant.within) in
     let number = c.requires.within (c.next.low + (c.next.high - c.next.low) / 2) inside in
-    let is = rule_read c.args.rules.now c.args.order.now (c.next.low + (c.next.high - c.next.low) / 2) c.from.result c.index-rules-from.result c.from.ensures (omega (arith, number, c.from.ensures)) c.index-rules-from.is in
+    let is = rule_read c.args.rules.now c.args.order.now (c.next.low + (c.next.high - c.next.low) / 2) c.from.result c.index-rules-from.result c.from.ensures
+    (omega (arith, number, c.from.ensures)) c.index-rules-from.is in
     record {
       below = omega (arith, c.next-test.true);
       within = c.next.invariant.within;
@@ -18,7 +19,8 @@ pub next-preserved : goal.next-preserved
 next-preserved c =
     let inside : c.next.low + (c.next.high - c.next.low) / 2 < length c.args.order.now = omega (arith, c.next-test.true, c.next.invariant.within) in
     let number = c.requires.within (c.next.low + (c.next.high - c.next.low) / 2) inside in
-    let is = rule_read c.args.rules.now c.args.order.now (c.next.low + (c.next.high - c.next.low) / 2) c.from.result c.index-rules-from.result c.from.ensures (omega (arith, number, c.from.ensures)) c.index-rules-from.is in
+    let is = rule_read c.args.rules.now c.args.order.now (c.next.low + (c.next.high - c.next.low) / 2) c.from.result c.index-rules-from.result c.from.ensures
+    (omega (arith, number, c.from.ensures)) c.index-rules-from.is in
     record {
       below = omega (arith, c.next-test.true);
       within = omega (arith, inside);
