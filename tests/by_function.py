@@ -26,8 +26,10 @@ OTHER_BLOCK = re.compile(r"(?m)^(?:pub(?:\([^)]*\))? )?(?:unsafe )?(?:impl|trait
 REFUSED = "logic=not-proved, by a check of the function alone"
 # The prover's lines on a goal: with a place in the code, or with the proof file of a function.
 AT_A_PLACE = re.compile(r"note: (src/\S+?):(\d+):\d+: .*?\(`([\w-]+)`\)")
-IN_A_PROOF = re.compile(r"(?:\./)?(proofs/\S+)/\w+\.antt:\d+:\d+: error: `([\w-]+)`: (.*)")
+IN_A_PROOF = re.compile(r"(?:\./)?(proofs/\S+)/(\w+\.antt):\d+:\d+: error: `([\w-]+)`: (.*)")
 OF_A_PROOF = re.compile(r"note: `([\w-]+)` of (proofs/\S+)/\w+\.antt must prove: (.*)")
+# Answers that the prover left alone, since they cite what stands beside them and was rejected.
+UNCHECKED = re.compile(r"(?m)^(?:\./)?(proofs/\S+)/\w+\.antt:\S+ error: \d+ .* on `([\w-]+)`, .*rejected, .*checked: (.+)$")
 # A proof file that names what an edit took away says little of the contract.
 SAYS_LITTLE = re.compile(r"has no field|is not in scope|has no `|was not admitted")
 LITTLE = "only because a proof file names what the edit took away"
@@ -206,14 +208,26 @@ def texts_of(crate, tries):
     return texts
 
 
-def goals_in(output):
-    """Returns the goals that a check couldn't prove: file and line or folder of proofs, the goal's name, and what was said."""
+def is_shared(crate, folder, file, name):
+    """Whether a name in a file of answers is that of no goal, but of something that answers share."""
+    path = f"{crate.folder}/{folder}/{file}"
+    if file != "Answers.antt" or not os.path.isfile(path):
+        return False
+    with open(path, encoding="utf-8") as it:
+        return f"\npub {name} : goal.{name}\n" not in f"\n{it.read()}"
+
+
+def goals_in(crate, output):
+    """Returns the goals that a check couldn't prove: file and line or folder of proofs, the goal's name, and what was said. For
+    what answers share these are the goals that they answer."""
+    cited = {(it[1], it[2]): re.findall(r"[\w-]+", it[3]) for it in UNCHECKED.finditer(output)}
     found = []
     for line in output.split("\n"):
         if it := AT_A_PLACE.match(line):
             found.append(((it[1], int(it[2])), it[3], line))
         elif it := IN_A_PROOF.match(line):
-            found.append((it[1], it[2], line))
+            goals = cited.get((it[1], it[3]), []) if is_shared(crate, *it.groups()[:3]) else [it[3]]
+            found += [(it[1], goal, line) for goal in goals if not is_shared(crate, it[1], it[2], goal)]
         elif it := OF_A_PROOF.match(line):
             found.append((it[2], it[1], line))
     return found
@@ -299,7 +313,7 @@ def try_together(rt, crate, tries, flags, kept):
     rt.checked(crate, texts, flags + only(paths), kept)
     if not LAST.said.rstrip("\n").split("\n")[-1].startswith("only="):
         return
-    goals = goals_in(LAST.said)
+    goals = goals_in(crate, LAST.said)
     for it in tries:
         said = goals_of(it.places, goals)
         it.answer = judged(it, said) if said else None
@@ -312,7 +326,7 @@ def try_alone(rt, crate, it, flags, kept):
         is_refused, text = must_fail(rt, crate, it.edit, flags + only(it.only), kept)
     if not is_refused:
         is_refused, text = must_fail(rt, crate, it.edit, flags, None)
-    said = [(goal, line) for _, goal, line in goals_in(LAST.said)]
+    said = [(goal, line) for _, goal, line in goals_in(crate, LAST.said)]
     it.answer = judged(it, said) if is_refused and (said or clauses_to_break(it.edit)) else (is_refused, text)
 
 

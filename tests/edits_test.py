@@ -564,6 +564,26 @@ def an_edit_has_to_break_what_it_says(world):
     same("it doesn't break some, but nothing that was named" in world.said, True)
 
 
+def what_answers_share_breaks_what_they_answer(world):
+    put_functions(world)
+    answers = "both : A\nboth = tt\n\npub returns-clause-some : goal.returns-clause-some\nreturns-clause-some c = both\n"
+    world.put("crates/low/proofs/m/one/Answers.antt", answers)
+    lost = "./proofs/m/one/Answers.antt:2:8: error: `{}`: as printed, the two types first differ"
+    left = "proofs/m/one/Answers.antt:5:1: error: {} on `{}`, which was rejected, {} not checked: {}"
+    two = left.format("2 declarations that depend", "both", "were", "more, returns-clause-some")
+    one = left.format("1 declaration that depends", "returns-clause-some", "was", "returns-clause-none")
+    for said, wanted in [
+        ([lost.format("both"), two], "breaks some: "),
+        # an answer that others cite is that of its own goal
+        ([lost.format("returns-clause-some"), one], "breaks some: "),
+        # where it isn't told what it answers, no clause is named
+        ([lost.format("both")], "refused, as it must be: ./proofs/m/one"),
+    ]:
+        same((said, Prover(PROVED, failed(*said)).answers(world, "a"), wanted in world.said), (said, [True], True))
+    world.put("a.edit", "breaks: safety\nfile: src/m.rt\nold: a\nnew: aa\n")
+    same(Prover(PROVED, failed(lost.format("both"), two)).answers(world, "a"), [False])
+
+
 TESTS = [
     refusals_are_recorded_and_not_tried_again,
     whatever_a_check_reads_has_its_edits_tried_again,
@@ -595,6 +615,7 @@ TESTS = [
     edits_of_different_functions_are_tried_in_one_check,
     an_edit_of_which_nothing_is_said_is_tried_alone,
     an_edit_has_to_break_what_it_says,
+    what_answers_share_breaks_what_they_answer,
 ]
 
 
