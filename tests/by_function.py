@@ -10,18 +10,26 @@ import re
 import tempfile
 import threading
 import time
-from dataclasses import dataclass
+from dataclasses import dataclass, replace
 
 FUNCTION = re.compile(r"(?m)^( *)(?:pub(?:\([^)]*\))? )?(?:const )?(?:final )?fn (\w+)")
-# The type that an `impl` without a trait is of.
-OWN_IMPL = re.compile(r"^impl(?:<.*?>)? (\w+)(?:<.*>)?(?: \{|$)", re.MULTILINE)
+# An `impl`: its own parameters, its trait with the trait's arguments, and its type with the type's arguments.
+IMPL = re.compile(r"impl(?:<(.*?)>)? (?:(?:\w+::)*(\w+)(<.*>)? for )?(\w+)(<.*>)?(?: where\b.*)?")
+# What stands between brackets in the parameters of an `impl`: their bounds' arguments.
+IN_BRACKETS = re.compile(r"<[^<>]*>|\([^()]*\)|->")
+# What there is in arguments besides lifetimes: names, and what makes them more than names.
+IN_ARGUMENTS = re.compile(r"(?<!')\b\w+|[^\s<>,'\w]")
+# How rattle says that it has a function by another name.
+UNKNOWN = re.compile(r"has no function `(.+?)`")
 OTHER_BLOCK = re.compile(r"(?m)^(?:pub(?:\([^)]*\))? )?(?:unsafe )?(?:impl|trait|mod)\b")
 # What ends the output of a check of some functions, of which one is refused.
 REFUSED = "logic=not-proved, by a check of the function alone"
 # The prover's lines on a goal: with a place in the code, or with the proof file of a function.
 AT_A_PLACE = re.compile(r"note: (src/\S+?):(\d+):\d+: .*?\(`([\w-]+)`\)")
-IN_A_PROOF = re.compile(r"(?:\./)?(proofs/\S+)/\w+\.antt:\d+:\d+: error: `([\w-]+)`: (.*)")
+IN_A_PROOF = re.compile(r"(?:\./)?(proofs/\S+)/(\w+\.antt):\d+:\d+: error: `([\w-]+)`: (.*)")
 OF_A_PROOF = re.compile(r"note: `([\w-]+)` of (proofs/\S+)/\w+\.antt must prove: (.*)")
+# Answers that the prover left alone, since they cite what stands beside them and was rejected.
+UNCHECKED = re.compile(r"(?m)^(?:\./)?(proofs/\S+)/\w+\.antt:\S+ error: \d+ .* on `([\w-]+)`, .*rejected, .*checked: (.+)$")
 # A proof file that names what an edit took away says little of the contract.
 SAYS_LITTLE = re.compile(r"has no field|is not in scope|has no `|was not admitted")
 LITTLE = "only because a proof file names what the edit took away"
@@ -38,9 +46,9 @@ LAST = threading.local()
 
 @dataclass(frozen=True)
 class Place:
-    """Where an edit changes something: what to check alone, and the file, the name, the type and the lines of the function.
+    """Where an edit changes something: what to check alone, and the file, the name, the block and the lines of the function.
 
-    `only` is None where only a whole check tells, and `name` is empty outside of functions.
+    `only` is None where only a whole check tells, and `name` is empty outside of functions. A method's block is its `impl`.
     """
 
     only: str | None
@@ -54,9 +62,14 @@ class Place:
         return bool(self.name) and file == self.file and self.first <= line <= self.last
 
     def is_proved_in(self, folder):
-        """Whether a folder of proofs is the function's: its path has the module, for a method the type, and the name."""
+        """Whether a folder of proofs is the function's: its path has the module, for a method the block, and the name."""
         parts = folder.split("/")
         return bool(self.name) and parts[-1] == self.name and (not self.owner or self.owner in parts)
+
+    def without(self, path):
+        """Returns the place as it is to be checked where rattle has nothing of this path: with its module, or else with all."""
+        module = module_of(self.file) if self.file else None
+        return replace(self, only=module if module != path else None) if self.only == path else self
 
 
 def module_of(path):
@@ -73,6 +86,28 @@ def lines_of(text, start, indent):
     return text.count("\n", 0, start) + 1, text.count("\n", 0, end.start() if end else len(text)) + 1
 
 
+def name_of_impl(head):
+    """Returns the name that rattle has for an `impl` with this head, or None where it can't be told so simply.
+
+    The name has the words of the type and its arguments, of the trait and of the trait's arguments, without the parameters of the
+    `impl` itself. Without a trait it is the type's own name, or, where an argument is no parameter, all words with `+`.
+    """
+    found = IMPL.fullmatch(head)
+    if not found:
+        return None
+    own, trait, of_trait, owner, of_type = (it or "" for it in found.groups())
+    while IN_BRACKETS.search(own):
+        own = IN_BRACKETS.sub("", own)
+    own = {it.split(":")[0].split()[-1] for it in own.split(",") if it.strip()}
+    words, more = IN_ARGUMENTS.findall(of_type), IN_ARGUMENTS.findall(of_trait)
+    if not all(it.isidentifier() and it not in ("dyn", "fn", "impl", "mut") for it in words + more):
+        return None
+    if trait:
+        return "".join(it[0].upper() + it[1:] for it in [owner, *words, trait, *more] if it not in own)
+    is_plain = own.issuperset(words) and len({*words}) == len(words)
+    return owner if is_plain else "+".join([owner, *words])
+
+
 def changed_place(path, text, at):
     """Returns where a place in the text of a file stands. What can't be named so simply is checked with its module."""
     module = module_of(path)
@@ -87,10 +122,10 @@ def changed_place(path, text, at):
     if not indent:
         return Place(f"{module}::{found[-1][2]}", path, name, "", first, last)
     blocks = [it.start() for it in OTHER_BLOCK.finditer(text) if it.start() < found[-1].start()]
-    own = OWN_IMPL.match(text, blocks[-1]) if blocks else None
-    # a method stands below its type's module, wherever it is written
-    only = f"{own[1]}::{found[-1][2]}" if own else module
-    return Place(only, path, name, own[1] if own else "", first, last)
+    head = " ".join(text[blocks[-1] :].split("{", 1)[0].split()) if blocks else ""
+    owner = name_of_impl(head.removeprefix("unsafe ")) or ""
+    # (where an `impl` has no trait, the module may be the type's and not this file's)
+    return Place(f"{owner}::{found[-1][2]}" if owner else module, path, name, owner, first, last)
 
 
 def changes_of(edit):
@@ -173,14 +208,26 @@ def texts_of(crate, tries):
     return texts
 
 
-def goals_in(output):
-    """Returns the goals that a check couldn't prove: file and line or folder of proofs, the goal's name, and what was said."""
+def is_shared(crate, folder, file, name):
+    """Whether a name in a file of answers is that of no goal, but of something that answers share."""
+    path = f"{crate.folder}/{folder}/{file}"
+    if file != "Answers.antt" or not os.path.isfile(path):
+        return False
+    with open(path, encoding="utf-8") as it:
+        return f"\npub {name} : goal.{name}\n" not in f"\n{it.read()}"
+
+
+def goals_in(crate, output):
+    """Returns the goals that a check couldn't prove: file and line or folder of proofs, the goal's name, and what was said. For
+    what answers share these are the goals that they answer."""
+    cited = {(it[1], it[2]): re.findall(r"[\w-]+", it[3]) for it in UNCHECKED.finditer(output)}
     found = []
     for line in output.split("\n"):
         if it := AT_A_PLACE.match(line):
             found.append(((it[1], int(it[2])), it[3], line))
         elif it := IN_A_PROOF.match(line):
-            found.append((it[1], it[2], line))
+            goals = cited.get((it[1], it[3]), []) if is_shared(crate, *it.groups()[:3]) else [it[3]]
+            found += [(it[1], goal, line) for goal in goals if not is_shared(crate, it[1], it[2], goal)]
         elif it := OF_A_PROOF.match(line):
             found.append((it[2], it[1], line))
     return found
@@ -266,7 +313,7 @@ def try_together(rt, crate, tries, flags, kept):
     rt.checked(crate, texts, flags + only(paths), kept)
     if not LAST.said.rstrip("\n").split("\n")[-1].startswith("only="):
         return
-    goals = goals_in(LAST.said)
+    goals = goals_in(crate, LAST.said)
     for it in tries:
         said = goals_of(it.places, goals)
         it.answer = judged(it, said) if said else None
@@ -279,7 +326,7 @@ def try_alone(rt, crate, it, flags, kept):
         is_refused, text = must_fail(rt, crate, it.edit, flags + only(it.only), kept)
     if not is_refused:
         is_refused, text = must_fail(rt, crate, it.edit, flags, None)
-    said = [(goal, line) for _, goal, line in goals_in(LAST.said)]
+    said = [(goal, line) for _, goal, line in goals_in(crate, LAST.said)]
     it.answer = judged(it, said) if is_refused and (said or clauses_to_break(it.edit)) else (is_refused, text)
 
 
@@ -289,14 +336,26 @@ def must_fail(rt, crate, edit, flags, kept):
     return came if isinstance(came, bool) else came in (rt.REFUSED, rt.AT_LIMIT), text
 
 
+def is_proved_alone(rt, crate, tries, flags, kept):
+    """Whether the functions that some edits change are proved without any edit. A function that rattle has no such name for is
+    checked with its module from then on."""
+    while paths := sorted({path for it in tries for path in it.only}):
+        ran = rt.checked(crate, {}, flags + only(paths), kept)
+        unknown = UNKNOWN.search(ran.stdout)
+        if not unknown or unknown[1] not in paths:
+            return not ran.returncode
+        for it in tries:
+            it.places = {place.without(unknown[1]) for place in it.places}
+    return False
+
+
 def try_all(rt, crate, edits, flags, until=None):
     """Tries a crate's edits, and returns for each whether it was refused, and what to say; or None where it wasn't begun by
     the time `until`. What is said by functions counts only where the crate without any edit is proved over the same work."""
     judge_by_functions(rt)
     tries = [Try(crate, edit) for edit in edits]
     with tempfile.TemporaryDirectory(prefix="rt-edits-") as kept:
-        paths = sorted({path for it in tries for path in it.only})
-        is_sound = bool(paths) and not is_over(until) and not rt.checked(crate, {}, flags + only(paths), kept).returncode
+        is_sound = not is_over(until) and is_proved_alone(rt, crate, tries, flags, kept)
         for part in rounds_of(tries) if is_sound else []:
             if len(part) > 1 and not is_over(until):
                 try_together(rt, crate, part, flags, kept)

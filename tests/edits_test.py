@@ -405,7 +405,7 @@ def the_changed_function_is_named(_world):
         ("A:", ("m", "", 0, 0)),
         ("a\n", ("m::one", "one", 2, 4)),
         ("b\n", ("C::two", "two", 6, 8)),
-        ("c\n", ("m", "three", 11, 13)),
+        ("c\n", ("CD::three", "three", 11, 13)),
         ("let d", ("m::four", "four", 15, 18)),
         # what stands behind a function isn't of it
         ("E:", ("m::four", "", 15, 18)),
@@ -415,6 +415,39 @@ def the_changed_function_is_named(_world):
     same(named("src/m/mod.rt", "a\n")[0], "m::one")
     for path in ("src/lib.rt", "src/main.rt", "specs/M.antt", "proofs/m/Answers.antt"):
         same(named(path, "a\n"), (None, "", 0, 0))
+
+
+def an_impl_is_named_as_rattle_names_it(_world):
+    def place_in(head):
+        text = f"mod n;\n{head} {{\n    fn one() {{\n        a\n    }}\n}}\n"
+        return by_function.changed_place("src/m.rt", text, text.find("a\n"))
+
+    # as `rt check` printed them
+    for head, wanted in [
+        ("impl P", "P"),
+        ("impl<A, B> Q<B, A>", "Q"),
+        ("impl<T> Q<T, T>", "Q+T+T"),
+        ("impl<'a, T: F<u8, B> + G, const N: usize> W<'a, T, N>\nwhere\n    T: Sync,\n", "W"),
+        ("impl<T: Fn(u8, B) -> u8> Q<T, B>", "Q+T+B"),
+        ("impl P<u8>", "P+u8"),
+        ("impl<T> P<Option<Option<T>>>", "P+Option+Option+T"),
+        ("impl DiskSite<HostRuntime>", "DiskSite+HostRuntime"),
+        ("impl Rank<u8> for P<u8>", "PU8RankU8"),
+        ("impl<T> Rank<Option<T>> for P<Option<T>>", "POptionRankOption"),
+        ("impl<'a> fmt::Display for W<'a, 'static>", "WDisplay"),
+        ("unsafe impl<T: Drop> From<Lost<T>> for Fault", "FaultFromLost"),
+        # what isn't so simple is checked with its module
+        ("impl W<'_, n::N>", ""),
+        ("impl Flat for W<'_, (u8, bool)>", ""),
+        ("impl<T> Rank<&T> for P<T>", ""),
+        ("impl P<dyn Rank>", ""),
+        ("impl<T> Rank<T> for [T]", ""),
+        ("pub trait Rank<T>", ""),
+    ]:
+        place = place_in(head)
+        same((head, place.only, place.owner), (head, f"{wanted}::one" if wanted else "m", wanted))
+    [mine, other] = [place_in(f"impl From<{it}> for Fault") for it in ("Lost", "Late")]
+    same([it.is_proved_in("proofs/m/FaultFromLost/one") for it in (mine, other)], [True, False])
 
 
 class Prover:
@@ -482,6 +515,21 @@ def a_function_is_checked_before_its_crate(world):
         same(prover.texts[0], {})
 
 
+def a_function_of_another_name_is_checked_with_its_module(world):
+    put_functions(world)
+    unknown = "rattle: error: `low` has no function `{}`: help: write the name that a check prints"
+    no_method, no_module = (2, unknown.format("T::two")), (2, unknown.format("m"))
+    # the other edit stays with its function
+    prover = Prover(no_method, PROVED, failed(at(1, "returns"), at(7, "returns")))
+    same((prover.answers(world, "a", "b"), prover.flags[0]), ([True, True], ["T::two", "m::one"]))
+    same(prover.flags[1:], [["m", "m::one"]] * 2)
+    # where there is no such module, a whole check tells
+    prover = Prover(no_method, no_module, PROVED, failed(at(1, "returns")), NOT_PROVED)
+    same((prover.answers(world, "a", "b"), prover.flags[2:]), ([True, True], [["m::one"], ["m::one"], []]))
+    prover = Prover(no_method, no_module, NOT_PROVED)
+    same((prover.answers(world, "b"), prover.flags[2:]), ([True], [[]]))
+
+
 def edits_of_different_functions_are_tried_in_one_check(world):
     put_functions(world)
     both = "fn one() {\n    aa\n    c\n}\n\nimpl T {\n    fn two() {\n        bb\n    }\n}\n"
@@ -516,6 +564,26 @@ def an_edit_has_to_break_what_it_says(world):
     same("it doesn't break some, but nothing that was named" in world.said, True)
 
 
+def what_answers_share_breaks_what_they_answer(world):
+    put_functions(world)
+    answers = "both : A\nboth = tt\n\npub returns-clause-some : goal.returns-clause-some\nreturns-clause-some c = both\n"
+    world.put("crates/low/proofs/m/one/Answers.antt", answers)
+    lost = "./proofs/m/one/Answers.antt:2:8: error: `{}`: as printed, the two types first differ"
+    left = "proofs/m/one/Answers.antt:5:1: error: {} on `{}`, which was rejected, {} not checked: {}"
+    two = left.format("2 declarations that depend", "both", "were", "more, returns-clause-some")
+    one = left.format("1 declaration that depends", "returns-clause-some", "was", "returns-clause-none")
+    for said, wanted in [
+        ([lost.format("both"), two], "breaks some: "),
+        # an answer that others cite is that of its own goal
+        ([lost.format("returns-clause-some"), one], "breaks some: "),
+        # where it isn't told what it answers, no clause is named
+        ([lost.format("both")], "refused, as it must be: ./proofs/m/one"),
+    ]:
+        same((said, Prover(PROVED, failed(*said)).answers(world, "a"), wanted in world.said), (said, [True], True))
+    world.put("a.edit", "breaks: safety\nfile: src/m.rt\nold: a\nnew: aa\n")
+    same(Prover(PROVED, failed(lost.format("both"), two)).answers(world, "a"), [False])
+
+
 TESTS = [
     refusals_are_recorded_and_not_tried_again,
     whatever_a_check_reads_has_its_edits_tried_again,
@@ -541,10 +609,13 @@ TESTS = [
     an_edit_above_what_is_not_proved_fails_untried,
     libraries_without_a_stamp_have_to_be_newer_than_their_sources,
     the_changed_function_is_named,
+    an_impl_is_named_as_rattle_names_it,
     a_function_is_checked_before_its_crate,
+    a_function_of_another_name_is_checked_with_its_module,
     edits_of_different_functions_are_tried_in_one_check,
     an_edit_of_which_nothing_is_said_is_tried_alone,
     an_edit_has_to_break_what_it_says,
+    what_answers_share_breaks_what_they_answer,
 ]
 
 

@@ -16,6 +16,9 @@ const A_CHANGED_TOO: &[u8] =
 
 const A_B: &[u8] = b"f /a/b 1 3e23e8160039594a33894f6564e1b1348bbd7a0088d42c4acb73eeaed59c009d";
 
+const A_LONGER: &[u8] =
+    b"f /a 1048577 3e23e8160039594a33894f6564e1b1348bbd7a0088d42c4acb73eeaed59c009d";
+
 const D_X: &[u8] = b"f /d/x 1 ca978112ca1bbdcafac231b39a23dc4da786eff8147c4e72b9807785afee48bb";
 
 const D_X_CHANGED: &[u8] =
@@ -144,6 +147,21 @@ const FILES: &[Case] = &[
         &[A],
         b"",
         b"entry first /a\ncommit 0\nmark 0\np 0\n",
+    ),
+    // a change on one side: the pieces are those of the changed file
+    (
+        &[A],
+        &[A_LONGER],
+        &[A],
+        b"",
+        b"entry first /a\npiece 0 0 1048576 /a\npiece 0 1048576 1 /a\ncommit 0\np 0\np 1\nmark 0\np 2\n",
+    ),
+    (
+        &[A_LONGER],
+        &[A_LONGER],
+        &[A],
+        b"",
+        b"entry second /a\npiece 0 0 1 /a\ncommit 0\np 0\nmark 0\np 1\n",
     ),
     // different changes
     (

@@ -1,7 +1,9 @@
-//! Calls with ample memory of ts_tree, ts_print, ts_scan, ts_disk and ts_trial. A crate is proved a second time with its
-//! tests, so those that need nothing private of a library stand here.
+//! Calls with ample memory of ts_tree, ts_print, ts_scan, ts_disk, ts_through and ts_trial. A crate is proved a second time
+//! with its tests, so those that need nothing private of a library stand here.
 #![tactic(auto)]
 
+#[cfg(test)]
+mod carried;
 #[cfg(test)]
 mod disks;
 #[cfg(test)]

@@ -18,7 +18,7 @@ fn number_of(alloc: Global, text: &[u8], step: usize, lost: Option<usize>) -> u8
 }
 
 /// Whether this is the print's text.
-fn has_text(alloc: Global, print: &Print, text: &[u8]) -> bool {
+pub(crate) fn has_text(alloc: Global, print: &Print, text: &[u8]) -> bool {
     let mut sink = sink_of(alloc, 1_000, 1_000_000);
     encode(alloc, print, &mut sink).is_ok() && has_taken(sink, text)
 }

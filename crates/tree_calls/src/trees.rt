@@ -72,7 +72,7 @@ fn number_of(alloc: Global, source: Counted<Drip<'_>>) -> u8 {
 }
 
 /// Whether this is the tree's text.
-fn has_text(alloc: Global, tree: &Tree, text: &[u8]) -> bool {
+pub(crate) fn has_text(alloc: Global, tree: &Tree, text: &[u8]) -> bool {
     let mut sink = sink_of(alloc, 1_000, 1_000_000);
     encode(alloc, tree, &mut sink).is_ok() && has_taken(sink, text)
 }
