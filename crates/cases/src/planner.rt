@@ -9,12 +9,12 @@ mod reasons;
 
 use crate::planner::altered::{Tally, altered, try_entries};
 use crate::planner::cases::{Case, Place, places};
-use crate::planner::reasons::{Sight, found_at, is_same, searched, sights};
+use crate::planner::reasons::{Found, Sight, found_at, is_same, searched, sights};
 use anyhow::{Result, bail, ensure};
 use rand_pcg::Pcg32;
 use std::alloc::Global;
 use ts_check::check;
-use ts_dirty::{Marks, detect};
+use ts_dirty::{Marked, Marks, Near, detect};
 use ts_model::plan::{Entry, Reason, Side};
 use ts_plan_build::resume;
 
@@ -49,18 +49,38 @@ impl Met {
     }
 }
 
-/// Whether the marks say of each path what a search finds.
+/// Whether marks are what a search finds.
+fn is_marked(marked: Marked, found: Found) -> bool {
+    marked.first == found.first
+        && marked.second == found.second
+        && marked.agree != found.apart
+        && marked.touches_held == found.is_held
+}
+
+/// Whether the marks say of each path what a search finds: asked one by one, and in two rounds of looks one after another.
 fn are_marked(marks: &Marks, places: &[Place], sights: &[Sight]) -> bool {
-    places.iter().all(|place| {
+    let mut near = Near::start();
+    for place in places.iter().chain(places) {
         let path = &place.path;
         let found = found_at(sights, path);
-        marks.changed(Side::First, path) == found.first
-            && marks.changed(Side::Second, path) == found.second
-            && marks.dirty(Side::First, path) == (found.first || found.is_held)
-            && marks.dirty(Side::Second, path) == (found.second || found.is_held)
-            && marks.agree(path) != found.apart
-            && marks.touches_held(path) == found.is_held
-    })
+        let asked = Marked {
+            first: marks.changed(Side::First, path),
+            second: marks.changed(Side::Second, path),
+            agree: marks.agree(path),
+            touches_held: marks.touches_held(path),
+        };
+        let dirty = (
+            marks.dirty(Side::First, path),
+            marks.dirty(Side::Second, path),
+        );
+        if !is_marked(asked, found)
+            || !is_marked(marks.look(&mut near, path), found)
+            || dirty != (found.first || found.is_held, found.second || found.is_held)
+        {
+            return false;
+        }
+    }
+    true
 }
 
 /// Tries the planner on a case, whose reasons are wanted, and the checker on its plan.

@@ -2,7 +2,8 @@
 use Rattle.std.proofs.Common.{◌≡◌, ◌≢◌, ◌⊎◌, ◌↔◌, ℕ, ◌+◌, ◌-◌, ◌<◌, ◌≤◌, Bool, true, false, List, ◌++◌, length, get_or, Contains, Less, refl, sym, ap, ◌∙◌, subst, inl, inr, arith, IsTrue, not}
 use Rattle.std.proofs.lemmas.Bool.{cases_lt, cases_order}
 use Rattle.std.proofs.lemmas.List.Elements.{at_read}
-use Rattle.std.specs.List.{HoldsAt}
+use Rattle.std.specs.List.{AllWithin, HoldsAt}
+use Rattle.std.proofs.lemmas.List.{get_or_default}
 use Rattle.std.specs.List.Sorted.{IsPartitionedBy, IsPartitionPoint}
 use Rattle.std.specs.Ordering.{is_lt}
 use Rattle.ts_name.specs.Paths.{Path, IsAbove, IsBefore, path_cmp}
@@ -40,6 +41,31 @@ place_parts ps p at parts = (
 
 abbrev IsPlace : List Path → Path → ℕ → Type 0
 IsPlace ps p at = IsPartitionPoint (λ q. IsBefore q p) (λ q. ¬ IsBefore q p) ps at
+
+-- ---- from an earlier place on
+
+-- where the last of the first paths comes before p, they all do
+pub all_before : (ps : List Path) (p : Path) (n : ℕ) (x : Path) → AreAscending ps → 0 < n → n ≤ length ps → x ≡ get_or ps (n - 1) x → IsBefore x p → AllWithin (λ q. IsBefore q p) ps 0 n
+all_before ps p n x ascending some le is less k d low high = elim (cases_lt k (n - 1)) [
+  | inl lower ↦ before_trans (get_or ps k d) (get_or ps (n - 1) d) p (ascending k (n - 1) d lower (omega arith)) last
+  | inr not_lower ↦ let same : k ≡ n - 1 = omega arith in subst (λ (i : ℕ). IsBefore (get_or ps i d) p) (sym same) last
+]
+  where
+    last : IsBefore (get_or ps (n - 1) d) p
+    last = subst (λ (z : Path). IsBefore z p) (is ∙ get_or_default ps (n - 1) x d (omega arith)) less
+
+-- where the next one doesn't come before p, none of the others does
+pub parts_here : (ps : List Path) (p : Path) (n : ℕ) (x : Path) → AreAscending ps → AllWithin (λ q. IsBefore q p) ps 0 n → n < length ps → x ≡ get_or ps n x → ¬ IsBefore x p → IsPlace ps p n
+parts_here ps p n x ascending front lt is not_less = (
+  front,
+  λ k d low high less. elim (cases_lt n k) [
+    | inl beyond ↦ here d (before_trans (get_or ps n d) (get_or ps k d) p (ascending n k d beyond high) less)
+    | inr not_beyond ↦ here d (let same : n ≡ k = omega arith in subst (λ (i : ℕ). IsBefore (get_or ps i d) p) (sym same) less)
+  ],
+)
+  where
+    here : (d : Path) → ¬ IsBefore (get_or ps n d) p
+    here d less = not_less (subst (λ (z : Path). IsBefore z p) (sym (is ∙ get_or_default ps n x d lt)) less)
 
 -- the path at a place, where it is at or below p
 pub below_found : (ps : List Path) (p : Path) (at : ℕ) (x : Path) → at < length ps → x ≡ get_or ps at x → IsAbove p x → HasBelow ps p

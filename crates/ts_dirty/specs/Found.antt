@@ -1,9 +1,12 @@
 -- What is found of two replicas and an archive.
 --     Found             the paths where something differs, and the topmost held paths
 --     IsFoundOf s m     these are those of the snapshot
-use Rattle.std.specs.Prelude.{◌≡◌, ◌≢◌, ◌↔◌, ℕ, ◌-◌, ◌<◌, List, length, slice_index_or, Contains}
+--     IsMarked s p m    what is said of a path is so
+use Rattle.std.specs.Prelude.{◌≡◌, ◌≢◌, ◌↔◌, IsTrue, ℕ, ◌-◌, ◌<◌, List, length, slice_index_or, Contains}
 use Rattle.ts_name.specs.Paths.{Path, IsAbove, IsBefore}
-use Rattle.ts_model.specs.Sync.{Snapshot, IsHeldIn}
+use Rattle.ts_model.specs.Sync.{Agree, IsChanged, IsHeldIn, Snapshot, TouchesHeld}
+use Rattle.ts_model.specs.declared.plan.Side.TheVariants as side
+use Rattle.ts_dirty.specs.declared.marks.Marked.{Marked}
 
 -- each path comes before those after it
 abbrev pub AreAscending : List Path → Type 0
@@ -47,3 +50,10 @@ pub record IsFoundOf (s : Snapshot) (m : Found) : Type 0 where
 -- the last one of the paths is above p
 abbrev pub LastIsAbove : List Path → Path → Type 0
 LastIsAbove paths p = (last : Path) × (0 < length paths) × (last ≡ slice_index_or paths (length paths - 1) last) × IsAbove last p
+
+-- what is said of a path is so
+pub record IsMarked (s : Snapshot) (p : Path) (marked : Marked) : Type 0 where
+  pub first : IsTrue marked.first ↔ IsChanged s side.First p
+  pub second : IsTrue marked.second ↔ IsChanged s side.Second p
+  pub agree : IsTrue marked.agree ↔ Agree s p
+  pub touches_held : IsTrue marked.touches_held ↔ TouchesHeld s p

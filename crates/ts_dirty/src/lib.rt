@@ -5,4 +5,4 @@ mod detection;
 mod marks;
 
 pub use detection::detect;
-pub use marks::Marks;
+pub use marks::{Marked, Marks, Near};

@@ -1,6 +1,7 @@
+ghost use Rattle.std.specs.List.{AllWithin};
 ghost use Rattle.std.specs.List.Sorted.{IsPartitionPoint};
 ghost use Rattle.std.specs.Prelude.{◌≡◌, ◌⊎◌, ◌↔◌, ◌≤◌, IsTrue, length};
-ghost use Rattle.ts_dirty.specs.Found.{AreAscending, AreTopmost, HasAbove, HasBelow, IsFoundOf};
+ghost use Rattle.ts_dirty.specs.Found.{AreAscending, AreTopmost, HasAbove, HasBelow, IsFoundOf, IsMarked};
 ghost use Rattle.ts_model.specs.Sync.{Agree, IsChanged, IsDirty, Snapshot, TouchesHeld};
 ghost use Rattle.ts_name.specs.Paths.{IsBefore};
 
@@ -74,12 +75,62 @@ impl Marks {
         !any_below(self.apart.as_slice(), path)
     }
 
+    /// All that the marks say of a path. Looks at paths that come one after another, with the same `near`, pass each mark once.
+    pub fn look(&self, near: &mut Near, path: &Path) -> Marked
+        ensures { (s : Snapshot) → IsFoundOf s self.now → IsMarked s path.now result }
+    {
+        near.first = place_near(self.first.as_slice(), near.first, path);
+        near.second = place_near(self.second.as_slice(), near.second, path);
+        near.apart = place_near(self.apart.as_slice(), near.apart, path);
+        near.held = place_near(self.held.as_slice(), near.held, path);
+        Marked {
+            first: any_below_at(self.first.as_slice(), near.first, path),
+            second: any_below_at(self.second.as_slice(), near.second, path),
+            agree: !any_below_at(self.apart.as_slice(), near.apart, path),
+            touches_held: touches_at(self.held.as_slice(), near.held, path),
+        }
+    }
+
     /// Whether a held path is above the path, below it or the path itself.
     pub fn touches_held(&self, path: &Path) -> bool
         ensures { (s : Snapshot) → IsFoundOf s self.now → (IsTrue result ↔ TouchesHeld s path.now) }
     {
         touches(self.held.as_slice(), path)
     }
+}
+
+/// How many marks of each kind come before the path of the last look.
+#[derive(Clone, Copy, Debug)]
+pub struct Near {
+    first: usize,
+    second: usize,
+    apart: usize,
+    held: usize,
+}
+
+impl Near {
+    /// Before the first look.
+    pub fn start() -> Near {
+        Near {
+            first: 0,
+            second: 0,
+            apart: 0,
+            held: 0,
+        }
+    }
+}
+
+/// What the marks say of a path.
+#[derive(Clone, Copy, Debug, PartialEq, Eq)]
+pub struct Marked {
+    /// Something at the path or below it changed in the first replica.
+    pub first: bool,
+    /// Something at the path or below it changed in the second replica.
+    pub second: bool,
+    /// The replicas have the same there.
+    pub agree: bool,
+    /// A held path is above it, below it or the path itself.
+    pub touches_held: bool,
 }
 
 /// How many of the paths come before this one.
@@ -91,12 +142,46 @@ fn place(paths: &[Path], path: &Path) -> usize
     paths.partition_point(|other| other.cmp(path).is_lt())
 }
 
+/// The same, where the place of an earlier look is near: looks at paths that come one after another pass each path of the list
+/// once. A place that is of no use costs no more than halving.
+fn place_near(paths: &[Path], near: usize, path: &Path) -> usize
+    requires { AreAscending paths.now }
+    ensures bound { result ≤ length paths.now }
+    ensures split { IsPartitionPoint (λ q. IsBefore q path.now) (λ q. ¬ IsBefore q path.now) paths.now result }
+{
+    if !all_before(paths, near, path) {
+        return place(paths, path);
+    }
+    let mut at = near;
+    while at < paths.len() && paths[at].cmp(path).is_lt() {
+        at += 1;
+    }
+    at
+}
+
+/// Whether there are so many paths, and the last of them comes before this one.
+fn all_before(paths: &[Path], count: usize, path: &Path) -> bool
+    requires { AreAscending paths.now }
+    ensures bound { IsTrue result → count ≤ length paths.now }
+    ensures before { IsTrue result → AllWithin (λ q. IsBefore q path.now) paths.now 0 count }
+{
+    count == 0 || (count <= paths.len() && paths[count - 1].cmp(path).is_lt())
+}
+
 /// Whether one of the paths is at this one or below it.
 fn any_below(paths: &[Path], path: &Path) -> bool
     requires { AreAscending paths.now }
     ensures { IsTrue result ↔ HasBelow paths.now path.now }
 {
-    let at = place(paths, path);
+    any_below_at(paths, place(paths, path), path)
+}
+
+/// The same, where so many of the paths come before this one.
+fn any_below_at(paths: &[Path], at: usize, path: &Path) -> bool
+    requires ascending { AreAscending paths.now }
+    requires split { IsPartitionPoint (λ q. IsBefore q path.now) (λ q. ¬ IsBefore q path.now) paths.now at }
+    ensures { IsTrue result ↔ HasBelow paths.now path.now }
+{
     if at < paths.len() {
         path.is_prefix(&paths[at])
     } else {
@@ -110,21 +195,33 @@ fn touches(paths: &[Path], path: &Path) -> bool
     requires topmost { AreTopmost paths.now }
     ensures { IsTrue result ↔ (HasAbove paths.now path.now ⊎ HasBelow paths.now path.now) }
 {
-    if any_below(paths, path) {
+    touches_at(paths, place(paths, path), path)
+}
+
+/// The same, where so many of the paths come before this one.
+fn touches_at(paths: &[Path], at: usize, path: &Path) -> bool
+    requires ascending { AreAscending paths.now }
+    requires topmost { AreTopmost paths.now }
+    requires bound { at ≤ length paths.now }
+    requires split { IsPartitionPoint (λ q. IsBefore q path.now) (λ q. ¬ IsBefore q path.now) paths.now at }
+    ensures { IsTrue result ↔ (HasAbove paths.now path.now ⊎ HasBelow paths.now path.now) }
+{
+    if any_below_at(paths, at, path) {
         true
     } else {
-        any_above(paths, path)
+        any_above_at(paths, at, path)
     }
 }
 
-/// Whether one of the paths is above this one, where none is at it or below it.
-fn any_above(paths: &[Path], path: &Path) -> bool
+/// Whether one of the paths is above this one, where none is at it or below it, and so many come before it.
+fn any_above_at(paths: &[Path], at: usize, path: &Path) -> bool
     requires ascending { AreAscending paths.now }
     requires topmost { AreTopmost paths.now }
+    requires bound { at ≤ length paths.now }
+    requires split { IsPartitionPoint (λ q. IsBefore q path.now) (λ q. ¬ IsBefore q path.now) paths.now at }
     requires none_below { ¬ HasBelow paths.now path.now }
     ensures { IsTrue result ↔ HasAbove paths.now path.now }
 {
-    let at = place(paths, path);
     if at > 0 {
         paths[at - 1].is_prefix(path)
     } else {

@@ -4,26 +4,31 @@ ghost use Rattle.ts_model.specs.Sync.{Because, IsBelowDirs, Snapshot};
 ghost use Rattle.ts_model.specs.declared.row.Content.TheVariants.{Dir};
 ghost use Rattle.ts_recon.specs.Reasons.{IsBecause, IsReasonOf, differing_reason, IsTripleOf};
 
-use ts_dirty::Marks;
-use ts_model::plan::{Reason, Side};
+use ts_dirty::{Marks, Near};
+use ts_model::plan::Reason;
 use ts_model::row::{Content, Stamp};
 use ts_print::Triple;
 
 /// The reason of the path, None where it has none. Its parent is a directory of both replicas where it has at
-/// most `shared` names.
-pub(crate) fn reason_at(marks: &Marks, seen: &Triple, shared: usize) -> Option<Reason>
+/// most `shared` names. `near` is where the marks of the path before it were found.
+pub(crate) fn reason_at(
+    marks: &Marks,
+    near: &mut Near,
+    seen: &Triple,
+    shared: usize,
+) -> Option<Reason>
     ensures { (s : Snapshot) → IsFoundOf s marks.now → IsTripleOf s seen.now
         → (IsBelowDirs s.first s.second seen.now.path.now ↔ (length seen.now.path.now - 1 ≤ shared)) → IsReasonOf s seen.now.path.now result }
 {
     if seen.path.depth().saturating_sub(1) <= shared {
-        reason_below_dirs(marks, seen)
+        reason_below_dirs(marks, near, seen)
     } else {
         None
     }
 }
 
 /// The reason of a path below directories of both replicas, None where it has none.
-fn reason_below_dirs(marks: &Marks, seen: &Triple) -> Option<Reason>
+fn reason_below_dirs(marks: &Marks, near: &mut Near, seen: &Triple) -> Option<Reason>
     ensures { (s : Snapshot) → IsFoundOf s marks.now → IsTripleOf s seen.now → IsBecause s seen.now.path.now result }
 {
     if is_shared(seen) {
@@ -33,13 +38,15 @@ fn reason_below_dirs(marks: &Marks, seen: &Triple) -> Option<Reason>
             Some(Reason::Dir)
         };
     }
-    let first = marks.changed(Side::First, seen.path);
-    if marks.agree(seen.path) {
-        return if first { Some(Reason::Same) } else { None };
+    let marked = marks.look(near, seen.path);
+    if marked.agree {
+        return if marked.first {
+            Some(Reason::Same)
+        } else {
+            None
+        };
     }
-    let second = marks.changed(Side::Second, seen.path);
-    let is_held = marks.touches_held(seen.path);
-    Some(differing(first, second, is_held))
+    Some(differing(marked.first, marked.second, marked.touches_held))
 }
 
 /// The reason where the replicas differ.

@@ -6,7 +6,7 @@ ghost use Rattle.ts_recon.specs.Reasons.{AreReasons, with_reason};
 
 use crate::reason::{is_shared, reason_at};
 use std::alloc::{AllocError, Global};
-use ts_dirty::Marks;
+use ts_dirty::{Marks, Near};
 use ts_model::plan::{Entry, Reason};
 use ts_name::Path;
 use ts_print::{Print, walk3};
@@ -29,12 +29,13 @@ pub fn reasons(
     let mut entries = Vec::new(alloc);
     // how many names of the path that the walk is at lead down directories of both replicas
     let mut shared = 0;
+    let mut near = Near::start();
     for seen in walk3(archive, first, second) {
         add(
             alloc,
             &mut entries,
             seen.path,
-            reason_at(marks, &seen, shared),
+            reason_at(marks, &mut near, &seen, shared),
         )?;
         shared = shared_after(shared, seen.path.depth(), is_shared(&seen));
     }
