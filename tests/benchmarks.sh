@@ -2,6 +2,9 @@
 # Measures how long large texts take to write and to read, and how much memory what was read takes: an archive of
 # 50,000 and of 200,000 paths, and a plan of 262,144 and of 1,048,576 actions with four predecessors each. The last
 # column has each time divided by the one at a quarter of the size: near 4 where time is linear.
+# Then measures the planner and the checker over two replicas of 50,000, 200,000 and 800,000 paths, of which one in a hundred
+# changed: the last columns have each time divided by the one at a quarter of the size. And over 200,000 paths without hold
+# rules and with 4,096 of them, the most that there may be.
 # Then measures how long 1, 2 and 4 workers take to copy 262,144 new files in memory, with the speed-up over 1 worker, and
 # how much of it came after the last actions had begun: the end of the workers, the sweep and the outcome. Each is the
 # least of five runs, taken in turn.
@@ -44,6 +47,27 @@ both() {
 
 both archive 50000 200000 4
 both plan 262144 1048576 21
+
+# Plans for so many paths by so many hold rules, and checks the plan, five times: the least milliseconds of each
+planned() {
+  for _ in 1 2 3 4 5; do "$program" plan "$1" "$2"; done | awk '
+    /^planned/ { if (!runs++ || $3 < planned) planned = $3; if (runs == 1 || $7 < checked) checked = $7 }
+    END { print planned, checked }'
+}
+
+quarter=''
+for paths in 50000 200000 800000; do
+  times=$(planned "$paths" 2)
+  echo "$paths $times $quarter" | awk '{
+    printf "%7d paths  plan %5d ms  check %5d ms", $1, $2, $3
+    if (NF > 3 && $4 > 0 && $5 > 0) printf "  times: %.1f, %.1f", $2 / $4, $3 / $5
+    print ""
+  }'
+  quarter=$times
+done
+for rules in 0 4096; do
+  echo "200000 paths, $rules rules: $(planned 200000 "$rules" | awk '{ print "plan " $1 " ms, check " $2 " ms" }')"
+done
 
 for _ in 1 2 3 4 5; do
   for workers in 1 2 4; do "$program" run 262144 "$workers"; done
