@@ -174,23 +174,21 @@ fn walked(
     Some((steps, walk.next().is_none()))
 }
 
-/// Whether a walk passes just what is at `/a` and below it, and goes on behind that.
+/// Whether a walk passes two paths at this one or below it, and goes on behind them.
 fn passes_below(archive: &Print, first: &Print, second: &Print, top: &Path) -> bool {
     let mut walk = walk3(archive, first, second);
-    let mut passed = 0;
-    for _ in 0..9 {
-        if walk.next_from(top).is_none() {
-            break;
-        }
-        passed += 1;
+    let passed = [
+        walk.next_from(top).is_some(),
+        walk.next_from(top).is_some(),
+        walk.next_from(top).is_some(),
+    ];
+    match walk.next() {
+        Some(next) => passed == [true, true, false] && !top.is_prefix(next.path),
+        None => false,
     }
-    let Some(next) = walk.next() else {
-        return false;
-    };
-    passed == 2 && !top.is_prefix(next.path)
 }
 
-/// The same of prints of these lines.
+/// What a walk over prints of these lines sees.
 fn walked_lines(alloc: Global) -> Option<([[u8; 3]; 3], bool)> {
     let archive = print_of(alloc, &[ONE])?;
     let first = print_of(alloc, &[b"d /a", b"d /a/b"])?;
@@ -198,7 +196,7 @@ fn walked_lines(alloc: Global) -> Option<([[u8; 3]; 3], bool)> {
     walked(alloc, &archive, &first, &second)
 }
 
-/// The same of prints of these lines.
+/// Whether a walk over such prints passes just `/a` and `/a/b` so.
 fn lines_pass_below(alloc: Global) -> Option<bool> {
     let archive = print_of(alloc, &[ONE])?;
     let first = print_of(alloc, &[b"d /a", b"d /a/b"])?;
