@@ -9,7 +9,7 @@ use crate::modes::{PRIVATE_FILE, permissions};
 use crate::place::{Standing, flush_dir, kind_at};
 use std::alloc::Global;
 use std::fs::{File, Files, OpenOptions, Permissions};
-use std::io::{ErrorKind, Read};
+use std::io::{BufWriter, ErrorKind, Read, Write};
 use std::os::unix::fs::{OpenOptionsExt, PermissionsExt};
 use std::{fs, io};
 use ts_archive::ArchiveFault;
@@ -78,12 +78,7 @@ impl ArchivePlace {
         ensures done { OnOk result (self.exit.now.is_done ≡ true) }
         ensures kept { (self.exit.now.place ≡ self.entry.now.place) × (self.exit.now.new ≡ self.entry.now.new) }
     {
-        let mut sink = Counted::new(&self.file);
-        match ts_archive::encode(alloc, archive, &mut sink) {
-            Ok(()) => {}
-            Err(ArchiveFault::OutOfMemory) => return Err(DiskFault::OutOfMemory),
-            Err(_) => return Err(DiskFault::Failed),
-        }
+        write_text(&self.file, alloc, archive)?;
         self.file.sync_all().map_err(|_| DiskFault::Failed)?;
         fs::rename(files, self.new.as_str(), self.place.as_str()).map_err(|_| DiskFault::Failed)?;
         self.is_done = true;
@@ -96,6 +91,18 @@ impl ArchivePlace {
             let _ = fs::remove_file(files, self.new.as_str());
         }
     }
+}
+
+/// Writes the text of an archive to a file, line by line through a buffer.
+fn write_text(file: &File, alloc: Global, archive: &Print) -> Result<(), DiskFault> {
+    let out = BufWriter::new(alloc, file).map_err(|_| DiskFault::OutOfMemory)?;
+    let mut sink = Counted::new(out);
+    match ts_archive::encode(alloc, archive, &mut sink) {
+        Ok(()) => {}
+        Err(ArchiveFault::OutOfMemory) => return Err(DiskFault::OutOfMemory),
+        Err(_) => return Err(DiskFault::Failed),
+    }
+    sink.inner.flush().map_err(|_| DiskFault::Failed)
 }
 
 /// Where a name leads when links are followed; nothing needs to be there.
