@@ -1,6 +1,7 @@
 #!/usr/bin/env bash
 # Runs the built program on a bundle of 20,000 entries, or as many as are asked for, and compares what it writes with
-# what the rules say: the first replica's new files are copied, and the archive has them.
+# what the rules say: the first replica's new files are copied, and the archive has them. Then it looks whether several
+# threads check such a plan: one worker carries out in the thread that it is called in, so that threads come from the checker.
 # usage: tests/large_bundle.sh [ENTRIES] [PROGRAM]
 set -u
 cd "$(dirname "$0")/.."
@@ -39,13 +40,25 @@ tree() { awk -v n="$entries" -v x="$byte" 'BEGIN { for (i = 0; i < n; i++) print
   }'
 } >"$work/want"
 
+passed=0
+failed=0
+note() {
+  if [ "$1" = 0 ]; then passed=$((passed + 1)); else failed=$((failed + 1)); echo "FAILED: $2"; fi
+}
+
 "$program" trial <"$work/in" >"$work/got"
 status=$?
-if [ "$status" = 0 ] && cmp -s "$work/got" "$work/want"; then
-  echo "bundle of $entries entries: 1 passed, 0 failed"
-else
-  echo "status $status"
-  diff "$work/want" "$work/got" | head -n 5
-  echo "bundle of $entries entries: 0 passed, 1 failed"
-  exit 1
-fi
+[ "$status" = 0 ] && cmp -s "$work/got" "$work/want"
+note $? "a bundle of $entries entries: status $status, $(diff "$work/want" "$work/got" | head -n 5)"
+
+# how many threads a trial by one worker begins
+threads() { strace -f -qq -e trace=clone,clone3 -o "$work/calls" "$program" trial --workers 1 <"$1" >"$work/got" && grep -c 'clone' "$work/calls"; }
+begun=$(threads "$work/in")
+[ "$(nproc)" = 1 ] || [ "$begun" -gt 0 ]
+note $? "$begun threads for a plan of $((3 * entries)) actions, of $(nproc) processors"
+begun=$(threads tests/worked_bundles/copy_new_file.in)
+[ "$begun" = 0 ]
+note $? "$begun threads for a plan of three actions"
+
+echo "$passed passed, $failed failed"
+[ "$failed" = 0 ]

@@ -7,6 +7,7 @@ use crate::words::number;
 use anyhow::{Context, Result, bail};
 use std::alloc::Global;
 use std::rt::{Clock, Files};
+use std::thread::Threads;
 use std::time::{Duration, Instant};
 use ts_check::{CheckFault, Checked, check};
 use ts_hold::Holds;
@@ -167,13 +168,14 @@ fn actions_of(answer: Result<Checked<'_>, CheckFault>) -> Result<u32> {
 }
 
 /// Checks a plan, which has to be valid.
-fn judge<R: Clock + Files + AllocGlobal>(rt: &R, work: &Work) -> Result<Measured> {
+fn judge<R: Clock + Files + Threads + AllocGlobal + Sync>(rt: &R, work: &Work) -> Result<Measured> {
     let alloc = rt.alloc();
     let holds = Holds::parse(alloc, b"path /held\nname *.part\n")?;
     let archive = ts_print::Print::empty(alloc);
     let before = held(rt);
     let start = Instant::now(rt)?;
     let answer = check(
+        rt,
         alloc,
         &work.plan,
         &archive,
@@ -208,7 +210,7 @@ fn tell(rt: &impl Print, title: &str, measured: &Measured, is_asked: bool) -> Re
 /// Checks files side by side, and says what came of it.
 fn judge_wide<R>(rt: &R, count: u32, is_asked: bool) -> Result<()>
 where
-    R: Clock + Files + Print + AllocGlobal,
+    R: Clock + Files + Threads + Print + AllocGlobal + Sync,
 {
     let work = wide(rt.alloc(), count)?;
     let measured = judge(rt, &work)?;
@@ -218,7 +220,7 @@ where
 /// Checks files in a chain of directories, and says what came of it.
 fn judge_deep<R>(rt: &R, count: u32, is_asked: bool) -> Result<()>
 where
-    R: Clock + Files + Print + AllocGlobal,
+    R: Clock + Files + Threads + Print + AllocGlobal + Sync,
 {
     let work = deep(rt.alloc(), count)?;
     let measured = judge(rt, &work)?;
@@ -228,7 +230,7 @@ where
 /// Checks the plan that the words name, or small ones of both kinds.
 pub fn measure<R>(rt: &R, words: &[String]) -> Result<()>
 where
-    R: Clock + Files + Print + AllocGlobal,
+    R: Clock + Files + Threads + Print + AllocGlobal + Sync,
 {
     let Some(kind) = words.first() else {
         judge_wide(rt, FEW, false)?;

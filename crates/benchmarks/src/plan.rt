@@ -7,6 +7,7 @@ use crate::words::number;
 use anyhow::{Result, bail};
 use std::alloc::Global;
 use std::rt::Clock;
+use std::thread::Threads;
 use std::time::Instant;
 use ts_check::check;
 use ts_hold::Holds;
@@ -80,9 +81,14 @@ fn planned<R: Clock + AllocGlobal>(rt: &R, case: &Case) -> Result<(Plan, u128)> 
 }
 
 /// How many milliseconds it takes to check a plan.
-fn checked<R: Clock + AllocGlobal>(rt: &R, case: &Case, plan: &Plan) -> Result<u128> {
+fn checked<R: Clock + Threads + AllocGlobal + Sync>(
+    rt: &R,
+    case: &Case,
+    plan: &Plan,
+) -> Result<u128> {
     let start = Instant::now(rt)?;
     let answer = check(
+        rt,
         rt.alloc(),
         plan,
         &case.archive,
@@ -99,7 +105,7 @@ fn checked<R: Clock + AllocGlobal>(rt: &R, case: &Case, plan: &Plan) -> Result<u
 /// Plans for so many paths, or for a few, and checks the plan.
 pub fn measure<R>(rt: &R, words: &[String]) -> Result<()>
 where
-    R: Clock + Print + AllocGlobal,
+    R: Clock + Threads + Print + AllocGlobal + Sync,
 {
     let is_asked = !words.is_empty();
     let paths = if is_asked { number(words, 0)? } else { FEW };

@@ -118,7 +118,7 @@ where
     let none = ts_print::Print::empty(alloc);
     let holds = Holds::none(alloc);
     let plan = resume(alloc, &none, &print, &none, &holds)?;
-    let checked = check(alloc, &plan, &none, &print, &none, &holds)?;
+    let checked = check(rt, alloc, &plan, &none, &print, &none, &holds)?;
     let took = carry_out(rt, &checked, first, asked.workers.count)?;
     Ok((checked.action_count(), took))
 }

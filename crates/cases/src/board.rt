@@ -182,12 +182,12 @@ fn tell_cases<R: Threads + Print>(rt: &R, checked: &Checked<'_>, alloc: Global) 
     tell_races(rt, checked, alloc)
 }
 
-fn tell_copies<R: Threads + Print>(rt: &R, alloc: Global) -> Result<()> {
+fn tell_copies<R: Threads + Print + Sync>(rt: &R, alloc: Global) -> Result<()> {
     let nothing = ts_print::Print::empty(alloc);
     let first = print_of(alloc, FILE)?;
     let holds = Holds::none(alloc);
     let plan = worked_plan(alloc)?;
-    let checked = check(alloc, &plan, &nothing, &first, &nothing, &holds)?;
+    let checked = check(rt, alloc, &plan, &nothing, &first, &nothing, &holds)?;
     tell_cases(rt, &checked, alloc)
 }
 
@@ -211,18 +211,18 @@ fn removed<R: Threads + Print>(
     }
 }
 
-fn tell_removal<R: Threads + Print>(rt: &R, alloc: Global) -> Result<()> {
+fn tell_removal<R: Threads + Print + Sync>(rt: &R, alloc: Global) -> Result<()> {
     let nothing = ts_print::Print::empty(alloc);
     let before = print_of(alloc, FILE)?;
     let holds = Holds::none(alloc);
     let plan = removal_plan(alloc)?;
-    let checked = check(alloc, &plan, &before, &nothing, &before, &holds)?;
+    let checked = check(rt, alloc, &plan, &before, &nothing, &before, &holds)?;
     let sites = vec![in alloc; MemSite::new(file(alloc, b'a')?)]?;
     removed(rt, &checked, sites, alloc)
 }
 
 /// Carries the plans out, and says what came of them.
-pub fn try_cases<R: Threads + Print + AllocGlobal>(rt: &R) -> Result<()> {
+pub fn try_cases<R: Threads + Print + AllocGlobal + Sync>(rt: &R) -> Result<()> {
     let alloc = rt.alloc();
     tell_copies(rt, alloc)?;
     tell_removal(rt, alloc)?;

@@ -15,6 +15,7 @@ use crate::checker::world::World;
 use crate::checker::written::{Prints, holds_of, prints_of, written};
 use anyhow::{Result, bail, ensure};
 use std::alloc::Global;
+use std::thread::Threads;
 use ts_check::{CheckFault, check};
 use ts_hold::Holds;
 use ts_model::plan::{Plan, PlanRule};
@@ -40,13 +41,18 @@ fn is_same(found: Verdict, wanted: Verdict) -> bool
 }
 
 /// What the checker says of a plan for these prints.
-fn asked(alloc: Global, plan: &Plan, prints: &Prints, holds: &Holds) -> Result<Verdict> {
+fn asked<R: Threads + AllocGlobal + Sync>(
+    rt: &R,
+    plan: &Plan,
+    prints: &Prints,
+    holds: &Holds,
+) -> Result<Verdict> {
     let Prints {
         archive,
         first,
         second,
     } = prints;
-    match check(alloc, plan, archive, first, second, holds) {
+    match check(rt, rt.alloc(), plan, archive, first, second, holds) {
         Ok(_) => Ok(None),
         Err(CheckFault::Broken { rule, place }) => Ok(Some((rule, place))),
         Err(fault) => bail!("{fault}"),
@@ -54,11 +60,16 @@ fn asked(alloc: Global, plan: &Plan, prints: &Prints, holds: &Holds) -> Result<V
 }
 
 /// What the checker says of a plan.
-fn checked(alloc: Global, world: &World, draft: &Draft) -> Result<Verdict> {
+fn checked<R: Threads + AllocGlobal + Sync>(
+    rt: &R,
+    world: &World,
+    draft: &Draft,
+) -> Result<Verdict> {
+    let alloc = rt.alloc();
     let plan = written(alloc, draft)?;
     let holds = holds_of(alloc, world)?;
     let prints = prints_of(alloc, world)?;
-    asked(alloc, &plan, &prints, &holds)
+    asked(rt, &plan, &prints, &holds)
 }
 
 /// A plan for a world, valid or broken.
@@ -94,7 +105,7 @@ impl Met {
 }
 
 /// Tries the generated cases, and says what came of them.
-pub fn try_cases<R: Print + AllocGlobal>(rt: &R) -> Result<()> {
+pub fn try_cases<R: Threads + Print + AllocGlobal + Sync>(rt: &R) -> Result<()> {
     let alloc = rt.alloc();
     let mut dice = Dice::new(20_261_122);
     let mut met = Met {
@@ -105,7 +116,7 @@ pub fn try_cases<R: Print + AllocGlobal>(rt: &R) -> Result<()> {
         let world = dice.world();
         let draft = draft_of(alloc, &mut dice, &world, number)?;
         let wanted = draft.first_wrong(&world);
-        let found = checked(alloc, &world, &draft)?;
+        let found = checked(rt, &world, &draft)?;
         ensure!(
             is_same(found, wanted),
             "case {number}: {found:?} in place of {wanted:?}"

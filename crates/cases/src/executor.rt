@@ -168,7 +168,7 @@ where
     };
     let world = World::new(alloc, 20, first, second)?;
     let plan = world.plan(alloc)?;
-    let checked = world.check(alloc, &plan)?;
+    let checked = world.check(rt, &plan)?;
     ensure!(checked.action_count() == 2_000, "another plan");
     let mut random = Pcg32::new(2_026, 11);
     let mut done: u64 = 0;
@@ -226,7 +226,7 @@ where
     };
     let world = World::new(alloc, 1, first, second)?;
     let plan = world.plan(alloc)?;
-    let checked = world.check(alloc, &plan)?;
+    let checked = world.check(rt, &plan)?;
     let (one, other) = first_pieces(&checked)?;
     let meeting = Meeting::new(one, other);
     let mut random = Pcg32::new(2_026, 12);

@@ -13,6 +13,7 @@ use crate::planner::reasons::{Found, Sight, found_at, is_same, searched, sights}
 use anyhow::{Result, bail, ensure};
 use rand_pcg::Pcg32;
 use std::alloc::Global;
+use std::thread::Threads;
 use ts_check::check;
 use ts_dirty::{Marked, Marks, Near, detect};
 use ts_model::plan::{Entry, Reason, Side};
@@ -84,13 +85,14 @@ fn are_marked(marks: &Marks, places: &[Place], sights: &[Sight]) -> bool {
 }
 
 /// Tries the planner on a case, whose reasons are wanted, and the checker on its plan.
-fn try_case(
-    alloc: Global,
+fn try_case<R: Threads + AllocGlobal + Sync>(
+    rt: &R,
     case: &Case,
     places: &[Place],
     sights: &[Sight],
     wanted: &[Entry],
 ) -> Result<()> {
+    let alloc = rt.alloc();
     let marks = detect(alloc, &case.archive, &case.first, &case.second, &case.holds)?;
     ensure!(are_marked(&marks, places, sights), "other marks");
     let found = ts_recon::reasons(alloc, &case.archive, &case.first, &case.second, &marks)?;
@@ -98,6 +100,7 @@ fn try_case(
     let plan = resume(alloc, &case.archive, &case.first, &case.second, &case.holds)?;
     ensure!(is_same(plan.entries.as_slice(), wanted), "other entries");
     match check(
+        rt,
         alloc,
         &plan,
         &case.archive,
@@ -111,7 +114,7 @@ fn try_case(
 }
 
 /// Tries the generated cases, and says what came of them.
-pub fn try_cases<R: Print + AllocGlobal>(rt: &R) -> Result<()> {
+pub fn try_cases<R: Threads + Print + AllocGlobal + Sync>(rt: &R) -> Result<()> {
     let alloc = rt.alloc();
     let places = places(alloc)?;
     let mut random = Pcg32::new(2_026, 11);
@@ -129,7 +132,7 @@ pub fn try_cases<R: Print + AllocGlobal>(rt: &R) -> Result<()> {
         let wanted = searched(alloc, &case, places.as_slice(), sights.as_slice())?;
         met.note(wanted.as_slice());
         let tried = try_case(
-            alloc,
+            rt,
             &case,
             places.as_slice(),
             sights.as_slice(),
@@ -139,7 +142,7 @@ pub fn try_cases<R: Print + AllocGlobal>(rt: &R) -> Result<()> {
             bail!("case {number}: {fault}");
         }
         let entries = altered(alloc, places.as_slice(), wanted.as_slice(), &mut changes)?;
-        if let Err(fault) = try_entries(alloc, &case, entries, wanted.as_slice(), &mut tally) {
+        if let Err(fault) = try_entries(rt, &case, entries, wanted.as_slice(), &mut tally) {
             bail!("case {number} with altered entries: {fault}");
         }
     }

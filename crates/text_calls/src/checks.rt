@@ -2,15 +2,21 @@
 use crate::plans::NEW_DIRECTORY;
 use crate::shared::{Scene, World, plan_of, scene_of};
 use std::alloc::Global;
+use std::thread::Threads;
 use ts_check::{CheckFault, Checked, check};
 use ts_model::items::Items;
 use ts_model::plan::{Entry, Plan, PlanRule, Reason};
 use ts_name::Path;
 
 /// What is found wrong with a plan.
-fn verdict(alloc: Global, scene: &Scene, plan: &Plan) -> Option<Option<(PlanRule, u64)>> {
+fn verdict<R: Threads + AllocGlobal + Sync>(
+    rt: &R,
+    scene: &Scene,
+    plan: &Plan,
+) -> Option<Option<(PlanRule, u64)>> {
     match check(
-        alloc,
+        rt,
+        rt.alloc(),
         plan,
         &scene.archive,
         &scene.first,
@@ -32,9 +38,13 @@ const NOTHING: World<'static> = World {
 };
 
 /// What is found wrong with the plan of this text where nothing is anywhere.
-fn verdict_of_text(alloc: Global, text: &[u8]) -> Option<Option<(PlanRule, u64)>> {
+fn verdict_of_text<R: Threads + AllocGlobal + Sync>(
+    rt: &R,
+    text: &[u8],
+) -> Option<Option<(PlanRule, u64)>> {
+    let alloc = rt.alloc();
     let plan = plan_of(alloc, text)?;
-    verdict(alloc, &scene_of(alloc, &NOTHING)?, &plan)
+    verdict(rt, &scene_of(alloc, &NOTHING)?, &plan)
 }
 
 #[test]
@@ -58,7 +68,7 @@ fn a_plan_keeps_the_rules(rt: HostRuntime) {
         ),
     ];
     for (text, want) in cases {
-        assert!(rt; verdict_of_text(rt.alloc(), text) == Some(want));
+        assert!(rt; verdict_of_text(&rt, text) == Some(want));
     }
 }
 
@@ -74,18 +84,19 @@ fn too_many_entries(alloc: Global) -> Option<Vec<Entry>> {
 }
 
 /// What is found wrong with the plan of too many entries and no actions where nothing is anywhere.
-fn verdict_of_too_many(alloc: Global) -> Option<Option<(PlanRule, u64)>> {
+fn verdict_of_too_many<R: Threads + AllocGlobal + Sync>(rt: &R) -> Option<Option<(PlanRule, u64)>> {
+    let alloc = rt.alloc();
     let scene = scene_of(alloc, &NOTHING)?;
     let plan = Plan {
         entries: Items::new(too_many_entries(alloc)?),
         actions: Items::new(Vec::new(alloc)),
     };
-    verdict(alloc, &scene, &plan)
+    verdict(rt, &scene, &plan)
 }
 
 #[test]
 fn too_many_entries_are_past_a_limit(rt: HostRuntime) {
-    assert!(rt; verdict_of_too_many(rt.alloc()) == Some(Some((PlanRule::Limits, 0))));
+    assert!(rt; verdict_of_too_many(&rt) == Some(Some((PlanRule::Limits, 0))));
 }
 
 /// A directory that both replicas have new, with one file in each.
@@ -110,9 +121,10 @@ fn plan_with(alloc: Global, place: usize, byte: u8) -> Option<Plan> {
 }
 
 /// Whether each plan that differs in a byte is refused by a rule, and the plan itself is accepted.
-fn judges(alloc: Global, scene: &Scene, place: usize, was: u8) -> bool {
+fn judges<R: Threads + AllocGlobal + Sync>(rt: &R, scene: &Scene, place: usize, was: u8) -> bool {
+    let alloc = rt.alloc();
     [b'0', b' ', b'\n'].into_iter().all(|byte| match plan_with(alloc, place, byte) {
-        Some(plan) => match verdict(alloc, scene, &plan) {
+        Some(plan) => match verdict(rt, scene, &plan) {
             Some(broken) => broken.is_none() == (byte == was),
             None => false,
         },
@@ -126,7 +138,7 @@ fn a_plan_with_another_byte_is_refused_by_a_rule(rt: HostRuntime) {
         panic!(rt; "no scene");
     };
     for (place, was) in NEW_DIRECTORY.iter().enumerate() {
-        assert!(rt; judges(rt.alloc(), &scene, place, *was), "{place}");
+        assert!(rt; judges(&rt, &scene, place, *was), "{place}");
     }
 }
 
@@ -171,7 +183,8 @@ fn tells_sides(alloc: Global, checked: &Checked<'_>) -> bool {
 }
 
 /// What is said of a plan that copies the one file of the first replica.
-fn told(alloc: Global) -> Option<[bool; 4]> {
+fn told<R: Threads + AllocGlobal + Sync>(rt: &R) -> Option<[bool; 4]> {
+    let alloc = rt.alloc();
     let plan = plan_of(
         alloc,
         b"twosync-plan 1\nentry first /a\npiece 0 0 1 /a\ncommit 0\np 0\nmark 0\np 1\nend 1 3\n",
@@ -183,7 +196,7 @@ fn told(alloc: Global) -> Option<[bool; 4]> {
         rules: b"",
     };
     let scene = scene_of(alloc, &world)?;
-    let checked = accepted(alloc, &scene, &plan)?;
+    let checked = accepted(rt, &scene, &plan)?;
     Some([
         tells_waits(&checked),
         tells_pieces(&checked),
@@ -192,9 +205,14 @@ fn told(alloc: Global) -> Option<[bool; 4]> {
     ])
 }
 
-fn accepted<'a>(alloc: Global, scene: &'a Scene, plan: &'a Plan) -> Option<Checked<'a>> {
+fn accepted<'a, R: Threads + AllocGlobal + Sync>(
+    rt: &R,
+    scene: &'a Scene,
+    plan: &'a Plan,
+) -> Option<Checked<'a>> {
     check(
-        alloc,
+        rt,
+        rt.alloc(),
         plan,
         &scene.archive,
         &scene.first,
@@ -206,5 +224,5 @@ fn accepted<'a>(alloc: Global, scene: &'a Scene, plan: &'a Plan) -> Option<Check
 
 #[test]
 fn a_checked_plan_tells_of_its_actions(rt: HostRuntime) {
-    assert!(rt; told(rt.alloc()) == Some([true; 4]));
+    assert!(rt; told(&rt) == Some([true; 4]));
 }

@@ -46,8 +46,8 @@ fn stamped(alloc: Global, tree: &Tree) -> Option<Print>
 }
 
 /// The plan, where it is valid for these.
-fn accepted<'a>(
-    alloc: Global,
+fn accepted<'a, R: AllocGlobal + Threads + Sync>(
+    rt: &R,
     plan: &'a Plan,
     archive: &'a Print,
     first: &'a Print,
@@ -57,7 +57,7 @@ fn accepted<'a>(
     ensures first { IfSome result (λ checked. checked.first ≡ first.entry.now) }
     ensures second { IfSome result (λ checked. checked.second ≡ second.entry.now) }
 {
-    check(alloc, plan, archive, first, second, holds).ok()
+    check(rt, rt.alloc(), plan, archive, first, second, holds).ok()
 }
 
 /// What the plan leaves.
@@ -71,7 +71,7 @@ fn carried<R: AllocGlobal + Threads + Sync>(rt: &R) -> Option<Carried> {
     let holds = Holds::none(alloc);
     let first_print = stamped(alloc, &first)?;
     let second_print = stamped(alloc, &second)?;
-    let checked = accepted(alloc, &plan, &archive, &first_print, &second_print, &holds)?;
+    let checked = accepted(rt, &plan, &archive, &first_print, &second_print, &holds)?;
     carry_through(rt, alloc, &checked, &first, &second, WORKERS).ok()
 }
 

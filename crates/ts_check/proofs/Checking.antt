@@ -1,6 +1,7 @@
 -- What a plan that was checked answers.
 use Rattle.std.proofs.Common.{◌≡◌, ◌≢◌, ◌↔◌, ℕ, ◌<◌, ◌≤◌, List, [], length, Contains, Option, Some, None, IfNone, MatchOption, slice_get, sym, refl, ◌∙◌, subst, inl, arith}
 use Rattle.std.proofs.lemmas.Option.{none-some, slice_get_within}
+use Rattle.ts_name.specs.Paths.{Path}
 use Rattle.ts_model.specs.Plans.{ActionIs, KindIs, Copies, IsCopied, Valid, Waits, AscendBelow}
 use Rattle.ts_model.specs.Runs.{IsPieceOf}
 use Rattle.ts_model.specs.Sync.{Snapshot}
@@ -12,7 +13,7 @@ use Rattle.ts_model.specs.declared.plan.Plan.{Plan}
 use Rattle.ts_model.specs.declared.plan.PlanRule.TheVariants.{PredsAscend, OneCommit}
 use Rattle.ts_check.proofs.Scans.{same_kind}
 use Rattle.ts_check.proofs.Succeeding.{contains_none}
-use Rattle.ts_check.proofs.Waits.{ascending_preds, same_piece}
+use Rattle.ts_check.proofs.Waits.{ascending_preds}
 use Rattle.ts_check.specs.Pieces.{IsPieceFor}
 use Rattle.ts_check.specs.Places.{IsIndex, no_action}
 use Rattle.ts_check.specs.Waiting.{AreAllSuccessors}
@@ -53,6 +54,9 @@ successors_found plan lists i found are h = go (slice_get lists i) refl h
             none-some there.0 (sym at ∙ there.1)
 
 -- ---- the commit of a piece
+
+same_piece : (a b c d e f : ℕ) (p q : Path) → Piece a b c p ≡ Piece d e f q → a ≡ d
+same_piece a b c d e f p q h = cc
 
 same_entry : (plan : Plan) (k e : ℕ) (c : ℕ) (piece : IsPieceFor plan e k) (h : IsPieceOf plan c k) → h.entry ≡ e
 same_entry plan k e c piece h = same_piece h.entry h.offset h.size e piece.0 piece.1 h.path piece.2 (sym h.piece.2 ∙ same_kind plan k h.piece.0 (Piece e piece.0 piece.1 piece.2) h.piece.1 piece.3)

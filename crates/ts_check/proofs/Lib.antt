@@ -11,3 +11,5 @@ pub mod PieceLists
 pub mod Complete
 pub mod Verdicts
 pub mod Checking
+pub mod Answered
+pub mod Lacking

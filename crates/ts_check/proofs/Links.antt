@@ -10,7 +10,7 @@ use Rattle.ts_model.specs.declared.plan.Plan.{Plan}
 use Rattle.ts_model.specs.declared.plan.Kind.TheVariants.{Commit, Mark}
 use Rattle.ts_need.specs.Needs.{IsFirst}
 use Rattle.ts_check.specs.Places.{IsIndex, no_action}
-use Rattle.ts_check.specs.Waiting.{IsLinked, LacksCommit, LacksDir, LacksLink}
+use Rattle.ts_check.specs.Waiting.{IsLinked, LacksCommit, LacksDir, LacksLink, LacksVia}
 use Rattle.ts_check.specs.Nearest.{IsDirAbove, IsNearestIndex, IsNearestOf}
 use Rattle.ts_check.proofs.Scans.{same_kind}
 use Rattle.ts_need.proofs.Lacking.{IsFirst-same}
@@ -21,24 +21,6 @@ pub IsFirst-LacksCommit : (plan : Plan) (commits : List ℕ) → length plan.act
 IsFirst-LacksCommit plan commits few index = IsFirst-same (LacksLink plan commits) (LacksCommit plan)
     (λ k h. (h.0, h.1, h.2, (index.found h.0 h.1 h.3.0 h.3.1).1, h.4))
     (λ k h. let within = slice_get_within plan.actions h.1 h.3.0 h.3.1 in (h.0, h.1, h.2, (index.complete h.0 h.1 within h.3, λ is_no. omega arith), h.4))
-
--- a mark whose nearest directory's mark it doesn't wait for
-abbrev pub LacksVia : Plan → List ℕ → List ℕ → ℕ → Type 0
-LacksVia plan nearest marks place = (e : ℕ) × KindIs plan place (Mark e) × ((d j : ℕ) × IsLinked nearest e d × IsLinked marks d j × (¬ Waits plan place j))
-
--- an action whose entry's directory it waits for isn't one
-pub via_right : (plan : Plan) (nearest marks : List ℕ) (i e : ℕ) (action : Action) → ActionIs plan i action → action.kind ≡ Mark e
-    → ¬ ((d j : ℕ) × IsLinked nearest e d × IsLinked marks d j × (¬ Waits plan i j)) → ¬ LacksVia plan nearest marks i
-via_right plan nearest marks i e action is kind right h =
-    let same : e ≡ h.0 = one_mark e h.0 (sym kind ∙ same_kind plan i action (Mark h.0) is h.1) in
-    right (subst (λ z. (d j : ℕ) × IsLinked nearest z d × IsLinked marks d j × (¬ Waits plan i j)) (sym same) h.2)
-  where
-    one_mark : (a b : ℕ) → Mark a ≡ Mark b → a ≡ b
-    one_mark a b f = cc
-
--- nor is an action that is no mark
-pub not_via_right : (plan : Plan) (nearest marks : List ℕ) (i : ℕ) (action : Action) → ActionIs plan i action → ((e : ℕ) → action.kind ≢ Mark e) → ¬ LacksVia plan nearest marks i
-not_via_right plan nearest marks i action is none h = none h.0 (same_kind plan i action (Mark h.0) is h.1)
 
 module _ (plan : Plan) (order : (k : ℕ) → ¬ IsOutOfOrder plan.entries k) (few : length plan.entries ≤ 1048576) where
   -- what is found nearest is the nearest

@@ -1,5 +1,6 @@
 -- Pieces by the rows of their source.
-use Rattle.std.proofs.Common.{◌≡◌, ◌≢◌, ℕ, Some, slice_get, sym, refl, ap, ◌∙◌, subst}
+use Rattle.std.proofs.Common.{◌≡◌, ◌≢◌, ◌↔◌, ℕ, Bool, true, false, not, IsTrue, Some, slice_get, sym, refl, ap, ◌∙◌, subst}
+use Rattle.std.proofs.lemmas.Bool.{false≢true}
 use Rattle.std.proofs.lemmas.Option.{same_Some}
 use Rattle.ts_name.specs.Paths.{Path, IsAbove}
 use Rattle.ts_model.specs.Trees.{Listing, IsListing, at}
@@ -89,3 +90,9 @@ lawful xs ys plan i e offset len p action is kind piece h =
 -- nor is an action that is no piece
 pub no_piece : (xs ys : Listing Stamp) (plan : Plan) (i : ℕ) (action : Action) → ActionIs plan i action → ((e offset len : ℕ) (p : Path) → action.kind ≢ Piece e offset len p) → ¬ IsUnlawful xs ys plan i
 no_piece xs ys plan i action is none h = none h.0 h.1 h.2 h.3 (same_kind plan i action (Piece h.0 h.1 h.2 h.3) is h.4)
+
+-- a piece is unlawful exactly where the test of lawful ones says no
+pub unlawful_here : (xs ys : Listing Stamp) (plan : Plan) (i e offset len : ℕ) (p : Path) (action : Action) (b : Bool) → ActionIs plan i action → action.kind ≡ Piece e offset len p
+    → (IsTrue b ↔ IsPieceIn xs ys plan e offset len p) → (IsTrue (not b) ↔ IsUnlawful xs ys plan i)
+unlawful_here xs ys plan i e offset len p action true is kind says = (λ wrong. absurd (false≢true wrong), λ bad. absurd (lawful xs ys plan i e offset len p action is kind (says.0 refl) bad))
+unlawful_here xs ys plan i e offset len p action false is kind says = (λ right. (e, offset, len, p, (action, is, kind), λ piece. false≢true (says.1 piece)), λ bad. refl)

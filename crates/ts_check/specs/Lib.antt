@@ -6,3 +6,4 @@ pub mod Verdict
 pub mod Lists
 pub mod Checkup
 pub mod Answers
+pub mod Answered

@@ -40,10 +40,9 @@ IsLinked links e i = (slice_get links e ≡ Some i) × (i ≢ no_action)
 abbrev pub LacksLink : Plan → List ℕ → ℕ → Type 0
 LacksLink plan links place = (e i : ℕ) × KindIs plan place (Mark e) × IsLinked links e i × (¬ Waits plan place i)
 
--- the lesser of the two
-abbrev pub least : Option ℕ → ℕ → Option ℕ
-least None k = Some k
-least (Some j) k = Some (min j k)
+-- a mark that doesn't wait for the mark of its entry's nearest new directory, by the numbers of both
+abbrev pub LacksVia : Plan → List ℕ → List ℕ → ℕ → Type 0
+LacksVia plan nearest marks place = (e : ℕ) × KindIs plan place (Mark e) × ((d j : ℕ) × IsLinked nearest e d × IsLinked marks d j × (¬ Waits plan place j))
 
 -- each predecessor beside the action that waits for it; the first action here has the number n
 abbrev pub waits_from : ℕ → List Action → List (ℕ × ℕ)

@@ -6,30 +6,30 @@ ghost use Rattle.ts_check.specs.Nearest.{IsDirEntry, IsEntryAbove, IsNearestInde
 ghost use Rattle.ts_model.specs.Plans.{IsOutOfOrder, entry_limit};
 
 use crate::census::NO_ACTION;
+use crate::finding::first_where;
 use crate::order::is_before;
 use std::alloc::{AllocError, Global};
+use std::thread::Threads;
 use ts_model::plan::{Entry, Reason};
 
-/// Whether entry `i` comes after the one before it.
-fn is_in_order(entries: &[Entry], i: usize) -> bool
-    requires some { 0 < i }
-    requires within { i < length entries.now }
-    ensures ordered { IsTrue result → ¬ IsOutOfOrder entries.now i }
-    ensures wrong { result ≡ false → IsOutOfOrder entries.now i }
+/// Whether entry `i` doesn't come after the one before it.
+fn is_out_of_order(entries: &[Entry], i: usize) -> bool
+    ensures { IsTrue result ↔ IsOutOfOrder entries.now i }
 {
-    is_before(&entries[i - 1].path, &entries[i].path)
+    0 < i && i < entries.len() && !is_before(&entries[i - 1].path, &entries[i].path)
 }
 
 /// The first entry that doesn't come after the one before it.
-pub fn first_out_of_order(entries: &[Entry]) -> Option<usize>
+pub fn first_out_of_order(rt: &(impl Threads + Sync), entries: &[Entry]) -> Option<usize>
     ensures { IsFirst (IsOutOfOrder entries.now) result }
 {
-    for i in 1..entries.len() {
-        if !is_in_order(entries, i) {
-            return Some(i);
-        }
-    }
-    None
+    first_where(
+        rt,
+        entries.len(),
+        |i: &usize| -> bool
+            ensures { IsTrue result ↔ IsOutOfOrder entries.entry.now i.now }
+        { is_out_of_order(entries, *i) },
+    )
 }
 
 /// Whether an entry is a new directory.

@@ -5,6 +5,7 @@ mod census;
 mod checked;
 mod entries;
 mod fault;
+mod finding;
 mod kinds;
 mod limits;
 mod lists;

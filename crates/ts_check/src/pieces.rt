@@ -9,9 +9,11 @@ ghost use Rattle.ts_model.specs.Trees.{IsListing};
 ghost use Rattle.ts_model.specs.declared.plan.Entry.{Entry};
 ghost use Rattle.ts_name.specs.Paths.{IsAbove};
 
+use crate::finding::first_where;
 use crate::order::row_of;
 use std::alloc::{AllocError, Global};
 use std::collections::BTreeMap;
+use std::thread::Threads;
 use ts_model::plan::{Kind, PIECE_SIZE, Plan, Side};
 use ts_model::row::{Content, Row, Stamp};
 use ts_name::Path;
@@ -90,26 +92,46 @@ fn is_piece(
     is_below_entry(plan, e, path) && is_range(size, offset, length)
 }
 
-/// The first piece that isn't lawful.
-pub fn first_unlawful(plan: &Plan, first: &[Row<Stamp>], second: &[Row<Stamp>]) -> Option<usize>
+/// Whether action `i` is a piece that isn't lawful.
+fn is_unlawful(plan: &Plan, first: &[Row<Stamp>], second: &[Row<Stamp>], i: usize) -> bool
     requires first { IsListing first.now }
     requires second { IsListing second.now }
-    ensures { IsFirst (IsUnlawful first.now second.now plan.now) result }
+    ensures { IsTrue result ↔ IsUnlawful first.now second.now plan.now i }
 {
-    for (i, action) in plan.actions.as_slice().iter().enumerate() {
-        if let Kind::Piece {
+    let Some(action) = plan.actions.as_slice().get(i) else {
+        return false;
+    };
+    match &action.kind {
+        Kind::Piece {
             entry,
             offset,
             length,
             path,
-        } = &action.kind
-        {
-            if !is_piece(plan, first, second, *entry as usize, *offset, *length, path) {
-                return Some(i);
-            }
-        }
+        } => !is_piece(plan, first, second, *entry as usize, *offset, *length, path),
+        _ => false,
     }
-    None
+}
+
+/// The first piece that isn't lawful.
+pub fn first_unlawful(
+    rt: &(impl Threads + Sync),
+    plan: &Plan,
+    first: &[Row<Stamp>],
+    second: &[Row<Stamp>],
+) -> Option<usize>
+    requires first { IsListing first.now }
+    requires second { IsListing second.now }
+    ensures { IsFirst (IsUnlawful first.now second.now plan.now) result }
+{
+    let count = plan.actions.as_slice().len();
+    first_where(
+        rt,
+        count,
+        |i: &usize| -> bool
+            requires { IsListing first.now × IsListing second.now }
+            ensures { IsTrue result ↔ IsUnlawful first.entry.now second.entry.now plan.entry.now i.now }
+        { is_unlawful(plan, first, second, *i) },
+    )
 }
 
 /// The number of the action that stages each place.

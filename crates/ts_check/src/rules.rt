@@ -1,5 +1,5 @@
 ghost use Rattle.std.specs.Prelude.{◌≡◌, ◌≤◌, ℕ, length, IfOk, IfErr, OnOk};
-ghost use Rattle.ts_check.specs.Pieces.{IsStagedMap};
+ghost use Rattle.ts_check.specs.Pieces.{AreAllPieces, IsStagedMap};
 ghost use Rattle.ts_check.specs.Places.{IsIndex, kind_of};
 ghost use Rattle.ts_check.specs.Verdict.{HoldBelow, IsSafe, IsTold};
 ghost use Rattle.ts_check.specs.declared.census.Role.TheVariants.{Commits, Marks};
@@ -14,6 +14,7 @@ use crate::checked::Checked;
 use crate::entries::{first_out_of_order, nearest_dirs};
 use crate::fault::CheckFault;
 use crate::limits;
+use crate::lists::Lists;
 use crate::piece_lists::piece_lists;
 use crate::pieces::{Staged, each_once, first_unlawful};
 use crate::safety::valid_plans_are_safe;
@@ -22,6 +23,7 @@ use crate::waiting::{
     first_bad_preds, first_without_commit, first_without_dir, first_without_piece,
 };
 use std::alloc::Global;
+use std::thread::Threads;
 use ts_hold::Holds;
 use ts_model::plan::{Plan, PlanRule};
 use ts_need::first_wrong;
@@ -44,7 +46,12 @@ fn broken(rule: PlanRule, place: u64) -> CheckFault
 }
 
 /// The rules about limits, entries and reasons.
-fn check_entries(alloc: Global, plan: &Plan, state: &State) -> Result<(), CheckFault>
+fn check_entries(
+    rt: &(impl Threads + Sync),
+    alloc: Global,
+    plan: &Plan,
+    state: &State,
+) -> Result<(), CheckFault>
     requires { AreListings state.now }
     ensures holds { OnOk result (HoldBelow (snapshot_of state.now) plan.now 5) }
     ensures told { IfErr result (IsTold (snapshot_of state.now) plan.now) }
@@ -53,7 +60,7 @@ fn check_entries(alloc: Global, plan: &Plan, state: &State) -> Result<(), CheckF
         return Err(broken(PlanRule::Limits, place));
     }
     let entries = plan.entries.as_slice();
-    if let Some(place) = first_out_of_order(entries) {
+    if let Some(place) = first_out_of_order(rt, entries) {
         return Err(broken(PlanRule::EntriesAscend, place as u64));
     }
     match first_wrong(
@@ -70,7 +77,12 @@ fn check_entries(alloc: Global, plan: &Plan, state: &State) -> Result<(), CheckF
 }
 
 /// The rules about predecessors, commits, pieces and marks, each by itself.
-fn check_actions(alloc: Global, plan: &Plan, state: &State) -> Result<Index, CheckFault>
+fn check_actions(
+    rt: &(impl Threads + Sync),
+    alloc: Global,
+    plan: &Plan,
+    state: &State,
+) -> Result<Index, CheckFault>
     requires listing { AreListings state.now }
     requires before { HoldBelow (snapshot_of state.now) plan.now 5 }
     ensures holds { OnOk result (HoldBelow (snapshot_of state.now) plan.now 10) }
@@ -79,7 +91,7 @@ fn check_actions(alloc: Global, plan: &Plan, state: &State) -> Result<Index, Che
     ensures marks { IfOk result (λ index. IsIndex plan.now (kind_of Marks) (length plan.now.actions) index.marks.items) }
     ensures staged { IfOk result (λ index. IsStagedMap state.now.first.now state.now.second.now plan.now (length plan.now.actions) index.staged) }
 {
-    if let Some(place) = first_bad_preds(plan) {
+    if let Some(place) = first_bad_preds(rt, plan) {
         return Err(broken(PlanRule::PredsAscend, place as u64));
     }
     let commits = match one_each(alloc, plan, Role::Commits)? {
@@ -88,7 +100,7 @@ fn check_actions(alloc: Global, plan: &Plan, state: &State) -> Result<Index, Che
     };
     let first = state.first.rows();
     let second = state.second.rows();
-    if let Some(place) = first_unlawful(plan, first, second) {
+    if let Some(place) = first_unlawful(rt, plan, first, second) {
         return Err(broken(PlanRule::PiecesLawful, place as u64));
     }
     let staged = match each_once(alloc, plan, first, second)? {
@@ -107,29 +119,38 @@ fn check_actions(alloc: Global, plan: &Plan, state: &State) -> Result<Index, Che
 }
 
 /// The rules about what commits and marks wait for.
-fn check_order(alloc: Global, plan: &Plan, state: &State, index: &Index) -> Result<(), CheckFault>
+fn check_order(
+    rt: &(impl Threads + Sync),
+    alloc: Global,
+    plan: &Plan,
+    state: &State,
+    index: &Index,
+    pieces: &Lists,
+) -> Result<(), CheckFault>
     requires before { HoldBelow (snapshot_of state.now) plan.now 10 }
     requires commits { IsIndex plan.now (kind_of Commits) (length plan.now.actions) index.now.commits.items }
     requires marks { IsIndex plan.now (kind_of Marks) (length plan.now.actions) index.now.marks.items }
+    requires pieces { AreAllPieces plan.now pieces.now }
     ensures holds { OnOk result (Valid (snapshot_of state.now) plan.now) }
     ensures told { IfErr result (IsTold (snapshot_of state.now) plan.now) }
 {
-    if let Some(place) = first_without_piece(plan, &index.commits) {
+    if let Some(place) = first_without_piece(rt, plan, pieces) {
         return Err(broken(PlanRule::PiecesFirst, place as u64));
     }
-    if let Some(place) = first_without_commit(plan, &index.commits) {
+    if let Some(place) = first_without_commit(rt, plan, &index.commits) {
         return Err(broken(PlanRule::CommitFirst, place as u64));
     }
     let nearest = nearest_dirs(alloc, plan.entries.as_slice())?;
-    match first_without_dir(plan, &nearest, &index.marks) {
+    match first_without_dir(rt, plan, &nearest, &index.marks) {
         Some(place) => Err(broken(PlanRule::DirFirst, place as u64)),
         None => Ok(()),
     }
 }
 
 /// Accepts exactly the plans that are valid for these prints and rules, and tells of another which rule it breaks first, and
-/// where.
+/// where. Several threads look for what is wrong.
 pub fn check<'a>(
+    rt: &(impl Threads + Sync),
     alloc: Global,
     plan: &'a Plan,
     archive: &'a Print,
@@ -151,10 +172,10 @@ pub fn check<'a>(
         second,
         holds,
     };
-    check_entries(alloc, plan, &state)?;
-    let index = check_actions(alloc, plan, &state)?;
-    check_order(alloc, plan, &state, &index)?;
+    check_entries(rt, alloc, plan, &state)?;
+    let index = check_actions(rt, alloc, plan, &state)?;
     let pieces = piece_lists(alloc, plan, first_rows, second_rows, &index.staged)?;
+    check_order(rt, alloc, plan, &state, &index, &pieces)?;
     let successors = successors(alloc, plan)?;
     let commits = index.commits;
     valid_plans_are_safe();

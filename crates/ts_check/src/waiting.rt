@@ -1,13 +1,18 @@
 //! Which actions wait for which.
 
-ghost use Rattle.std.specs.Prelude.{◌≡◌, ◌≤◌, ◌<◌, ◌↔◌, ℕ, length, IsTrue, IfSome, IfNone};
+ghost use Rattle.std.specs.Prelude.{◌≡◌, ◌≤◌, ◌↔◌, ℕ, length, Contains, IsTrue, IfSome, IfNone};
 ghost use Rattle.ts_check.specs.Places.{IsFirst, IsIndex, Never, kind_of};
 ghost use Rattle.ts_check.specs.Nearest.{IsNearestIndex};
-ghost use Rattle.ts_check.specs.Waiting.{HasBadPreds, IsLinked, LacksCommit, LacksDir, LacksLink, LacksPiece, least};
+ghost use Rattle.ts_check.specs.Pieces.{AreAllPieces};
+ghost use Rattle.ts_check.specs.Waiting.{HasBadPreds, IsLinked, LacksCommit, LacksDir, LacksLink, LacksPiece, LacksVia};
 ghost use Rattle.ts_check.specs.declared.census.Role.TheVariants.{Commits, Marks};
-ghost use Rattle.ts_model.specs.Plans.{AscendBelow, IsOutOfOrder, Waits, action_limit, entry_limit};
+ghost use Rattle.ts_model.specs.Plans.{AscendBelow, IsOutOfOrder, KindIs, Waits, action_limit, entry_limit};
+ghost use Rattle.ts_model.specs.declared.plan.Kind.TheVariants.{Mark};
 
 use crate::census::NO_ACTION;
+use crate::finding::first_where;
+use crate::lists::Lists;
+use std::thread::Threads;
 use ts_model::plan::{Kind, Plan};
 
 /// Whether the numbers strictly ascend and are below `n`.
@@ -25,16 +30,28 @@ fn ascends_below(numbers: &[u32], n: usize) -> bool
     true
 }
 
+/// Whether the predecessors of action `i` don't ascend, or aren't all before it.
+fn has_bad_preds(plan: &Plan, i: usize) -> bool
+    ensures { IsTrue result ↔ HasBadPreds plan.now i }
+{
+    match plan.actions.as_slice().get(i) {
+        Some(action) => !ascends_below(action.preds.as_slice(), i),
+        None => false,
+    }
+}
+
 /// The first action whose predecessors don't ascend, or aren't all before it.
-pub fn first_bad_preds(plan: &Plan) -> Option<usize>
+pub fn first_bad_preds(rt: &(impl Threads + Sync), plan: &Plan) -> Option<usize>
     ensures { IsFirst (HasBadPreds plan.now) result }
 {
-    for (i, action) in plan.actions.as_slice().iter().enumerate() {
-        if !ascends_below(action.preds.as_slice(), i) {
-            return Some(i);
-        }
-    }
-    None
+    let count = plan.actions.as_slice().len();
+    first_where(
+        rt,
+        count,
+        |i: &usize| -> bool
+            ensures { IsTrue result ↔ HasBadPreds plan.entry.now i.now }
+        { has_bad_preds(plan, *i) },
+    )
 }
 
 /// Whether action `i` waits for action `j`.
@@ -46,48 +63,49 @@ pub fn waits(plan: &Plan, i: usize, j: u32) -> bool
     i < actions.len() && actions[i].preds.as_slice().binary_search(&j).is_ok()
 }
 
-/// The lesser of the two.
-fn lesser(first: Option<usize>, place: usize) -> Option<usize>
-    ensures { result ≡ least first place }
+/// Whether action `i` doesn't wait for each of these.
+fn lacks_some(plan: &Plan, i: usize, numbers: &[u32]) -> bool
+    requires { Never (HasBadPreds plan.now) }
+    ensures { IsTrue result ↔ ((k : ℕ) × Contains numbers.now k × (¬ Waits plan.now i k)) }
 {
-    match first {
-        Some(other) => Some(other.min(place)),
-        None => Some(place),
+    for number in numbers {
+        if !waits(plan, i, *number) {
+            return true;
+        }
     }
+    false
 }
 
-/// The commit at an entry, where it doesn't wait for action `i`.
-fn late_commit(plan: &Plan, commits: &[u32], e: usize, i: u32) -> Option<u32>
-    requires { Never (HasBadPreds plan.now) }
-    ensures some { IfSome result (λ commit. IsLinked commits.now e commit × (¬ Waits plan.now commit i)) }
-    ensures none { IfNone result ((commit : ℕ) → IsLinked commits.now e commit → ¬ (¬ Waits plan.now commit i)) }
+/// Whether action `i` is a commit that doesn't wait for some piece of its entry.
+fn lacks_piece(plan: &Plan, pieces: &Lists, i: usize) -> bool
+    requires ascending { Never (HasBadPreds plan.now) }
+    requires pieces { AreAllPieces plan.now pieces.now }
+    ensures { IsTrue result ↔ LacksPiece plan.now i }
 {
-    if e >= commits.len() {
-        return None;
-    }
-    let commit = commits[e];
-    if commit == NO_ACTION || waits(plan, commit as usize, i) {
-        return None;
-    }
-    Some(commit)
+    let Some(action) = plan.actions.as_slice().get(i) else {
+        return false;
+    };
+    let Kind::Commit { entry } = &action.kind else {
+        return false;
+    };
+    lacks_some(plan, i, pieces.list(*entry as usize))
 }
 
 /// The first commit that doesn't wait for some piece of its entry.
-pub fn first_without_piece(plan: &Plan, commits: &[u32]) -> Option<usize>
-    requires few { length plan.now.actions ≤ action_limit }
+pub fn first_without_piece(rt: &(impl Threads + Sync), plan: &Plan, pieces: &Lists) -> Option<usize>
     requires ascending { Never (HasBadPreds plan.now) }
-    requires index { IsIndex plan.now (kind_of Commits) (length plan.now.actions) commits.now }
+    requires pieces { AreAllPieces plan.now pieces.now }
     ensures { IsFirst (LacksPiece plan.now) result }
 {
-    let mut first = None;
-    for (i, action) in plan.actions.as_slice().iter().enumerate() {
-        if let Kind::Piece { entry, .. } = &action.kind {
-            if let Some(commit) = late_commit(plan, commits, *entry as usize, i as u32) {
-                first = lesser(first, commit as usize);
-            }
-        }
-    }
-    first
+    let count = plan.actions.as_slice().len();
+    first_where(
+        rt,
+        count,
+        |i: &usize| -> bool
+            requires { Never (HasBadPreds plan.now) × AreAllPieces plan.now pieces.now }
+            ensures { IsTrue result ↔ LacksPiece plan.entry.now i.now }
+        { lacks_piece(plan, pieces, *i) },
+    )
 }
 
 /// Whether action `i` doesn't wait for the action that stands at this entry.
@@ -98,29 +116,49 @@ fn lacks_link(plan: &Plan, links: &[u32], e: usize, i: usize) -> bool
     e < links.len() && links[e] != NO_ACTION && !waits(plan, i, links[e])
 }
 
-/// The first mark that doesn't wait for the action that stands at its entry.
-pub fn first_without_link(plan: &Plan, links: &[u32]) -> Option<usize>
-    requires { Never (HasBadPreds plan.now) }
-    ensures { IsFirst (LacksLink plan.now links.now) result }
+/// The entry of a mark; none for another action.
+fn mark_entry(plan: &Plan, i: usize) -> Option<u32>
+    ensures some { IfSome result (λ e. KindIs plan.now i (Mark e)) }
+    ensures none { IfNone result ((e : ℕ) → ¬ KindIs plan.now i (Mark e)) }
 {
-    for (i, action) in plan.actions.as_slice().iter().enumerate() {
-        if let Kind::Mark { entry } = &action.kind {
-            if lacks_link(plan, links, *entry as usize, i) {
-                return Some(i);
-            }
-        }
+    let action = plan.actions.as_slice().get(i)?;
+    match &action.kind {
+        Kind::Mark { entry } => Some(*entry),
+        _ => None,
     }
-    None
+}
+
+/// Whether action `i` is a mark that doesn't wait for the action that stands at its entry.
+fn lacks_its_link(plan: &Plan, links: &[u32], i: usize) -> bool
+    requires { Never (HasBadPreds plan.now) }
+    ensures { IsTrue result ↔ LacksLink plan.now links.now i }
+{
+    match mark_entry(plan, i) {
+        Some(entry) => lacks_link(plan, links, entry as usize, i),
+        None => false,
+    }
 }
 
 /// The first mark that doesn't wait for the commit of its entry.
-pub fn first_without_commit(plan: &Plan, commits: &[u32]) -> Option<usize>
+pub fn first_without_commit(
+    rt: &(impl Threads + Sync),
+    plan: &Plan,
+    commits: &[u32],
+) -> Option<usize>
     requires few { length plan.now.actions ≤ action_limit }
     requires ascending { Never (HasBadPreds plan.now) }
     requires index { IsIndex plan.now (kind_of Commits) (length plan.now.actions) commits.now }
     ensures { IsFirst (LacksCommit plan.now) result }
 {
-    first_without_link(plan, commits)
+    let count = plan.actions.as_slice().len();
+    first_where(
+        rt,
+        count,
+        |i: &usize| -> bool
+            requires { Never (HasBadPreds plan.now) }
+            ensures { IsTrue result ↔ LacksLink plan.entry.now commits.entry.now i.now }
+        { lacks_its_link(plan, commits, *i) },
+    )
 }
 
 /// Whether action `i` doesn't wait for the mark of the new directory nearest above an entry.
@@ -131,8 +169,24 @@ fn lacks_dir(plan: &Plan, nearest: &[u32], marks: &[u32], e: usize, i: usize) ->
     e < nearest.len() && nearest[e] != NO_ACTION && lacks_link(plan, marks, nearest[e] as usize, i)
 }
 
+/// Whether action `i` is a mark that doesn't wait for the mark of the new directory nearest above its entry.
+fn lacks_its_dir(plan: &Plan, nearest: &[u32], marks: &[u32], i: usize) -> bool
+    requires { Never (HasBadPreds plan.now) }
+    ensures { IsTrue result ↔ LacksVia plan.now nearest.now marks.now i }
+{
+    match mark_entry(plan, i) {
+        Some(entry) => lacks_dir(plan, nearest, marks, entry as usize, i),
+        None => false,
+    }
+}
+
 /// The first mark that doesn't wait for the mark of the new directory nearest above its entry.
-pub fn first_without_dir(plan: &Plan, nearest: &[u32], marks: &[u32]) -> Option<usize>
+pub fn first_without_dir(
+    rt: &(impl Threads + Sync),
+    plan: &Plan,
+    nearest: &[u32],
+    marks: &[u32],
+) -> Option<usize>
     requires actions { length plan.now.actions ≤ action_limit }
     requires entries { length plan.now.entries ≤ entry_limit }
     requires ascending { Never (HasBadPreds plan.now) }
@@ -141,12 +195,13 @@ pub fn first_without_dir(plan: &Plan, nearest: &[u32], marks: &[u32]) -> Option<
     requires dirs { (length nearest.now ≡ length plan.now.entries) × IsNearestIndex plan.now.entries nearest.now }
     ensures { IsFirst (LacksDir plan.now) result }
 {
-    for (i, action) in plan.actions.as_slice().iter().enumerate() {
-        if let Kind::Mark { entry } = &action.kind {
-            if lacks_dir(plan, nearest, marks, *entry as usize, i) {
-                return Some(i);
-            }
-        }
-    }
-    None
+    let count = plan.actions.as_slice().len();
+    first_where(
+        rt,
+        count,
+        |i: &usize| -> bool
+            requires { Never (HasBadPreds plan.now) }
+            ensures { IsTrue result ↔ LacksVia plan.entry.now nearest.entry.now marks.entry.now i.now }
+        { lacks_its_dir(plan, nearest, marks, *i) },
+    )
 }

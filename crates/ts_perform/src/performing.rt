@@ -207,5 +207,5 @@ fn check_plan<R: Machine, O: Sink>(
         (O.holds out.old) (O.holds out.new) result }
 {
     let (snapshot, plan) = Snapshot::read_for(task, plan)?;
-    snapshot.print_verdict(task.rt.alloc(), &plan, out)
+    snapshot.print_verdict(task.rt, task.rt.alloc(), &plan, out)
 }

@@ -13,6 +13,7 @@ use crate::fault::PerformFault;
 use crate::lengths::{first_too_long, too_long};
 use crate::performing::REFUSED;
 use std::alloc::Global;
+use std::thread::Threads;
 use ts_check::{Checked, check};
 use ts_command::Pair;
 use ts_hold::Holds;
@@ -43,6 +44,7 @@ impl Snapshot {
     /// The plan with the checker's yes.
     pub(crate) fn check<'a>(
         &'a self,
+        rt: &(impl Threads + Sync),
         alloc: Global,
         plan: &'a Plan,
     ) -> Result<Checked<'a>, PerformFault>
@@ -57,7 +59,7 @@ impl Snapshot {
             first,
             second,
         } = self;
-        let checked = check(alloc, plan, archive, first, second, holds)?;
+        let checked = check(rt, alloc, plan, archive, first, second, holds)?;
         Ok(checked)
     }
 
@@ -73,13 +75,14 @@ impl Snapshot {
     /// Prints whether a plan is valid for what is there, or which rule it breaks first, and where.
     pub(crate) fn print_verdict<O: Sink>(
         &self,
+        rt: &(impl Threads + Sync),
         alloc: Global,
         plan: &Plan,
         out: &mut O,
     ) -> Result<u8, PerformFault>
         ensures { Prints (IsVerdict (checkup_of self.now plan.now)) (O.holds out.old) (O.holds out.new) result }
     {
-        match self.check(alloc, plan) {
+        match self.check(rt, alloc, plan) {
             Ok(_checked) => {
                 write_line(out, b"valid")?;
                 Ok(0)

@@ -66,6 +66,7 @@ fn answer<T: Threads + Sync, W: Sink>(
     let first = Print::of_tree(alloc, &bundle.first)?;
     let second = Print::of_tree(alloc, &bundle.second)?;
     match check(
+        rt,
         alloc,
         &bundle.plan,
         &bundle.archive,

@@ -176,7 +176,7 @@ where
     let second = print_of(alloc, case.second)?;
     let holds = Holds::none(alloc);
     let plan = resume(alloc, &archive, &first, &second, &holds).ok()?;
-    match check(alloc, &plan, &archive, &first, &second, &holds) {
+    match check(rt, alloc, &plan, &archive, &first, &second, &holds) {
         Ok(checked) => ran(rt, case, &checked, workers),
         Err(_) => None,
     }

@@ -2,6 +2,7 @@
 
 use anyhow::Result;
 use std::alloc::Global;
+use std::thread::Threads;
 use ts_check::{Checked, check};
 use ts_hold::Holds;
 use ts_model::plan::Plan;
@@ -74,9 +75,14 @@ impl World {
     }
 
     /// A plan for these replicas, checked.
-    pub fn check<'a>(&'a self, alloc: Global, plan: &'a Plan) -> Result<Checked<'a>> {
+    pub fn check<'a, R: Threads + AllocGlobal + Sync>(
+        &'a self,
+        rt: &R,
+        plan: &'a Plan,
+    ) -> Result<Checked<'a>> {
         let checked = check(
-            alloc,
+            rt,
+            rt.alloc(),
             plan,
             &self.archive,
             &self.first_print,

@@ -4,6 +4,7 @@ use crate::planner::cases::{Case, Place, below};
 use anyhow::{Result, bail, ensure};
 use rand_pcg::Pcg32;
 use std::alloc::Global;
+use std::thread::Threads;
 use ts_check::{CheckFault, check};
 use ts_model::items::Items;
 use ts_model::plan::{Entry, Plan, PlanRule, Reason};
@@ -77,19 +78,21 @@ fn first_wrong(entries: &[Entry], wanted: &[Entry]) -> Option<(PlanRule, u64)> {
 }
 
 /// Checks a plan with these entries and no action, and compares which of the rules about reasons it breaks.
-pub fn try_entries(
-    alloc: Global,
+pub fn try_entries<R: Threads + AllocGlobal + Sync>(
+    rt: &R,
     case: &Case,
     entries: Vec<Entry>,
     wanted: &[Entry],
     tally: &mut Tally,
 ) -> Result<()> {
+    let alloc = rt.alloc();
     let first = first_wrong(entries.as_slice(), wanted);
     let plan = Plan {
         entries: Items::new(entries),
         actions: Items::new(Vec::new(alloc)),
     };
     let answer = check(
+        rt,
         alloc,
         &plan,
         &case.archive,

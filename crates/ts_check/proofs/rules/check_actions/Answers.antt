@@ -5,13 +5,13 @@ use Rattle.ts_check.proofs.Verdicts.{hold_more, hold_commits, hold_lawful, hold_
 use Rattle.ts_check.proofs.rules.check_actions.Goals as goal
 
 pub returns-in-Err-clause-told : goal.returns-in-Err-clause-told
-returns-in-Err-clause-told c =
+returns-in-Err-clause-told g c =
     let s = snapshot_of c.args.state.now in
     let plan = c.args.plan.now in
     rw c.broken-in-Err.ensures (broken_here s plan OneCommit c.in-Err.place (hold_more s plan 5 PredsAscend refl c.requires.before c.in_default.ensures) (first_commit s plan (Some c.in-Err.place) (rw c.in-Err.is at c.in_ok-commits.ensures.wrong)))
 
 pub returns-in-Some-first_unlawful-clause-told : goal.returns-in-Some-first_unlawful-clause-told
-returns-in-Some-first_unlawful-clause-told c =
+returns-in-Some-first_unlawful-clause-told g c =
     let t = c.args.state.now in
     let s = snapshot_of t in
     let plan = c.args.plan.now in
@@ -21,10 +21,10 @@ returns-in-Some-first_unlawful-clause-told c =
     (rw (c.rows-first.ensures.rows, c.rows-second.ensures.rows) at c.in-Some-first_unlawful.ensures)))
 
 pub each_once-requires-clause-places : goal.each_once-requires-clause-places
-each_once-requires-clause-places c = no_root (snapshot_of c.args.state.now) c.args.plan.now c.requires.before
+each_once-requires-clause-places g c = no_root (snapshot_of c.args.state.now) c.args.plan.now c.requires.before
 
 pub returns-in-Err-2-clause-told : goal.returns-in-Err-2-clause-told
-returns-in-Err-2-clause-told c =
+returns-in-Err-2-clause-told g c =
     let t = c.args.state.now in
     let s = snapshot_of t in
     let plan = c.args.plan.now in
@@ -35,7 +35,7 @@ returns-in-Err-2-clause-told c =
     (rw (c.rows-first.ensures.rows, c.rows-second.ensures.rows, c.in-Err-2.is) at c.in_ok-staged.ensures.wrong)))
 
 pub returns-in-Err-3-clause-told : goal.returns-in-Err-3-clause-told
-returns-in-Err-3-clause-told c =
+returns-in-Err-3-clause-told g c =
     let t = c.args.state.now in
     let s = snapshot_of t in
     let plan = c.args.plan.now in
@@ -47,7 +47,7 @@ returns-in-Err-3-clause-told c =
     rw c.broken-in-Err-3.ensures (broken_here s plan OneMark c.in-Err-3.place h9 (rw c.in-Err-3.is at c.in_ok-marks.ensures.wrong))
 
 pub returns-clause-holds : goal.returns-clause-holds
-returns-clause-holds c =
+returns-clause-holds g c =
     let t = c.args.state.now in
     let s = snapshot_of t in
     let plan = c.args.plan.now in
