@@ -1,40 +1,19 @@
 -- Rows of a listing, found by their paths.
-use Rattle.std.proofs.Common.{◌≡◌, ◌≢◌, ℕ, zero, suc, ◌<◌, Bool, true, false, cond, List, [], ◌∷◌, length, get_or, Some, Result, Ok, Err, MatchOption, slice_get, Less, Equal, Greater, sym, refl, ◌∙◌, subst, inl, inr, arith}
-use Rattle.std.specs.List.Sorted.{IsBinarySearchResult, IsSearchInRange}
-use Rattle.std.specs.List.{AllByRecursion}
-use Rattle.std.specs.Result.{result_ok}
-use Rattle.std.proofs.lemmas.Bool.{cases_lt, cases_order}
+use Rattle.std.proofs.Common.{◌≡◌, ◌≢◌, ℕ, suc, ◌<◌, ◌≤◌, Bool, true, false, cond, [], ◌∷◌, length, get_or, Some, slice_get, Less, Equal, Greater, sym, refl, ap, ◌∙◌, subst, inl, inr, arith}
+use Rattle.std.proofs.lemmas.Bool.{cases_order}
 use Rattle.std.proofs.lemmas.Cmp.{tied_itself}
-use Rattle.std.proofs.lemmas.Option.{none-some, same_Some, slice_get_within, get_or_from_slice_get}
+use Rattle.std.proofs.lemmas.Option.{same_Some, slice_get_within, get_or_from_slice_get}
 use Rattle.ts_name.specs.Paths.{Path, IsBefore, path_cmp, same_path}
 use Rattle.ts_model.specs.Trees.{Listing, IsListing, Ascend, listed, at}
 use Rattle.ts_model.specs.declared.row.Content.{Content}
 use Rattle.ts_model.specs.declared.row.Content.TheVariants.{Absent, Dir, File}
 use Rattle.ts_model.specs.declared.row.Row.{Row}
 use Rattle.ts_model.specs.declared.row.Stamp.{Stamp}
-use Rattle.ts_table.proofs.Found.{rises}
 use Rattle.ts_name.specs.Laws.{path_total, tied_paths, same_path_equal}
-use Rattle.ts_name.proofs.Order.{before_itself}
+use Rattle.ts_name.proofs.Order.{before_flip, before_itself, before_trans}
 use Rattle.ts_table.proofs.Rows.{ascend_pair}
 use Rattle.ts_check.specs.Pieces.{IsRowOf}
 use Rattle.ts_name.proofs.Basics.{all_at, element_at}
-
--- what a search by path finds
-pub row_found : (rows : Listing Stamp) (p : Path) (r : Result ℕ ℕ) → Ascend rows → IsSearchInRange r (length rows) → IsBinarySearchResult (λ row. path_cmp row.path p) rows r
-    → MatchOption (result_ok r) ((k : ℕ) → ¬ IsRowOf rows k p) (λ k. IsRowOf rows k p)
-row_found rows p (Ok i) up within h =
-    let x = element_at rows i within in
-    let tied : path_cmp x.0.path p ≡ Equal = subst (λ (z : Row Stamp). path_cmp z.path p ≡ Equal) (get_or_from_slice_get rows i x.0 x.0 x.1) (h x.0) in
-    (x.0, x.1, tied_paths x.0.path p tied)
-row_found rows p (Err i) up within h = λ k is.
-    let parted = h (rises rows p up) in
-    let inside = slice_get_within rows k is.0 is.1 in
-    let here = get_or_from_slice_get rows k is.0 is.0 is.1 in
-    let tied : path_cmp is.0.path p ≡ Equal = subst (λ z. path_cmp z p ≡ Equal) (sym is.2) (tied_itself path_total p) in
-    elim (cases_lt k i) [
-      | inl less ↦ (let e : path_cmp is.0.path p ≡ Less = subst (λ (z : Row Stamp). path_cmp z.path p ≡ Less) here (parted.0 k is.0 (omega arith) less) in absurd cc)
-      | inr more ↦ (let e : path_cmp is.0.path p ≡ Greater = subst (λ (z : Row Stamp). path_cmp z.path p ≡ Greater) here (parted.1 k is.0 more inside) in absurd cc)
-    ]
 
 -- a row's path isn't the root, and something is there
 pub row_is : (rows : Listing Stamp) → IsListing rows → (k : ℕ) (row : Row Stamp) → slice_get rows k ≡ Some row → (row.path ≢ []) × (row.content ≢ Absent)
@@ -73,3 +52,46 @@ one_row rows up i j p at_i at_j = elim (cases_order i j) [
   | inr (inl less) ↦ absurd (before_itself p (subst (λ z. IsBefore z p) at_i.2 (subst (λ z. IsBefore at_i.0.path z) at_j.2 (rows_order rows up i j at_i.0 at_j.0 at_i.1 at_j.1 less))))
   | inr (inr more) ↦ absurd (before_itself p (subst (λ z. IsBefore z p) at_j.2 (subst (λ z. IsBefore at_j.0.path z) at_i.2 (rows_order rows up j i at_j.0 at_i.0 at_j.1 at_i.1 more))))
 ]
+
+-- ---- a look for a row
+
+tied_row : (rows : Listing Stamp) (m : ℕ) (x : Row Stamp) (p : Path) → slice_get rows m ≡ Some x → IsRowOf rows m p → path_cmp x.path p ≡ Equal
+tied_row rows m x p is at_m =
+    let one : x ≡ at_m.0 = same_Some x at_m.0 (sym is ∙ at_m.1) in
+    subst (λ z. path_cmp z p ≡ Equal) (sym (ap (λ (w : Row Stamp). w.path) one ∙ at_m.2)) (tied_itself path_total p)
+
+-- the row at a place
+row_at : (rows : Listing Stamp) (m : ℕ) (d : Row Stamp) → m < length rows → slice_get rows m ≡ Some (get_or rows m d)
+row_at rows m d inside = let x = element_at rows m inside in x.1 ∙ ap Some (sym (get_or_from_slice_get rows m x.0 d x.1))
+
+-- where that row's path comes before this one, the path's row comes after it
+pub row_after : (rows : Listing Stamp) → Ascend rows → (m : ℕ) (d : Row Stamp) (p : Path) → m < length rows → Less ≡ path_cmp (get_or rows m d).path p → (k : ℕ) → IsRowOf rows k p → m < k
+row_after rows up m d p inside less k at_k = elim (cases_order m k) [
+  | inl same ↦ absurd (let tied : path_cmp (get_or rows m d).path p ≡ Equal = tied_row rows m (get_or rows m d) p (row_at rows m d inside) (subst (λ z. IsRowOf rows z p) (sym same) at_k) in cc)
+  | inr (inl before) ↦ before
+  | inr (inr after) ↦ absurd (before_itself p (before_trans p (get_or rows m d).path p
+      (subst (λ z. IsBefore z (get_or rows m d).path) at_k.2 (rows_order rows up k m at_k.0 (get_or rows m d) at_k.1 (row_at rows m d inside) after)) (sym less)))
+]
+
+-- and where it comes after this one, the path's row comes before it
+pub row_before : (rows : Listing Stamp) → Ascend rows → (m : ℕ) (d : Row Stamp) (p : Path) → m < length rows → Greater ≡ path_cmp (get_or rows m d).path p → (k : ℕ) → IsRowOf rows k p → k < m
+row_before rows up m d p inside greater k at_k = elim (cases_order m k) [
+  | inl same ↦ absurd (let tied : path_cmp (get_or rows m d).path p ≡ Equal = tied_row rows m (get_or rows m d) p (row_at rows m d inside) (subst (λ z. IsRowOf rows z p) (sym same) at_k) in cc)
+  | inr (inl before) ↦ absurd (before_itself p (before_trans p (get_or rows m d).path p (before_flip (get_or rows m d).path p (sym greater))
+      (subst (λ z. IsBefore (get_or rows m d).path z) at_k.2 (rows_order rows up m k (get_or rows m d) at_k.0 (row_at rows m d inside) at_k.1 before))))
+  | inr (inr after) ↦ after
+]
+
+-- and where it is this one, that row is the path's
+pub row_here : (rows : Listing Stamp) (m : ℕ) (d : Row Stamp) (p : Path) → m < length rows → Equal ≡ path_cmp (get_or rows m d).path p → IsRowOf rows m p
+row_here rows m d p inside same = (get_or rows m d, row_at rows m d inside, tied_paths (get_or rows m d).path p (sym same))
+
+-- the path's row lies from the first of these places on, and before the other
+abbrev pub LiesIn : Listing Stamp → Path → ℕ → ℕ → Type 0
+LiesIn rows p low high = (k : ℕ) → IsRowOf rows k p → (low ≤ k) × (k < high)
+
+pub lies_anywhere : (rows : Listing Stamp) (p : Path) → LiesIn rows p 0 (length rows)
+lies_anywhere rows p = λ k is. (omega arith, slice_get_within rows k is.0 is.1)
+
+pub lies_nowhere : (rows : Listing Stamp) (p : Path) (low high : ℕ) → high ≤ low → LiesIn rows p low high → (k : ℕ) → ¬ IsRowOf rows k p
+lies_nowhere rows p low high none lies k is = let at = lies k is in omega (arith, at.0, at.1, none)

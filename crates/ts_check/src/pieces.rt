@@ -28,14 +28,47 @@ fn is_range(size: u64, offset: u64, length: u64) -> bool
     offset % PIECE_SIZE == 0 && offset < size && length == PIECE_SIZE.min(size - offset)
 }
 
-/// The rows of the side that an entry is copied from.
+/// A row of each side where a look begins: the one that was found last.
+#[derive(Clone, Copy)]
+struct Found {
+    first: usize,
+    second: usize,
+}
+
+impl Found {
+    /// Nothing was found yet.
+    fn none() -> Found {
+        Found {
+            first: 0,
+            second: 0,
+        }
+    }
+
+    /// The row that was found last on a side.
+    fn at(&self, side: Side) -> usize {
+        match side {
+            Side::First => self.first,
+            Side::Second => self.second,
+        }
+    }
+
+    /// Keeps a row as the one that was found last.
+    fn set(&mut self, side: Side, row: usize) {
+        match side {
+            Side::First => self.first = row,
+            Side::Second => self.second = row,
+        }
+    }
+}
+
+/// The side that an entry is copied from, and its rows.
 fn source_of<'a>(
     plan: &Plan,
     first: &'a [Row<Stamp>],
     second: &'a [Row<Stamp>],
     e: usize,
-) -> Option<&'a [Row<Stamp>]>
-    ensures some { IfSome result (λ rows. IsSourceOf first.entry.now second.entry.now plan.entry.now e rows.now) }
+) -> Option<(Side, &'a [Row<Stamp>])>
+    ensures some { IfSome result (λ found. IsSourceOf first.entry.now second.entry.now plan.entry.now e found.1.now) }
     ensures none { IfNone result (¬ IsCopied plan.entry.now e) }
 {
     let entries = plan.entries.as_slice();
@@ -43,8 +76,8 @@ fn source_of<'a>(
         return None;
     }
     match entries[e].reason.source()? {
-        Side::First => Some(first),
-        Side::Second => Some(second),
+        Side::First => Some((Side::First, first)),
+        Side::Second => Some((Side::Second, second)),
     }
 }
 
@@ -71,6 +104,7 @@ fn is_piece(
     plan: &Plan,
     first: &[Row<Stamp>],
     second: &[Row<Stamp>],
+    near: Found,
     e: usize,
     offset: u64,
     length: u64,
@@ -80,10 +114,10 @@ fn is_piece(
     requires second { IsListing second.now }
     ensures { IsTrue result ↔ IsPieceIn first.now second.now plan.now e offset length path.now }
 {
-    let Some(rows) = source_of(plan, first, second, e) else {
+    let Some((side, rows)) = source_of(plan, first, second, e) else {
         return false;
     };
-    let Some(row) = row_of(rows, path) else {
+    let Some(row) = row_of(rows, near.at(side), path) else {
         return false;
     };
     let Some(size) = file_size(&rows[row]) else {
@@ -92,24 +126,44 @@ fn is_piece(
     is_below_entry(plan, e, path) && is_range(size, offset, length)
 }
 
+/// As far into the rows as action `i` is into the actions. Where pieces are in path order, a look that begins there isn't long.
+fn share(rows: usize, i: usize, actions: usize) -> usize {
+    rows.saturating_mul(i) / actions.max(1)
+}
+
 /// Whether action `i` is a piece that isn't lawful.
 fn is_unlawful(plan: &Plan, first: &[Row<Stamp>], second: &[Row<Stamp>], i: usize) -> bool
     requires first { IsListing first.now }
     requires second { IsListing second.now }
     ensures { IsTrue result ↔ IsUnlawful first.now second.now plan.now i }
 {
-    let Some(action) = plan.actions.as_slice().get(i) else {
+    let actions = plan.actions.as_slice();
+    let Some(action) = actions.get(i) else {
         return false;
     };
-    match &action.kind {
-        Kind::Piece {
-            entry,
-            offset,
-            length,
-            path,
-        } => !is_piece(plan, first, second, *entry as usize, *offset, *length, path),
-        _ => false,
-    }
+    let Kind::Piece {
+        entry,
+        offset,
+        length,
+        path,
+    } = &action.kind
+    else {
+        return false;
+    };
+    let near = Found {
+        first: share(first.len(), i, actions.len()),
+        second: share(second.len(), i, actions.len()),
+    };
+    !is_piece(
+        plan,
+        first,
+        second,
+        near,
+        *entry as usize,
+        *offset,
+        *length,
+        path,
+    )
 }
 
 /// The first piece that isn't lawful.
@@ -138,7 +192,13 @@ pub fn first_unlawful(
 pub type Staged = BTreeMap<Place, u32>;
 
 /// Where the file of a piece stands: its entry, the row of its source, and the offset.
-fn place_of(plan: &Plan, first: &[Row<Stamp>], second: &[Row<Stamp>], kind: &Kind) -> Option<Place>
+fn place_of(
+    plan: &Plan,
+    first: &[Row<Stamp>],
+    second: &[Row<Stamp>],
+    found: &mut Found,
+    kind: &Kind,
+) -> Option<Place>
     requires first { IsListing first.now }
     requires second { IsListing second.now }
     ensures some { IfSome result (λ place. IsPlaceOf first.now second.now plan.now kind.now place) }
@@ -153,8 +213,9 @@ fn place_of(plan: &Plan, first: &[Row<Stamp>], second: &[Row<Stamp>], kind: &Kin
     else {
         return None;
     };
-    let rows = source_of(plan, first, second, *entry as usize)?;
-    let row = row_of(rows, path)?;
+    let (side, rows) = source_of(plan, first, second, *entry as usize)?;
+    let row = row_of(rows, found.at(side), path)?;
+    found.set(side, row);
     Some((*entry, (row, *offset)))
 }
 
@@ -173,8 +234,9 @@ fn staged(
     ensures wrong { IfOk result (λ found. IfErr found (λ place. IsFirst (NotEachOnce first.now second.now plan.now) (Some place))) }
 {
     let mut map = BTreeMap::new(alloc);
+    let mut found = Found::none();
     for (i, action) in plan.actions.as_slice().iter().enumerate() {
-        if let Some(place) = place_of(plan, first, second, &action.kind) {
+        if let Some(place) = place_of(plan, first, second, &mut found, &action.kind) {
             if map.insert(place, i as u32)?.is_some() {
                 return Ok(Err(i as u64));
             }
@@ -202,15 +264,23 @@ fn has_all(map: &Staged, e: u32, row: usize, size: u64) -> bool
 }
 
 /// Whether each file at a path or below it has all its pieces of an entry.
-fn is_staged(top: &Path, rows: &[Row<Stamp>], map: &Staged, e: u32) -> bool
+fn is_staged(
+    top: &Path,
+    side: Side,
+    rows: &[Row<Stamp>],
+    found: &mut Found,
+    map: &Staged,
+    e: u32,
+) -> bool
     requires listing { IsListing rows.now }
     requires some { top.now ≢ [] }
     ensures all { IsTrue result → HasAllBelow top.now rows.now map.now e }
     ensures lacking { result ≡ false → LacksBelow top.now rows.now map.now e }
 {
-    let Some(start) = row_of(rows, top) else {
+    let Some(start) = row_of(rows, found.at(side), top) else {
         return true;
     };
+    found.set(side, start);
     for k in start..rows.len() {
         let row = &rows[k];
         if !top.is_prefix(&row.path) {
@@ -239,9 +309,10 @@ fn first_unstaged(
     requires map { IsStagedMap first.now second.now plan.now (length plan.now.actions) map.now }
     ensures { IsFirst (LacksSome first.now second.now plan.now) result }
 {
+    let mut found = Found::none();
     for (e, entry) in plan.entries.as_slice().iter().enumerate() {
-        if let Some(rows) = source_of(plan, first, second, e) {
-            if !is_staged(&entry.path, rows, map, e as u32) {
+        if let Some((side, rows)) = source_of(plan, first, second, e) {
+            if !is_staged(&entry.path, side, rows, &mut found, map, e as u32) {
                 return Some(e);
             }
         }

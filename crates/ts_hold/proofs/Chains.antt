@@ -102,7 +102,7 @@ linked_push earlier keys key next linked was = record {
         subst (λ z. IsEarlier (keys ++ key ∷ []) i (slot_of z) (get_or (earlier ++ next ∷ []) i 0)) (sym e)
         (subst (λ z. IsEarlier (keys ++ key ∷ []) i (slot_of key) z) (sym f) (subst (λ z. IsEarlier (keys ++ key ∷ []) z (slot_of key) next) (sym is) was_there))
 
-pub chained_push : (heads earlier keys : List ℕ) (key next new : ℕ) → IsChained heads earlier keys → length heads ≡ 16384 → length keys < 4096 → slot_of key < 16384
+pub chained_push : (heads earlier keys : List ℕ) (key next new : ℕ) → IsChained heads earlier keys → length heads ≡ 65536 → length keys < 4096 → slot_of key < 65536
     → next ≡ get_or heads (slot_of key) 0 → new ≡ length keys + 1 → IsChained (set heads (slot_of key) new) (earlier ++ next ∷ []) (keys ++ key ∷ [])
 chained_push heads earlier keys key next new was room few low is_next is_new = record {
   room = inl (length-set heads (slot_of key) new ∙ room);
@@ -128,7 +128,7 @@ chained_push heads earlier keys key next new was room few low is_next is_new = r
 -- ---- no numbers
 
 -- chains of no numbers begin nowhere
-empty_chains : (heads earlier keys : List ℕ) → AreLinked earlier keys → length keys ≡ 0 → length heads ≡ 16384 → ((chain : ℕ) → get_or heads chain 0 ≡ 0) → IsChained heads earlier keys
+empty_chains : (heads earlier keys : List ℕ) → AreLinked earlier keys → length keys ≡ 0 → length heads ≡ 65536 → ((chain : ℕ) → get_or heads chain 0 ≡ 0) → IsChained heads earlier keys
 empty_chains heads earlier keys linked none room blank = record {
   room = inl room;
   few = omega arith;
@@ -149,10 +149,10 @@ chained_room before after earlier keys was made = elim made.same [
   ]
 ]
 
-pub some_room : (heads earlier keys : List ℕ) → IsChained heads earlier keys → (length heads ≡ 16384) ⊎ (length heads ≡ 0)
+pub some_room : (heads earlier keys : List ℕ) → IsChained heads earlier keys → (length heads ≡ 65536) ⊎ (length heads ≡ 0)
 some_room heads earlier keys chained = elim chained.room [ inl room ↦ inl room | inr (none, _) ↦ inr none ]
 
-pub slot_small : (key : ℕ) → slot_of key < 16384
+pub slot_small : (key : ℕ) → slot_of key < 65536
 unfolding slot_of
 slot_small key = omega arith
 
@@ -200,7 +200,7 @@ found_below keys walked key limit from found same begun was = go found (subst (�
     go (Some n) last = last_below keys key limit from n begun last
 
 -- the link of a new number
-pub links_push : (heads : List ℕ) (links new_links : List Link) (link : Link) (key chain new : ℕ) → IsChained heads (earlier_of links) (keys_of links) → length heads ≡ 16384
+pub links_push : (heads : List ℕ) (links new_links : List Link) (link : Link) (key chain new : ℕ) → IsChained heads (earlier_of links) (keys_of links) → length heads ≡ 65536
     → length (keys_of links) < 4096 → chain ≡ slot_of key → link.key ≡ key → link.earlier ≡ get_or heads chain 0 → new_links ≡ links ++ link ∷ [] → new ≡ length new_links
     → IsChained (set heads chain new) (earlier_of new_links) (keys_of new_links)
 links_push heads links new_links link key chain new chained room few is is_key is_earlier pushed is_new =
@@ -218,5 +218,5 @@ zeros zero i = refl
 zeros (suc n) zero = refl
 zeros (suc n) (suc i) = zeros n i
 
-pub new_heads : (before after : List ℕ) (n : ℕ) → length before ≡ 0 → length after ≡ 16384 → after ≡ replicate n 0 → HasRoom before after
+pub new_heads : (before after : List ℕ) (n : ℕ) → length before ≡ 0 → length after ≡ 65536 → after ≡ replicate n 0 → HasRoom before after
 new_heads before after n none room made = record { room = room; same = inr (none, λ chain. ap (λ z. get_or z chain 0) made ∙ zeros n chain) }

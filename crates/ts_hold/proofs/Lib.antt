@@ -1,3 +1,4 @@
+pub mod Between
 pub mod Chains
 pub mod Fitting
 pub mod Lookups

@@ -16,7 +16,10 @@ use Rattle.ts_model.specs.declared.hold.Rule.TheVariants.{OnePath, LastName}
 use Rattle.ts_model.specs.Holds.{Fits, Names, RuleNames}
 use Rattle.ts_model.specs.Texts.{IsRules, RuleFits}
 use Rattle.ts_name.proofs.Utf8.{all_append}
-use Rattle.ts_hold.specs.Keys.{mixed, front_key, end_key, last_key, path_key, NameHasKey, IsKeyOf, AreKeys, IsFrontKey, IsEndKey, IsPatternKey, NoneNames, NoPathNames}
+use Rattle.ts_hold.specs.Mixing.{mixed}
+use Rattle.ts_hold.specs.Keys.{front_key, end_key, last_key, path_key, NameHasKey, IsKeyOf, AreKeys, IsFrontKey, IsEndKey, IsPatternKey, NoneNames, NoPathNames}
+use Rattle.ts_hold.specs.Windows.{IsMore}
+use Rattle.ts_hold.specs.declared.windows.Sizes.{Sizes}
 use Rattle.ts_hold.specs.Orders.{IsOrder, IsThere, IsPlace, NeedsPlace, NeedsNoPlace, rule_at}
 use Rattle.ts_hold.proofs.Fitting.{begins}
 use Rattle.ts_hold.proofs.Orders.{none_there, order_kept, order_more, there_names}
@@ -27,7 +30,7 @@ pub front_key_push : (before : ℕ) (bytes : Name) (b : ℕ) → front_key befor
 front_key_push before [] b = refl
 front_key_push before (x ∷ bytes) b = front_key_push (mixed before x) bytes b
 
-map_push_byte : (front : Name) (b : ℕ) → map Byte (front ++ b ∷ []) ≡ map Byte front ++ Byte b ∷ []
+pub map_push_byte : (front : Name) (b : ℕ) → map Byte (front ++ b ∷ []) ≡ map Byte front ++ Byte b ∷ []
 map_push_byte [] b = refl
 map_push_byte (x ∷ front) b = ap (λ z. Byte x ∷ z) (map_push_byte front b)
 
@@ -55,10 +58,10 @@ end_more pattern key b new symbol rest before found is is_byte more = record {
 
 -- ---- names that fit a pattern
 
-pub has_front : (pattern : List Symbol) (key : ℕ) (rest : List Symbol) → IsFrontKey pattern key rest → IsPatternKey pattern key
-has_front pattern key rest found name fits = go (begins found.front rest name (subst (λ z. Fits z name) found.pattern_is fits))
+pub has_front : (sizes : Sizes) (pattern : List Symbol) (key : ℕ) (rest : List Symbol) → IsFrontKey pattern key rest → IsPatternKey sizes pattern key
+has_front sizes pattern key rest found name fits = go (begins found.front rest name (subst (λ z. Fits z name) found.pattern_is fits))
   where
-    go : (left : Name) × (name ≡ found.front ++ left) × Fits rest left → NameHasKey name key
+    go : (left : Name) × (name ≡ found.front ++ left) × Fits rest left → NameHasKey sizes name key
     go (left, is, _) = inl (
       length found.front,
       omega (arith, ap length is, length-append found.front left),
@@ -81,15 +84,15 @@ ends (Star ∷ front) end name fits =
     let more = ends front end fits.1 fits.3 in
     (fits.0 ++ more.0, fits.2 ∙ ap (λ z. fits.0 ++ z) more.1 ∙ sym (append_assoc fits.0 more.0 end))
 
-pub has_end : (pattern : List Symbol) (key : ℕ) (rest : List Symbol) → IsEndKey pattern key rest → IsPatternKey pattern key
-has_end pattern key rest found name fits = go (ends rest found.end name (subst (λ z. Fits z name) found.pattern_is fits))
+pub has_end : (sizes : Sizes) (pattern : List Symbol) (key : ℕ) (rest : List Symbol) → IsEndKey pattern key rest → IsPatternKey sizes pattern key
+has_end sizes pattern key rest found name fits = go (ends rest found.end name (subst (λ z. Fits z name) found.pattern_is fits))
   where
-    go : (left : Name) × (name ≡ left ++ found.end) → NameHasKey name key
-    go (left, is) = inr (
+    go : (left : Name) × (name ≡ left ++ found.end) → NameHasKey sizes name key
+    go (left, is) = inr (inl (
       length left,
       omega (arith, ap length is, length-append left found.end),
       found.key_is ∙ ap end_key (sym (ap (drop (length left)) is ∙ drop_at left found.end (length left) refl)),
-    )
+    ))
 
 -- ---- paths
 
@@ -110,23 +113,33 @@ key_of_path path last key is_last is_key = cc
 
 -- ---- rules
 
--- no keys, and one more
-pub keys_push : (rules : List Rule) (keys : List ℕ) (rule : Rule) (key : ℕ) → AreKeys rules keys → IsKeyOf rule key → AreKeys (rules ++ rule ∷ []) (keys ++ key ∷ [])
-keys_push rules keys rule key are is = record {
+-- a key stays one where more sizes are in use
+pub still_key : (old new : Sizes) → IsMore old new → (rule : Rule) (key : ℕ) → IsKeyOf old rule key → IsKeyOf new rule key
+still_key old new more (OnePath path) key is = is
+still_key old new more (LastName pattern) key is = λ name fits. go name (is name fits)
+  where
+    go : (name : Name) → NameHasKey old name key → NameHasKey new name key
+    go name (inl front) = inl front
+    go name (inr (inl end)) = inr (inl end)
+    go name (inr (inr w)) = inr (inr (record { size = w.size; used = more w.size w.used; end = w.end; within = w.within; key_is = w.key_is }))
+
+-- one rule more
+pub keys_push : (old new : Sizes) (rules : List Rule) (keys : List ℕ) (rule : Rule) (key : ℕ) → IsMore old new → AreKeys old rules keys → IsKeyOf new rule key → AreKeys new (rules ++ rule ∷ []) (keys ++ key ∷ [])
+keys_push old new rules keys rule key more are is = record {
   count = omega (arith, are.count, length_push rules rule, length_push keys key);
   each = λ i d inside. go i d inside (cases_lt i (length rules));
 }
   where
-    go : (i : ℕ) (d : Rule) → i < length (rules ++ rule ∷ []) → (i < length rules) ⊎ (length rules ≤ i) → IsKeyOf (get_or (rules ++ rule ∷ []) i d) (get_or (keys ++ key ∷ []) i 0)
+    go : (i : ℕ) (d : Rule) → i < length (rules ++ rule ∷ []) → (i < length rules) ⊎ (length rules ≤ i) → IsKeyOf new (get_or (rules ++ rule ∷ []) i d) (get_or (keys ++ key ∷ []) i 0)
     go i d inside (inl before) =
         let there : i < length keys = omega (arith, are.count) in
         let e : get_or (rules ++ rule ∷ []) i d ≡ get_or rules i d = get_or_append_left rules (rule ∷ []) d i before in
         let f : get_or (keys ++ key ∷ []) i 0 ≡ get_or keys i 0 = get_or_append_left keys (key ∷ []) 0 i there in
-        subst (λ z. IsKeyOf z (get_or (keys ++ key ∷ []) i 0)) (sym e) (subst (λ z. IsKeyOf (get_or rules i d) z) (sym f) (are.each i d before))
+        subst (λ z. IsKeyOf new z (get_or (keys ++ key ∷ []) i 0)) (sym e) (subst (λ z. IsKeyOf new (get_or rules i d) z) (sym f) (still_key old new more (get_or rules i d) (get_or keys i 0) (are.each i d before)))
     go i d inside (inr after) =
         let e : get_or (rules ++ rule ∷ []) i d ≡ rule = get_or_push rules rule d i (omega (arith, length_push rules rule)) in
         let f : get_or (keys ++ key ∷ []) i 0 ≡ key = get_or_push keys key 0 i (omega (arith, are.count, length_push rules rule)) in
-        subst (λ z. IsKeyOf z (get_or (keys ++ key ∷ []) i 0)) (sym e) (subst (λ z. IsKeyOf rule z) (sym f) is)
+        subst (λ z. IsKeyOf new z (get_or (keys ++ key ∷ []) i 0)) (sym e) (subst (λ z. IsKeyOf new rule z) (sym f) is)
 
 -- ---- a rule more, and back
 

@@ -16,7 +16,7 @@ abbrev pub earlier_of : List Link → List ℕ
 earlier_of links = map (λ link. link.earlier) links
 
 unfoldable pub slot_of : ℕ → ℕ
-slot_of key = (key / 4294967296) % 16384
+slot_of key = (key / 4294967296) % 65536
 
 -- a number of the chain is one less than this, or this is 0
 abbrev pub IsOn : List ℕ → ℕ → ℕ → Type 0
@@ -32,14 +32,14 @@ pub record AreLinked (earlier keys : List ℕ) : Type 0 where
   pub each : (i : ℕ) → i < length keys → IsEarlier keys i (slot_of (slice_index keys i)) (slice_index earlier i)
 
 pub record IsChained (heads earlier keys : List ℕ) : Type 0 where
-  pub room : (length heads ≡ 16384) ⊎ ((length heads ≡ 0) × (length keys ≡ 0))
+  pub room : (length heads ≡ 65536) ⊎ ((length heads ≡ 0) × (length keys ≡ 0))
   pub few : length keys ≤ 4096
   pub linked : AreLinked earlier keys
   pub begun : (chain : ℕ) → chain < length heads → IsEarlier keys (length keys) chain (slice_index heads chain)
 
 -- there is a head for each chain, and the chains are as before
 pub record HasRoom (before after : List ℕ) : Type 0 where
-  pub room : length after ≡ 16384
+  pub room : length after ≡ 65536
   pub same : (after ≡ before) ⊎ ((length before ≡ 0) × ((chain : ℕ) → slice_index after chain ≡ 0))
 
 abbrev pub HasNone : List ℕ → ℕ → ℕ → ℕ → Type 0

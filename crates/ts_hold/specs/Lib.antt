@@ -3,5 +3,7 @@ pub mod Faults
 pub mod Fronts
 pub mod Keys
 pub mod Lines
+pub mod Mixing
 pub mod Orders
 pub mod Rules
+pub mod Windows

@@ -7,8 +7,9 @@ ghost use Rattle.ts_model.specs.declared.hold.Rule.{Rule};
 ghost use Rattle.ts_text.specs.Lines.{FailuresFit};
 ghost use Rattle.ts_text.specs.Sources.{Writes};
 ghost use Rattle.ts_text.specs.declared.fault.TextFault.TheVariants as fault;
-ghost use Rattle.ts_hold.specs.Keys.{AreKeys, NoEndNames, NoFrontNames, NoPathNames, NoneNames};
+ghost use Rattle.ts_hold.specs.Keys.{AreKeys, NoEndNames, NoFrontNames, NoMiddleNames, NoPathNames, NoWindowNames, NoneNames};
 ghost use Rattle.ts_hold.specs.Orders.{IsOrder};
+ghost use Rattle.ts_hold.specs.declared.windows.Sizes.{Sizes};
 
 use crate::faults::HoldFault;
 use crate::index::Index;
@@ -17,6 +18,7 @@ use crate::lines::first_line;
 use crate::order::place_of;
 use crate::pattern::fits;
 use crate::reader::RuleReader;
+use crate::windows::{Size, Sizes, shifted, window_key};
 use crate::write::push_rule;
 use std::alloc::Global;
 use std::marker::Model;
@@ -29,6 +31,8 @@ use ts_text::{Sink, TextFault, write_line};
 pub struct Holds {
     pub(crate) rules: Vec<Rule>,
     pub(crate) index: Index,
+    // those of the windows that rules are found by
+    pub(crate) sizes: Sizes,
     // the numbers of the rules of one path, in the order of their paths
     pub(crate) order: Vec<u16>,
 }
@@ -43,7 +47,7 @@ impl Model for Holds {
 
     ghost view = { λ h. h.rules.items };
 
-    ghost invariant = { λ h. IsFound h.rules.items h.index h.order.items };
+    ghost invariant = { λ h. IsFound h.sizes h.rules.items h.index h.order.items };
 }
 
 impl Holds {
@@ -56,6 +60,7 @@ impl Holds {
         Holds {
             rules: Vec::new(alloc),
             index: Index::new(alloc),
+            sizes: Sizes::none(),
             order: Vec::new(alloc),
         }
     }
@@ -82,10 +87,9 @@ impl Holds {
         let Some(name) = path.last() else {
             return false;
         };
-        if named_by_front(rules, &self.index, name, path) {
-            return true;
-        }
-        named_by_end(rules, &self.index, name, path)
+        named_by_front(rules, &self.index, name, path)
+            || named_by_end(rules, &self.index, name, path)
+            || named_by_middle(rules, &self.index, self.sizes, name, path)
     }
 
     /// The rules that a text spells, one a line. A bad line is reported by its number, the first one of them.
@@ -125,7 +129,7 @@ impl Holds {
 
 /// Whether some rule of one path names the path.
 fn path_named(rules: &[Rule], index: &Index, order: &[u16], path: &Path) -> bool
-    requires keys { AreKeys rules.now index.now }
+    requires keys { (sizes : Sizes) × AreKeys sizes rules.now index.now }
     requires order { IsOrder rules.now order.now }
     ensures { MatchBool result (Names rules.now path.now) (NoPathNames rules.now path.now) }
 {
@@ -180,6 +184,50 @@ fn named_by_end(rules: &[Rule], index: &Index, name: &[u8], path: &Path) -> bool
         rest = before;
     }
     some_named(rules, index, key, path)
+}
+
+/// Whether some rule with the key of a window names the path: of one that ends after so many bytes of the name, whose number this is.
+fn named_by_window(
+    rules: &[Rule],
+    index: &Index,
+    sizes: Sizes,
+    count: usize,
+    number: u64,
+    path: &Path,
+) -> bool
+    requires { length index.now ≡ length rules.now }
+    ensures { MatchBool result (Names rules.now path.now) (NoWindowNames sizes rules.now index.now count number path.now) }
+{
+    if sizes.eight
+        && count >= 8
+        && some_named(rules, index, window_key(Size::Eight, number), path)
+    {
+        return true;
+    }
+    if sizes.four && count >= 4 && some_named(rules, index, window_key(Size::Four, number), path) {
+        return true;
+    }
+    if sizes.two && count >= 2 && some_named(rules, index, window_key(Size::Two, number), path) {
+        return true;
+    }
+    sizes.one && count >= 1 && some_named(rules, index, window_key(Size::One, number), path)
+}
+
+/// Whether some rule with the key of a window of the path's last name names the path.
+fn named_by_middle(rules: &[Rule], index: &Index, sizes: Sizes, name: &[u8], path: &Path) -> bool
+    requires { length index.now ≡ length rules.now }
+    ensures { MatchBool result (Names rules.now path.now) (NoMiddleNames sizes rules.now index.now name.now path.now) }
+{
+    let mut number = 0;
+    let mut count = 0;
+    for byte in name {
+        number = shifted(number, *byte);
+        count += 1;
+        if named_by_window(rules, index, sizes, count, number, path) {
+            return true;
+        }
+    }
+    false
 }
 
 fn names(rule: &Rule, path: &Path) -> bool

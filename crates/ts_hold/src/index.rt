@@ -6,7 +6,7 @@ use std::alloc::{AllocError, Global};
 use std::marker::Model;
 
 /// How many chains there are.
-const CHAINS: usize = 16_384;
+const CHAINS: usize = 65_536;
 
 /// A key, and one more than the number before it in its chain, or 0.
 #[derive(Clone, Copy)]
@@ -80,7 +80,7 @@ impl Index {
 
 /// Makes the heads of the chains, where there are none.
 fn make_room(heads: &mut Vec<u16>, alloc: Global) -> Result<(), AllocError>
-    requires { (length heads.old.items ≡ 16384) ⊎ (length heads.old.items ≡ 0) }
+    requires { (length heads.old.items ≡ 65536) ⊎ (length heads.old.items ≡ 0) }
     ensures ok { OnOk result (HasRoom heads.old.items heads.new.items) }
     ensures kept { OnErr result (heads.new.items ≡ heads.old.items) }
 {

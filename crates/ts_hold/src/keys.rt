@@ -1,7 +1,12 @@
 //! Keys of rules. A path is looked for by a few keys, and each rule that names it has one of them.
 ghost use Rattle.std.specs.Prelude.{◌≡◌};
-ghost use Rattle.ts_hold.specs.Keys.{IsEndKey, IsFrontKey, IsKeyOf, IsPatternKey, front_key, mixed, path_key};
+ghost use Rattle.ts_hold.specs.Keys.{IsEndKey, IsFrontKey, IsKeyOf, IsPatternKey, front_key, path_key};
+ghost use Rattle.ts_hold.specs.Mixing.{mixed};
+ghost use Rattle.ts_hold.specs.Windows.{IsMore};
+ghost use Rattle.ts_hold.specs.declared.windows.Sizes.{Sizes};
 
+use crate::index::Index;
+use crate::windows::{Sizes, widest_key};
 use ts_model::hold::{Rule, Symbol};
 use ts_name::Path;
 
@@ -74,25 +79,53 @@ fn end_of(pattern: &[Symbol]) -> (u64, &[Symbol])
     (key, rest)
 }
 
-/// A key of each name that fits the pattern, of as many bytes as can be.
-fn pattern_key(pattern: &[Symbol]) -> u64
-    ensures { IsPatternKey pattern.now result }
+/// Whether a key is of some bytes, and of no rule so far.
+fn is_free(index: &Index, key: u64) -> bool {
+    key != NO_FRONT && key != NO_END && index.last(key).is_none()
+}
+
+/// The keys of the front and the end of each name that fits the pattern: the one of most bytes, how many these are, and the other.
+fn outer_keys(pattern: &[Symbol]) -> (u64, usize, u64)
+    ensures most { (sizes : Sizes) → IsPatternKey sizes pattern.now result.0 }
+    ensures other { (sizes : Sizes) → IsPatternKey sizes pattern.now result.2 }
 {
     let (front, after) = front_of(pattern);
     let (end, before) = end_of(pattern);
     if before.len() < after.len() {
-        end
+        (end, pattern.len() - before.len(), front)
     } else {
-        front
+        (front, pattern.len() - after.len(), end)
     }
 }
 
-/// A key of each path that the rule names.
-pub fn rule_key(rule: &Rule) -> u64
-    ensures { IsKeyOf rule.now result }
+/// A key of each name that fits the pattern, and the sizes of windows that are in use with it. It is one that no rule has, where there
+/// is one, of the front, of the end or of a window; else that of most bytes.
+fn pattern_key(index: &Index, sizes: Sizes, pattern: &[Symbol]) -> (u64, Sizes)
+    ensures key { IsPatternKey result.1 pattern.now result.0 }
+    ensures kept { IsMore sizes result.1 }
+{
+    let (most, bytes, other) = outer_keys(pattern);
+    if is_free(index, most) {
+        return (most, sizes);
+    }
+    if is_free(index, other) {
+        return (other, sizes);
+    }
+    if let Some((key, size)) = widest_key(index, pattern) {
+        if is_free(index, key) || size.bytes() > bytes {
+            return (key, sizes.with(size));
+        }
+    }
+    (most, sizes)
+}
+
+/// A key of each path that the rule names, and the sizes of windows that are in use with it.
+pub fn rule_key(index: &Index, sizes: Sizes, rule: &Rule) -> (u64, Sizes)
+    ensures key { IsKeyOf result.1 rule.now result.0 }
+    ensures kept { IsMore sizes result.1 }
 {
     match rule {
-        Rule::OnePath(path) => path_key(path),
-        Rule::LastName(pattern) => pattern_key(pattern.as_slice()),
+        Rule::OnePath(path) => (path_key(path), sizes),
+        Rule::LastName(pattern) => pattern_key(index, sizes, pattern.as_slice()),
     }
 }

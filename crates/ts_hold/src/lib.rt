@@ -11,6 +11,7 @@ mod order;
 mod pattern;
 mod reader;
 mod symbols;
+mod windows;
 mod write;
 
 pub use faults::HoldFault;

@@ -8,6 +8,7 @@ use crate::index::Index;
 use crate::keys::rule_key;
 use crate::lines::parse_rule;
 use crate::order::place_for;
+use crate::windows::Sizes;
 use std::alloc::{AllocError, Global};
 use std::marker::Model;
 use ts_model::hold::Rule;
@@ -20,6 +21,7 @@ pub struct RuleReader {
     alloc: Global,
     rules: Vec<Rule>,
     index: Index,
+    sizes: Sizes,
     order: Vec<u16>,
 }
 
@@ -33,7 +35,7 @@ impl Model for RuleReader {
 
     ghost view = { λ r. r.rules.items };
 
-    ghost invariant = { λ r. IsFound r.rules.items r.index r.order.items };
+    ghost invariant = { λ r. IsFound r.sizes r.rules.items r.index r.order.items };
 }
 
 impl RuleReader {
@@ -47,6 +49,7 @@ impl RuleReader {
             alloc,
             rules: Vec::new(alloc),
             index: Index::new(alloc),
+            sizes: Sizes::none(),
             order: Vec::new(alloc),
         }
     }
@@ -75,7 +78,7 @@ impl RuleReader {
         ensures ok { OnOk result (self.new ≡ self.old ++ rule ∷ []) }
         ensures kept { OnErr result (self.new ≡ self.old) }
     {
-        let key = rule_key(&rule);
+        let (key, sizes) = rule_key(&self.index, self.sizes, &rule);
         let place = place_for(&self.rules, &self.order, &rule);
         self.order.reserve(1)?;
         let number = self.rules.len() as u16;
@@ -84,6 +87,7 @@ impl RuleReader {
             self.rules.pop();
             return Err(AllocError);
         }
+        self.sizes = sizes;
         if let Some(place) = place {
             // there is room
             let _ = self.order.insert(place, number);
@@ -99,11 +103,13 @@ impl RuleReader {
             alloc: _,
             rules,
             index,
+            sizes,
             order,
         } = self;
         Holds {
             rules,
             index,
+            sizes,
             order,
         }
     }

@@ -3,4 +3,4 @@ use Rattle.ts_check.proofs.pieces.place_of.Goals as goal
 
 pub returns-in_err-row-clause-none : goal.returns-in_err-row-clause-none
 returns-in_err-row-clause-none c = rw c.from_residual-in_err-row.ensures
-    (no_place c.args.first.now c.args.second.now c.requires.first c.requires.second c.args.plan.now c.args.kind.now c.in-Piece.entry c.in-Piece.offset c.in-Piece.length c.in-Piece.path c.in_ok-rows.rows.now c.in-Piece.is c.in_ok-rows.ensures.some c.in_err-row.ensures)
+    (no_place c.args.first.now c.args.second.now c.requires.first c.requires.second c.args.plan.now c.args.kind.now c.in-Piece.entry c.in-Piece.offset c.in-Piece.length c.in-Piece.path c.in_ok-side.rows.now c.in-Piece.is c.in_ok-side.ensures.some c.in_err-row.ensures)

@@ -1,5 +1,5 @@
 use Rattle.std.proofs.Common.{◌∙◌, ap}
-use Rattle.ts_hold.specs.Keys.{mixed}
+use Rattle.ts_hold.specs.Mixing.{mixed}
 use Rattle.ts_hold.proofs.Lookups.{end_more}
 use Rattle.ts_hold.proofs.keys.end_of.Goals as goal
 

@@ -1,5 +1,5 @@
 use Rattle.std.proofs.Common.{◌∙◌, ap}
-use Rattle.ts_hold.specs.Keys.{mixed}
+use Rattle.ts_hold.specs.Mixing.{mixed}
 use Rattle.ts_hold.proofs.Lookups.{key_of_path, no_last, some_last}
 use Rattle.ts_hold.proofs.keys.path_key.Goals as goal
 use Rattle.ts_hold.proofs.keys.path_key.Goals.{in-Some, in-None}

@@ -19,7 +19,7 @@ invariant_of-self-in-Some c =
     ∙ ap (λ z. insert c.self.inside.order.items c.in-Some.place z) (c.len-number.ensures ∙ c.self.inside.rules.ok.0) in
     rw (c.in_ok-push.ensures.items, keys_are, order_is) (record {
       lawful = rules_push _ _ c.self.invariant.lawful c.requires.lawful (λ e. omega (arith, c.requires.room, e, ap length c.self.view_is));
-      with_keys = keys_push _ _ _ _ c.self.invariant.with_keys c.rule_key-key.ensures;
+      with_keys = keys_push _ _ _ _ _ _ c.rule_key-key.ensures.kept c.self.invariant.with_keys c.rule_key-key.ensures.key;
       in_order = order_with _ _ _ _ c.self.invariant.in_order place;
     })
 
@@ -29,6 +29,6 @@ invariant_of-self-in_default c =
     let there = rw (c.in_default.is, c.deref.ensures.value, c.deref-2.ensures.value) at c.place_for-place.ensures in
     rw (c.in_ok-push.ensures.items, keys_are, c.reserve.ensures.items) (record {
       lawful = rules_push _ _ c.self.invariant.lawful c.requires.lawful (λ e. omega (arith, c.requires.room, e, ap length c.self.view_is));
-      with_keys = keys_push _ _ _ _ c.self.invariant.with_keys c.rule_key-key.ensures;
+      with_keys = keys_push _ _ _ _ _ _ c.rule_key-key.ensures.kept c.self.invariant.with_keys c.rule_key-key.ensures.key;
       in_order = order_with_none _ _ _ c.self.invariant.in_order there;
     })
