@@ -1,6 +1,6 @@
 //! The two rules about reasons.
 
-ghost use Rattle.std.specs.Prelude.{◌≡◌, ◌≢◌, ◌⊎◌, ◌↔◌, ◌≤◌, ℕ, IfOk, IsTrue, Option, Some, None, MatchOption, slice_get};
+ghost use Rattle.std.specs.Prelude.{◌≡◌, ◌≢◌, ◌⊎◌, ◌↔◌, ◌≤◌, ℕ, IfOk, IsOk, IsTrue, Option, Some, None, MatchOption, slice_get};
 ghost use Rattle.ts_model.specs.Plans.{IsOutOfOrder};
 ghost use Rattle.ts_model.specs.Sync.{listed_snapshot};
 ghost use Rattle.ts_need.specs.Merges.{MeetsEntries};
@@ -73,13 +73,13 @@ fn broken(rule: PlanRule, place: usize) -> Option<Broken>
     })
 }
 
-/// The lesser of the two rules about reasons that is broken, with its least place; none where both hold. It takes no memory.
+/// The lesser of the two rules about reasons that is broken, with its least place; none where both hold.
 ///
-/// The three prints are gone through once, beside the entries.
+/// The three prints are gone through once, beside the entries. No memory is taken.
 ///
 /// # Errors
 ///
-/// None comes: the answer of a checker that takes memory would have the same form.
+/// It never fails: the error is there for a checker that takes memory, which would have the same signature.
 pub fn first_wrong(
     _alloc: Global,
     entries: &[Entry],
@@ -89,7 +89,8 @@ pub fn first_wrong(
     holds: &Holds,
 ) -> Result<Option<Broken>, AllocError>
     requires { Never (IsOutOfOrder entries.now) }
-    ensures { IfOk result (λ found. IsNeedAnswer (listed_snapshot archive.now first.now second.now holds.now) entries.now found) }
+    ensures succeeds { IsOk result }
+    ensures answer { IfOk result (λ found. IsNeedAnswer (listed_snapshot archive.now first.now second.now holds.now) entries.now found) }
 {
     let _rules = holds.rules();
     let mut walk = walk3(archive, first, second);

@@ -20,11 +20,11 @@ returns-in-Some-2-clause-told g c =
     let s = snapshot_of c.args.state.now in
     let plan = c.args.plan.now in
     rw c.broken-in-Some-2.ensures (need_told s plan c.in-Some-2.found (hold_more s plan 2 EntriesAscend refl (hold_more s plan 1 Limits refl (hold_none s plan) (c.in_default.ensures s)) (rw c.as_slice-entries.ensures at c.in_default-first_out_of_order.ensures))
-    (rw (c.as_slice-entries.ensures, c.in-Some-2.is) at c.in_ok-found.ensures))
+    (rw (c.as_slice-entries.ensures, c.in-Some-2.is) at c.in_ok-found.ensures.answer))
 
 pub returns-in-None-clause-holds : goal.returns-in-None-clause-holds
 returns-in-None-clause-holds g c =
     let s = snapshot_of c.args.state.now in
     let plan = c.args.plan.now in
     need_holds s plan (hold_more s plan 2 EntriesAscend refl (hold_more s plan 1 Limits refl (hold_none s plan) (c.in_default.ensures s)) (rw c.as_slice-entries.ensures at c.in_default-first_out_of_order.ensures))
-    (rw (c.as_slice-entries.ensures, c.in-None.is) at c.in_ok-found.ensures)
+    (rw (c.as_slice-entries.ensures, c.in-None.is) at c.in_ok-found.ensures.answer)

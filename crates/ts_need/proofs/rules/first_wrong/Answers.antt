@@ -15,8 +15,8 @@ loop-next-init c =
       checked_start c.args.archive.now c.args.first.now c.args.second.now c.args.holds.now lists.0 lists.1 lists.2 c.args.entries.now c.requires 0 _ refl refl,
     )
 
-pub returns-in-Wrong : goal.returns-in-Wrong
-returns-in-Wrong c =
+pub returns-in-Wrong-clause-answer : goal.returns-in-Wrong-clause-answer
+returns-in-Wrong-clause-answer c =
     let A = c.args.archive.now in
     let F = c.args.first.now in
     let S = c.args.second.now in
@@ -67,8 +67,8 @@ loop-next-preserved c =
     let less = step_forward A F S b c.in-Some.seen.path.now _ _ _ c.loop-next.walk c.next.new.self here.is_left c.in-Some.ensures.steps in
     (found.0, found.1, none_next A F S rules lists.0 lists.1 lists.2 c.args.entries.now c.requires b c.in-Some.seen.path.now found.0 c.find_reason-reasoned.result.reason c.loop-next.next c.loop-next.lacking checked less found.2 c.in-Nothing.ensures.1)
 
-pub returns-then-next-entries : goal.returns-then-next-entries
-returns-then-next-entries c =
+pub returns-then-next-entries-clause-answer : goal.returns-then-next-entries-clause-answer
+returns-then-next-entries-clause-answer c =
     let A = c.args.archive.now in
     let F = c.args.first.now in
     let S = c.args.second.now in
@@ -78,8 +78,8 @@ returns-then-next-entries c =
     answer_wrong (listed_snapshot A F S rules) c.args.entries.now c.broken-then-next-entries.result c.loop-next.next c.broken-then-next-entries.ensures
     (wrong_last A F S rules lists.0 lists.1 lists.2 c.args.entries.now c.requires b c.loop-next.walk c.loop-next.next c.loop-next.lacking checked here.is_left c.in_default.ensures.steps (let less = c.if-next-entries.true in omega arith))
 
-pub returns-in-Some-lacking : goal.returns-in-Some-lacking
-returns-in-Some-lacking c =
+pub returns-in-Some-lacking-clause-answer : goal.returns-in-Some-lacking-clause-answer
+returns-in-Some-lacking-clause-answer c =
     let A = c.args.archive.now in
     let F = c.args.first.now in
     let S = c.args.second.now in
@@ -90,8 +90,8 @@ returns-in-Some-lacking c =
     (all_right A F S rules lists.0 lists.1 lists.2 c.args.entries.now c.requires b c.loop-next.walk c.loop-next.next c.loop-next.lacking checked here.is_left c.in_default.ensures.steps c.if-next-entries.false)
     (subst (λ (o : Option ℕ). IsFirst (Lacks (listed_snapshot A F S rules) c.args.entries.now) o) c.in-Some-lacking.is (all_lacking A F S rules lists.0 lists.1 lists.2 c.args.entries.now c.requires b c.loop-next.walk c.loop-next.next c.loop-next.lacking checked here.is_left c.in_default.ensures.steps))
 
-pub returns-in-None : goal.returns-in-None
-returns-in-None c =
+pub returns-in-None-clause-answer : goal.returns-in-None-clause-answer
+returns-in-None-clause-answer c =
     let A = c.args.archive.now in
     let F = c.args.first.now in
     let S = c.args.second.now in
