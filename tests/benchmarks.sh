@@ -4,7 +4,8 @@
 # column has each time divided by the one at a quarter of the size: near 4 where time is linear.
 # Then measures the planner and the checker over two replicas of 50,000, 200,000 and 800,000 paths, of which one in a hundred
 # changed: the last columns have each time divided by the one at a quarter of the size. And over 200,000 paths without hold
-# rules and with 4,096 of them, the most that there may be.
+# rules and with 4,096 of them, the most that there may be: of all kinds in turn, and of each kind alone, by where their stars
+# are. The last columns have each time divided by the one without rules.
 # Then measures how long 1, 2 and 4 workers take to copy 262,144 new files in memory, with the speed-up over 1 worker, and
 # how much of it came after the last actions had begun: the end of the workers, the sweep and the outcome. Each is the
 # least of five runs, taken in turn.
@@ -48,9 +49,10 @@ both() {
 both archive 50000 200000 4
 both plan 262144 1048576 21
 
-# Plans for so many paths by so many hold rules, and checks the plan, five times: the least milliseconds of each
+# Plans for so many paths by so many hold rules, perhaps of one kind, and checks the plan, five times: the least milliseconds
+# of each
 planned() {
-  for _ in 1 2 3 4 5; do "$program" plan "$1" "$2"; done | awk '
+  for _ in 1 2 3 4 5; do "$program" plan "$@"; done | awk '
     /^planned/ { if (!runs++ || $3 < planned) planned = $3; if (runs == 1 || $7 < checked) checked = $7 }
     END { print planned, checked }'
 }
@@ -65,8 +67,14 @@ for paths in 50000 200000 800000; do
   }'
   quarter=$times
 done
-for rules in 0 4096; do
-  echo "200000 paths, $rules rules: $(planned 200000 "$rules" | awk '{ print "plan " $1 " ms, check " $2 " ms" }')"
+without=$(planned 200000 0)
+echo "200000 paths, no rules: $(echo "$without" | awk '{ print "plan " $1 " ms, check " $2 " ms" }')"
+for kind in '' path name front end middle both; do
+  echo "${kind:-all} $(planned 200000 4096 ${kind:+"$kind"}) $without" | awk '{
+    printf "200000 paths, 4096 rules, %-7s  plan %4d ms  check %4d ms", $1 ":", $2, $3
+    if ($4 > 0 && $5 > 0) printf "  times: %.1f, %.1f", $2 / $4, $3 / $5
+    print ""
+  }'
 done
 
 for _ in 1 2 3 4 5; do

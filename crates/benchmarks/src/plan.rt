@@ -1,6 +1,7 @@
 //! Plans for two replicas of many paths, of which one in a hundred changed in one of them, and checks the plan. Without words
 //! it does a few and says what it found; with a number of paths, and perhaps one of hold rules that name none of them, it also
-//! says how long each took.
+//! says how long each took. The rules are of all kinds in turn, or of the one that a third word names: `path`, `name`, or, for
+//! patterns with a star, `front`, `end`, `middle` and `both`, by where their stars are.
 
 use crate::paths::line_at;
 use crate::words::number;
@@ -35,15 +36,65 @@ fn print_of(alloc: Global, paths: u32, is_changed: bool) -> Result<ts_print::Pri
     Ok(reader.finish()?)
 }
 
-/// So many hold rules that name nothing: a quarter of them paths, a quarter names, and half patterns with a star.
-fn rules_of(alloc: Global, rules: u32) -> Result<Holds> {
+/// A kind of hold rule.
+#[derive(Clone, Copy)]
+enum RuleKind {
+    /// One path.
+    OnePath,
+    /// A name without a star.
+    WholeName,
+    /// A star at the front.
+    Front,
+    /// A star at the end.
+    End,
+    /// A star in the middle.
+    Middle,
+    /// A star at both ends.
+    Both,
+}
+
+/// All kinds, in the order in which a mix takes turns.
+const KINDS: [RuleKind; 6] = [
+    RuleKind::OnePath,
+    RuleKind::WholeName,
+    RuleKind::Front,
+    RuleKind::End,
+    RuleKind::Middle,
+    RuleKind::Both,
+];
+
+/// The kind that a word names.
+fn kind_of(word: &str) -> Result<RuleKind> {
+    match word {
+        "path" => Ok(RuleKind::OnePath),
+        "name" => Ok(RuleKind::WholeName),
+        "front" => Ok(RuleKind::Front),
+        "end" => Ok(RuleKind::End),
+        "middle" => Ok(RuleKind::Middle),
+        "both" => Ok(RuleKind::Both),
+        _ => bail!("none of path, name, front, end, middle and both"),
+    }
+}
+
+/// The line of a rule of a kind that names nothing.
+fn rule_line(alloc: Global, kind: RuleKind, number: u32) -> Result<String> {
+    let line = match kind {
+        RuleKind::OnePath => format!(in alloc; "path /none/{number}\n")?,
+        RuleKind::WholeName => format!(in alloc; "name none{number}\n")?,
+        RuleKind::Front => format!(in alloc; "name *.none{number}\n")?,
+        RuleKind::End => format!(in alloc; "name none{number}.*\n")?,
+        RuleKind::Middle => format!(in alloc; "name none*{number}\n")?,
+        RuleKind::Both => format!(in alloc; "name *word{number}*\n")?,
+    };
+    Ok(line)
+}
+
+/// So many hold rules that name nothing, of one kind, or of all kinds in turn.
+fn rules_of(alloc: Global, rules: u32, kind: Option<RuleKind>) -> Result<Holds> {
     let mut text = String::new(alloc);
     for number in 0..rules {
-        let line = match number % 4 {
-            0 => format!(in alloc; "path /none/{number}\n")?,
-            1 => format!(in alloc; "name none{number}\n")?,
-            _ => format!(in alloc; "name *.none{number}\n")?,
-        };
+        let kind = kind.unwrap_or(KINDS[number as usize % KINDS.len()]);
+        let line = rule_line(alloc, kind, number)?;
         text.push_str(line.as_str())?;
     }
     Ok(Holds::parse(alloc, text.as_bytes())?)
@@ -58,12 +109,12 @@ struct Case {
     holds: Holds,
 }
 
-fn case_of(alloc: Global, paths: u32, rules: u32) -> Result<Case> {
+fn case_of(alloc: Global, paths: u32, rules: u32, kind: Option<RuleKind>) -> Result<Case> {
     Ok(Case {
         archive: print_of(alloc, paths, false)?,
         first: print_of(alloc, paths, true)?,
         second: print_of(alloc, paths, false)?,
-        holds: rules_of(alloc, rules)?,
+        holds: rules_of(alloc, rules, kind)?,
     })
 }
 
@@ -114,7 +165,11 @@ where
     } else {
         FEW_RULES
     };
-    let case = case_of(rt.alloc(), paths, rules)?;
+    let kind = match words.get(2) {
+        Some(word) => Some(kind_of(word.as_str())?),
+        None => None,
+    };
+    let case = case_of(rt.alloc(), paths, rules, kind)?;
     let (plan, planning) = planned(rt, &case)?;
     let checking = checked(rt, &case, &plan)?;
     let (entries, actions) = (plan.entries.as_slice().len(), plan.actions.as_slice().len());

@@ -53,6 +53,13 @@ const NAMED: &[(&[u8], &[u8], bool)] = &[
     (b"path /a\nname *.o\n", b"/x.o", true),
     (b"path /a\nname *.o\n", b"/b", false),
     (b"", b"/a", false),
+    // found by bytes between stars
+    (b"name *cache*\n", b"/a/mycaches", true),
+    (b"name *cache*\n", b"/a/cach", false),
+    (b"name *cache*\nname *cached*\nname *ca*\n", b"/xcax", true),
+    (b"name *cache*\nname *cached*\n", b"/xcachx", false),
+    (b"name a*b*z\nname a*b*z*\n", b"/abz_", true),
+    (b"name *a_long_word*\n", b"/it_has_a_long_word", true),
     // bytes stand alone
     (b"name \xc3*\n", b"/\xc3\xa9", true),
 ];
