@@ -14,10 +14,11 @@ _twosync() {
   esac
   case $name in
     '')
-      mapfile -t COMPREPLY < <(compgen -W 'trial scan show plan check run sync --help --version' -- "$word")
+      mapfile -t COMPREPLY < <(compgen -W 'trial scan show plan preview check run sync --help --version' -- "$word")
       return
       ;;
     plan | check | run | sync) options='--holds --workers --help' ;;
+    preview) options='--json --holds --workers --help' ;;
     trial | scan) options='--workers --help' ;;
   esac
   if [[ $word == -* ]]; then

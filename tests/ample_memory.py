@@ -86,6 +86,7 @@ commands.sh: expect 'first sync' 0: ts_disk::save_plan ts_disk::DiskSite::new ts
 commands.sh: alike 'first sync': ts_disk::Lock::release ts_disk::clear_leftovers ts_disk::remove_plan
 commands.sh: holds_true 'the archive file': ts_perform::HostRuntime::claim ts_perform::HostRuntime::write_archive
 commands.sh: holds_true 'the archive file': ts_disk::claim_archive ts_disk::ArchivePlace::write
+preview.sh: expect 'a first look' 0: ts_preview::outlooks ts_preview::write
 disk_edge.sh: refused 'an archive that is none, no .twosync' 6: ts_disk::Lock::withdraw ts_disk::ArchivePlace::release
 """
 File = collections.namedtuple("File", "path crates functions links")

@@ -20,7 +20,7 @@ section() { awk -v title="$1" '/^# / { inside = $0 == "# " title; next } inside'
 unset_page >page
 help_of >help || bad 'help is not printed'
 mapfile -t commands < <(sed -n '/^Commands:/,/^$/p' help | sed -nE 's/^  ([a-z]+) .*/\1/p')
-holds_true 'the help names the seven commands' test "${commands[*]}" = 'trial scan show plan check run sync'
+holds_true 'the help names the eight commands' test "${commands[*]}" = 'trial scan show plan check preview run sync'
 
 for name in "${commands[@]}"; do
   help_of "$name" >"help of $name" || bad "$name: help is not printed"
@@ -73,6 +73,7 @@ mkdir folder
 completed 'scan show sync' twosync s
 completed '--holds --workers --help' twosync sync --
 completed '--workers --help' twosync scan --
+completed '--json --holds --workers --help' twosync preview --
 completed folder twosync sync fol
 completed '1 16' twosync sync --workers 1
 for shell in zsh fish; do

@@ -4,6 +4,7 @@ use Rattle.clap.specs.Words.{App, Rule, Shape, Text, new_rule}
 use Rattle.clap.specs.Simple.{new_shape}
 use Rattle.clap.specs.declared.builder.command.Command.{Command}
 use Rattle.clap.specs.declared.builder.command.Command.TheViews.{out-Command}
+use Rattle.clap.specs.declared.builder.action.ArgAction.TheVariants.{SetTrue}
 use Rattle.clap.specs.declared.builder.value_parser.ValueParser.TheVariants as parser
 
 -- a file or a folder that has to be named, by some word that isn't empty
@@ -21,6 +22,10 @@ workers_rule = record (new_rule (codes "workers")) {
 abbrev pub holds_rule : Rule
 holds_rule = record (new_rule (codes "holds")) { long = Some (codes "holds"); value_names = 1; parser = Some parser.NonEmptyString }
 
+-- a flag: it takes no value
+abbrev pub json_rule : Rule
+json_rule = record (new_rule (codes "json")) { long = Some (codes "json"); action = Some SetTrue }
+
 -- the command has no argument that its subcommands share
 abbrev pub IsLocal : Command → Type 0
 IsLocal c = (out-Command c).has_globals ≡ false
@@ -35,6 +40,9 @@ pair_rules = place_rule (codes "FIRST") ∷ place_rule (codes "SECOND") ∷ plac
 abbrev pub planned_pair_rules : List Rule
 planned_pair_rules = place_rule (codes "FIRST") ∷ place_rule (codes "SECOND") ∷ place_rule (codes "ARCHIVE") ∷ holds_rule ∷ workers_rule ∷ place_rule (codes "PLAN") ∷ []
 
+abbrev pub previewed_pair_rules : List Rule
+previewed_pair_rules = place_rule (codes "FIRST") ∷ place_rule (codes "SECOND") ∷ place_rule (codes "ARCHIVE") ∷ holds_rule ∷ workers_rule ∷ json_rule ∷ []
+
 -- the subcommands that work on no pair
 abbrev pub trial_shape : Shape
 trial_shape = taking (codes "trial") (workers_rule ∷ [])
@@ -45,7 +53,7 @@ scan_shape = taking (codes "scan") (place_rule (codes "DIR") ∷ workers_rule �
 abbrev pub show_shape : Shape
 show_shape = taking (codes "show") (place_rule (codes "ARCHIVE") ∷ [])
 
--- the command line before its subcommands, with those that work on no pair, and with those that make or check a plan, too
+-- the command line before its subcommands, with those that work on no pair, with those that make or check a plan, and with `preview`, too
 abbrev pub line_head : App
 line_head = record {
   top = record (new_shape (codes "twosync")) {
@@ -68,6 +76,13 @@ planning_line = record {
   subs = trial_shape ∷ scan_shape ∷ show_shape ∷ taking (codes "plan") pair_rules ∷ taking (codes "check") planned_pair_rules ∷ [];
 }
 
+abbrev pub previewing_line : App
+previewing_line = record {
+  top = record line_head.top { is_leaf = false };
+  subs = trial_shape ∷ scan_shape ∷ show_shape ∷ taking (codes "plan") pair_rules ∷ taking (codes "check") planned_pair_rules
+      ∷ taking (codes "preview") previewed_pair_rules ∷ [];
+}
+
 abbrev pub command_line : App
 command_line = record {
   top = record (new_shape (codes "twosync")) {
@@ -81,6 +96,7 @@ command_line = record {
       ∷ taking (codes "show") (place_rule (codes "ARCHIVE") ∷ [])
       ∷ taking (codes "plan") pair_rules
       ∷ taking (codes "check") planned_pair_rules
+      ∷ taking (codes "preview") previewed_pair_rules
       ∷ taking (codes "run") planned_pair_rules
       ∷ taking (codes "sync") pair_rules
       ∷ [];

@@ -2,7 +2,7 @@
 --     IsJob name rows job       the subcommand of this name, with these values, asks for the job
 --     HasWorkers rows n         n threads are asked for
 --     Gives reading command     the reading gives the command
-use Rattle.std.specs.Prelude.{◌≡◌, ◌≢◌, ◌⊎◌, ◌≤◌, ℕ, List, Option, Some, None, true, codes, option_map}
+use Rattle.std.specs.Prelude.{◌≡◌, ◌≢◌, ◌⊎◌, ◌↔◌, ◌≤◌, ℕ, IsTrue, List, Option, Some, None, true, codes, option_map}
 use Rattle.std.specs.Str.Parse.{IsNumeral, digits_value, without_leading_plus}
 use Rattle.clap.specs.Words.{Row, Text, first_of, kind_of, takes, subcommand_of}
 use Rattle.clap.specs.declared.error.kind.ErrorKind.TheVariants as kind
@@ -22,12 +22,17 @@ pub record IsPair (rows : List Row) (pair : Pair) : Type 0 where
   pub archive : Names (codes "ARCHIVE") rows pair.archive.now
   pub holds : first_of (codes "holds") rows ≡ option_map (λ s. s.now) pair.holds
 
+-- the flag `--json` is given
+abbrev pub AsksForJson : List Row → Type 0
+AsksForJson rows = Names (codes "json") rows (codes "true")
+
 abbrev pub IsJob : Text → List Row → Job → Type 0
 IsJob name rows (job.Tell text) = ⊥
 IsJob name rows job.Trial = name ≡ codes "trial"
 IsJob name rows (job.Scan folder) = (name ≡ codes "scan") × Names (codes "DIR") rows folder.now
 IsJob name rows (job.Show archive) = (name ≡ codes "show") × Names (codes "ARCHIVE") rows archive.now
 IsJob name rows (job.Plan pair) = (name ≡ codes "plan") × IsPair rows pair
+IsJob name rows (job.Preview pair json) = (name ≡ codes "preview") × IsPair rows pair × (IsTrue json ↔ AsksForJson rows)
 IsJob name rows (job.Check pair plan) = (name ≡ codes "check") × IsPair rows pair × Names (codes "PLAN") rows plan.now
 IsJob name rows (job.Run pair plan) = (name ≡ codes "run") × IsPair rows pair × Names (codes "PLAN") rows plan.now
 IsJob name rows (job.Sync pair) = (name ≡ codes "sync") × IsPair rows pair

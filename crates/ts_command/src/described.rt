@@ -1,11 +1,12 @@
 //! The command line as clap reads it, with its help.
 ghost use Rattle.std.specs.Prelude.{◌≡◌, [], false, IfOk};
 ghost use Rattle.clap.specs.Words.{app_of, rule_of};
-ghost use Rattle.ts_command.specs.CommandLine.{IsLocal, command_line, holds_rule, line_head, pair_rules, place_rule, planned_pair_rules, planning_line};
+ghost use Rattle.ts_command.specs.CommandLine.{IsLocal, command_line, holds_rule, json_rule, line_head, pair_rules, place_rule};
+ghost use Rattle.ts_command.specs.CommandLine.{planned_pair_rules, planning_line, previewed_pair_rules, previewing_line};
 ghost use Rattle.ts_command.specs.CommandLine.{scan_shape, show_shape, single_line, taking, trial_shape, workers_rule};
 
 use clap::builder::ValueParser;
-use clap::{Arg, Command, value_parser};
+use clap::{Arg, ArgAction, Command, value_parser};
 use std::alloc::{AllocError, Global};
 
 /// What stands below the list of commands.
@@ -19,8 +20,7 @@ Example:
   twosync sync ~/notes /mnt/stick/notes ~/.notes.archive
 
 To see what would be done before it is done:
-  twosync plan ~/notes /mnt/stick/notes ~/.notes.archive > plan
-  twosync run ~/notes /mnt/stick/notes ~/.notes.archive plan
+  twosync preview ~/notes /mnt/stick/notes ~/.notes.archive
 
 Exit status: 0 all is done, 1 conflicts or held paths are left, 2 something failed, 3 refused.
 Faults are reported by number: 1 out of memory, 4 a path is too long, 5 a file can't be read or
@@ -33,6 +33,12 @@ what was scanned, 16 words that are no command.";
 const PLAN_EXAMPLE: &str = "\
 Example:
   twosync plan ~/notes /mnt/stick/notes ~/.notes.archive > plan";
+
+const PREVIEW_EXAMPLE: &str = "\
+Example:
+  twosync preview ~/notes /mnt/stick/notes ~/.notes.archive
+
+Its exit status is the one that `sync` would have if nothing failed.";
 
 const CHECK_EXAMPLE: &str = "\
 Example:
@@ -84,6 +90,17 @@ fn holds<'a>(alloc: Global) -> Arg<'a>
         .help("Rules, one a line: `path /a/b` or `name *.o`. What they name stays untouched")
 }
 
+/// `--json`.
+fn json<'a>(alloc: Global) -> Arg<'a>
+    ensures rule { rule_of result ≡ json_rule }
+    ensures local { result.global ≡ false }
+{
+    Arg::new(alloc, "json")
+        .long("json")
+        .action(ArgAction::SetTrue)
+        .help("Prints JSON, a line each, for programs")
+}
+
 /// The subcommand of this name, with FIRST, SECOND, ARCHIVE, `--holds` and `--workers`, and an example of it.
 fn on_pair<'a>(
     alloc: Global,
@@ -115,6 +132,19 @@ fn on_pair_with_plan<'a>(
     ensures local { IfOk result IsLocal }
 {
     on_pair(alloc, name, about, example)?.arg(place(alloc, "PLAN", "A plan, as `plan` prints it"))
+}
+
+/// The same, with `--json`.
+fn on_previewed_pair<'a>(
+    alloc: Global,
+    name: &'a str,
+    about: &'a str,
+    example: &'a str,
+) -> Result<Command<'a>, AllocError>
+    ensures shape { IfOk result (λ c. app_of c ≡ record { top = taking name.now previewed_pair_rules; subs = [] }) }
+    ensures local { IfOk result IsLocal }
+{
+    on_pair(alloc, name, about, example)?.arg(json(alloc))
 }
 
 /// The subcommand that answers a bundle.
@@ -182,12 +212,21 @@ fn with_planning<'a>(alloc: Global) -> Result<Command<'a>, AllocError>
     line.subcommand(on_pair_with_plan(alloc, "check", about, CHECK_EXAMPLE)?)
 }
 
+/// The command line with the one that shows what `sync` would do, too.
+fn with_preview<'a>(alloc: Global) -> Result<Command<'a>, AllocError>
+    ensures { IfOk result (λ c. app_of c ≡ previewing_line) }
+{
+    let about = "Shows what `sync` would do, and changes nothing";
+    let line = with_planning(alloc)?;
+    line.subcommand(on_previewed_pair(alloc, "preview", about, PREVIEW_EXAMPLE)?)
+}
+
 /// The whole command line.
 pub(crate) fn described<'a>(alloc: Global) -> Result<Command<'a>, AllocError>
     ensures { IfOk result (λ c. app_of c ≡ command_line) }
 {
     let about = "Checks a plan, carries it out, and writes the archive";
-    let line = with_planning(alloc)?.subcommand(on_pair_with_plan(
+    let line = with_preview(alloc)?.subcommand(on_pair_with_plan(
         alloc,
         "run",
         about,

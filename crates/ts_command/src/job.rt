@@ -25,6 +25,8 @@ pub enum Job<'a> {
     Show { archive: &'a str },
     /// Prints a plan for the pair.
     Plan { pair: Pair<'a> },
+    /// Shows what `Sync` would do, for people or as JSON.
+    Preview { pair: Pair<'a>, json: bool },
     /// Says whether a plan is valid for the pair.
     Check { pair: Pair<'a>, plan: &'a str },
     /// Checks a plan and carries it out.

@@ -1,8 +1,8 @@
 //! From words to commands.
-ghost use Rattle.std.specs.Prelude.{◌≡◌, ◌≢◌, ◌≤◌, ℕ, List, Some, true, map, IfErr, IfNone, IfOk, IfSome, option_map};
+ghost use Rattle.std.specs.Prelude.{◌≡◌, ◌≢◌, ◌≤◌, ◌↔◌, ℕ, List, Some, true, map, IfErr, IfNone, IfOk, IfSome, IsTrue, option_map};
 ghost use Rattle.clap.specs.Words.{first_of, found_of, kind_of, rows_of, subcommand_rows_of, takes};
 ghost use Rattle.ts_command.specs.CommandLine.{command_line};
-ghost use Rattle.ts_command.specs.Readings.{AreWorkers, AsksToTell, Gives, HasWorkers, IsAsked, IsJob, IsNoCommand, IsPair};
+ghost use Rattle.ts_command.specs.Readings.{AreWorkers, AsksForJson, AsksToTell, Gives, HasWorkers, IsAsked, IsJob, IsNoCommand, IsPair};
 ghost use Rattle.ts_command.specs.declared.fault.CommandFault.TheVariants.{OutOfMemory};
 ghost use Rattle.ts_command.specs.declared.job.Command.{Command};
 ghost use Rattle.ts_command.specs.declared.job.Job.{Job};
@@ -130,6 +130,10 @@ fn read_job<'a>(name: &str, matches: &ArgMatches<'a>) -> Option<Job<'a>>
         "plan" => Some(Job::Plan {
             pair: read_pair(matches)?,
         }),
+        "preview" => Some(Job::Preview {
+            json: asks_for_json(matches),
+            pair: read_pair(matches)?,
+        }),
         "check" => Some(Job::Check {
             plan: value(matches, "PLAN")?,
             pair: read_pair(matches)?,
@@ -142,6 +146,16 @@ fn read_job<'a>(name: &str, matches: &ArgMatches<'a>) -> Option<Job<'a>>
             pair: read_pair(matches)?,
         }),
         _ => None,
+    }
+}
+
+/// Whether `--json` is among the words.
+fn asks_for_json(matches: &ArgMatches<'_>) -> bool
+    ensures { IsTrue result ↔ AsksForJson (rows_of (found_of matches.now)) }
+{
+    match value(matches, "json") {
+        Some(text) => text == "true",
+        None => false,
     }
 }
 

@@ -1,5 +1,5 @@
--- What `check` prints, from what was checked and written.
-use Rattle.std.proofs.Common.{◌≡◌, inl, inr, ℕ, List, [], ◌∷◌, Option, Err, codes, refl, subst}
+-- What `check` and `preview` print, from what was checked and written.
+use Rattle.std.proofs.Common.{◌≡◌, inl, inr, ℕ, Bool, List, [], ◌∷◌, Option, Result, Ok, Err, codes, refl, subst}
 use Rattle.ts_text.specs.Sources.{AppendsFront}
 use Rattle.ts_text.specs.declared.fault.TextFault.{TextFault}
 use Rattle.ts_text.specs.declared.fault.TextFault.TheVariants as text_fault
@@ -9,7 +9,19 @@ use Rattle.ts_model.specs.declared.plan.PlanRule.{PlanRule}
 use Rattle.ts_check.specs.Checkup.{Checkup, snapshot_of}
 use Rattle.ts_trial.specs.Answers.{refusal}
 use Rattle.ts_perform.specs.Faults.{fault_of_text}
-use Rattle.ts_perform.specs.Snapshots.{IsUnchecked, IsVerdict, Prints}
+use Rattle.ts_model.specs.declared.plan.Plan.{Plan}
+use Rattle.ts_preview.specs.Outlooks.{AreOutlooks}
+use Rattle.ts_preview.specs.Previews.{preview_lines}
+use Rattle.ts_preview.specs.Totals.{best_totals}
+use Rattle.ts_preview.specs.declared.outlook.Outlook.{Outlook}
+use Rattle.ts_report.specs.Reports.{status_of}
+use Rattle.ts_perform.specs.Previewing.{IsPreviewAt, IsPreviewOf, form_of}
+use Rattle.ts_perform.specs.Inputs.{Finds, IsReadFor}
+use Rattle.ts_perform.specs.Stands.{AreScans}
+use Rattle.ts_command.specs.declared.job.Pair.{Pair}
+use Rattle.ts_model.specs.Trees.{Listing}
+use Rattle.ts_perform.specs.Snapshots.{IsPlanned, IsUnchecked, IsVerdict, Prints, checkup_of}
+use Rattle.ts_perform.specs.declared.snapshot.Snapshot.{Snapshot}
 use Rattle.ts_perform.specs.Trials.{IsQuiet}
 use Rattle.ts_perform.specs.declared.fault.PerformFault.{PerformFault}
 use Rattle.ts_perform.specs.declared.fault.PerformFault.TheVariants as fault
@@ -38,3 +50,19 @@ valid_begun k old new e valid begun = (text_quiet e, inr (text (codes "valid" �
 pub broken_begun : (k : Checkup) (old new : Option (List ℕ)) (rule : PlanRule) (place : ℕ) (e : PerformFault) → Broken (snapshot_of k) k.plan rule place → IsQuiet e
     → AppendsFront old new (text (refusal rule place ∷ [])) → Prints (IsVerdict k) old new (Err e)
 broken_begun k old new rule place e broken quiet begun = (quiet, inr (text (refusal rule place ∷ []), 3, inr (rule, place, broken, refl, refl), begun))
+
+-- a preview was written in part
+pub preview_begun : (s : Snapshot) (plan : Plan) (json : Bool) (all : List Outlook) (old new : Option (List ℕ)) (e : TextFault) → IsPlanned (checkup_of s plan)
+    → AreOutlooks s.archive s.first s.second plan.entries all → AppendsFront old new (text (preview_lines (form_of json) all))
+    → Prints (IsPreviewOf s json) old new (Err (fault_of_text e))
+preview_begun s plan json all old new e planned each begun =
+    (text_quiet e, inr (text (preview_lines (form_of json) all), status_of (best_totals all), (plan, (all, planned, each, refl, refl)), begun))
+
+-- what is printed for a snapshot is printed for the pair that it was read for
+pub preview_at : {F : Type 0} (is_at : F → List ℕ → Type 0) (tells : F → Option (Listing (List ℕ))) (finds : Finds) (pair : Pair) (s : Snapshot) (json : Bool)
+    (old new : Option (List ℕ)) (r : Result ℕ PerformFault) → AreScans is_at tells pair.first.now pair.second.now s.first s.second → IsReadFor finds pair s.archive s.holds
+    → Prints (IsPreviewOf s json) old new r → Prints (IsPreviewAt is_at tells finds pair json) old new r
+preview_at is_at tells finds pair s json old new (Ok status) scans read (written, (plan, is), added) = (written, (checkup_of s plan, scans, read, is), added)
+preview_at is_at tells finds pair s json old new (Err e) scans read (quiet, inl same) = (quiet, inl same)
+preview_at is_at tells finds pair s json old new (Err e) scans read (quiet, inr (written, status, (plan, is), begun)) =
+    (quiet, inr (written, status, (checkup_of s plan, scans, read, is), begun))

@@ -1,6 +1,6 @@
 -- Facts of one command: `IfPlan job P` says P of the pair that the command works on, where the command is `plan`. `IfTell job P` says P
 -- where the words ask for help or the version.
-use Rattle.std.specs.Prelude.{⊤, ℕ, List}
+use Rattle.std.specs.Prelude.{⊤, ℕ, Bool, List}
 use Rattle.ts_command.specs.declared.job.Job.{Job}
 use Rattle.ts_command.specs.declared.job.Job.TheVariants as job
 use Rattle.ts_command.specs.declared.job.Pair.{Pair}
@@ -12,6 +12,7 @@ IfTell j P = elim j [
   | job.Scan folder ↦ ⊤
   | job.Show archive ↦ ⊤
   | job.Plan pair ↦ ⊤
+  | job.Preview pair json ↦ ⊤
   | job.Check pair plan ↦ ⊤
   | job.Run pair plan ↦ ⊤
   | job.Sync pair ↦ ⊤
@@ -25,6 +26,7 @@ IfScan j P = elim j [
   | job.Scan folder ↦ P folder.now
   | job.Show archive ↦ ⊤
   | job.Plan pair ↦ ⊤
+  | job.Preview pair json ↦ ⊤
   | job.Check pair plan ↦ ⊤
   | job.Run pair plan ↦ ⊤
   | job.Sync pair ↦ ⊤
@@ -38,6 +40,7 @@ IfShow j P = elim j [
   | job.Scan folder ↦ ⊤
   | job.Show archive ↦ P archive.now
   | job.Plan pair ↦ ⊤
+  | job.Preview pair json ↦ ⊤
   | job.Check pair plan ↦ ⊤
   | job.Run pair plan ↦ ⊤
   | job.Sync pair ↦ ⊤
@@ -50,6 +53,21 @@ IfPlan j P = elim j [
   | job.Scan folder ↦ ⊤
   | job.Show archive ↦ ⊤
   | job.Plan pair ↦ P pair
+  | job.Preview pair json ↦ ⊤
+  | job.Check pair plan ↦ ⊤
+  | job.Run pair plan ↦ ⊤
+  | job.Sync pair ↦ ⊤
+]
+
+-- and of whether it is asked for as JSON
+abbrev pub IfPreview : Job → (Pair → Bool → Type 0) → Type 0
+IfPreview j P = elim j [
+  | job.Tell text ↦ ⊤
+  | job.Trial ↦ ⊤
+  | job.Scan folder ↦ ⊤
+  | job.Show archive ↦ ⊤
+  | job.Plan pair ↦ ⊤
+  | job.Preview pair json ↦ P pair json
   | job.Check pair plan ↦ ⊤
   | job.Run pair plan ↦ ⊤
   | job.Sync pair ↦ ⊤
@@ -63,6 +81,7 @@ IfCheck j P = elim j [
   | job.Scan folder ↦ ⊤
   | job.Show archive ↦ ⊤
   | job.Plan pair ↦ ⊤
+  | job.Preview pair json ↦ ⊤
   | job.Check pair plan ↦ P pair plan.now
   | job.Run pair plan ↦ ⊤
   | job.Sync pair ↦ ⊤
@@ -76,6 +95,7 @@ IfRun j P = elim j [
   | job.Scan folder ↦ ⊤
   | job.Show archive ↦ ⊤
   | job.Plan pair ↦ ⊤
+  | job.Preview pair json ↦ ⊤
   | job.Check pair plan ↦ ⊤
   | job.Run pair plan ↦ P pair plan.now
   | job.Sync pair ↦ ⊤
@@ -88,6 +108,7 @@ IfSync j P = elim j [
   | job.Scan folder ↦ ⊤
   | job.Show archive ↦ ⊤
   | job.Plan pair ↦ ⊤
+  | job.Preview pair json ↦ ⊤
   | job.Check pair plan ↦ ⊤
   | job.Run pair plan ↦ ⊤
   | job.Sync pair ↦ P pair

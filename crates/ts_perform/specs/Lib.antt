@@ -3,6 +3,7 @@ pub mod Inputs
 pub mod Jobs
 pub mod Lengths
 pub mod Pasts
+pub mod Previewing
 pub mod Printouts
 pub mod Puts
 pub mod Runs

@@ -239,6 +239,7 @@ IsRunOrSync j = elim j [
   | job.Scan folder ↦ ⊥
   | job.Show archive ↦ ⊥
   | job.Plan pair ↦ ⊥
+  | job.Preview pair json ↦ ⊥
   | job.Check pair plan ↦ ⊥
   | job.Run pair plan ↦ ⊤
   | job.Sync pair ↦ ⊤

@@ -9,6 +9,7 @@ mod inputs;
 mod lengths;
 mod past;
 pub mod performing;
+mod previewing;
 mod reporting;
 mod room;
 mod running;

@@ -1,7 +1,8 @@
 //! Commands, one by one.
 ghost use Rattle.std.specs.Prelude.{◌≡◌, ◌≤◌, IfErr, None};
 ghost use Rattle.ts_model.specs.Trial.{Trial};
-ghost use Rattle.ts_perform.specs.Jobs.{IfCheck, IfPlan, IfRun, IfScan, IfShow, IfSync, IfTell};
+ghost use Rattle.ts_perform.specs.Jobs.{IfCheck, IfPlan, IfPreview, IfRun, IfScan, IfShow, IfSync, IfTell};
+ghost use Rattle.ts_perform.specs.Previewing.{IsPreviewAt};
 ghost use Rattle.ts_perform.specs.Printouts.{IsBodyOf, IsScanText, IsShown, IsTold};
 ghost use Rattle.ts_perform.specs.Runs.{AnswersOne, AnswersRun, IsRun, IsSynced, Ran, Refuses};
 ghost use Rattle.ts_perform.specs.Snapshots.{IsPrintoutAt, IsVerdictAt, Prints, PrintsAlone};
@@ -12,6 +13,7 @@ use crate::answers::{write_fault, write_fault_at, write_refusal};
 use crate::disk::{Disk, Machine};
 use crate::fault::PerformFault;
 use crate::inputs::{read_archive, scan_folder};
+use crate::previewing::preview;
 use crate::snapshot::Snapshot;
 use crate::task::Task;
 use std::alloc::Global;
@@ -46,6 +48,8 @@ pub fn perform<R: Machine, I: Source + Drop, O: Sink, E: Sink>(
     ensures show { IfShow command.now.job (λ name. AnswersOne (IsShown R.finds name)
         (O.holds out.old) (O.holds out.new) (E.holds err.old) (E.holds err.new) result) }
     ensures plan { IfPlan command.now.job (λ pair. AnswersOne (IsPrintoutAt R.is_at R.Folder.tells R.finds pair)
+        (O.holds out.old) (O.holds out.new) (E.holds err.old) (E.holds err.new) result) }
+    ensures preview { IfPreview command.now.job (λ pair json. AnswersOne (IsPreviewAt R.is_at R.Folder.tells R.finds pair json)
         (O.holds out.old) (O.holds out.new) (E.holds err.old) (E.holds err.new) result) }
     ensures check { IfCheck command.now.job (λ pair plan. AnswersOne (IsVerdictAt R.is_at R.Folder.tells R.finds pair plan)
         (O.holds out.old) (O.holds out.new) (E.holds err.old) (E.holds err.new) result) }
@@ -99,6 +103,8 @@ fn answer<R: Machine, I: Source + Drop, O: Sink, E: Sink>(
         (O.holds out.old) (O.holds out.new) (E.holds err.old) (E.holds err.new) result) }
     ensures plan { IfPlan command.now.job (λ pair. PrintsAlone (IsPrintoutAt R.is_at R.Folder.tells R.finds pair)
         (O.holds out.old) (O.holds out.new) (E.holds err.old) (E.holds err.new) result) }
+    ensures preview { IfPreview command.now.job (λ pair json. PrintsAlone (IsPreviewAt R.is_at R.Folder.tells R.finds pair json)
+        (O.holds out.old) (O.holds out.new) (E.holds err.old) (E.holds err.new) result) }
     ensures check { IfCheck command.now.job (λ pair plan. PrintsAlone (IsVerdictAt R.is_at R.Folder.tells R.finds pair plan)
         (O.holds out.old) (O.holds out.new) (E.holds err.old) (E.holds err.new) result) }
     ensures run { IfRun command.now.job (λ pair plan. Ran (IsRun
@@ -116,6 +122,7 @@ fn answer<R: Machine, I: Source + Drop, O: Sink, E: Sink>(
         Job::Scan { folder } => print_scan(rt, folder, workers, out),
         Job::Show { archive } => show(rt, archive, out),
         Job::Plan { pair } => print_plan(&Task { rt, pair, workers }, out),
+        Job::Preview { pair, json } => preview(&Task { rt, pair, workers }, *json, out),
         Job::Check { pair, plan } => check_plan(&Task { rt, pair, workers }, plan, out),
         Job::Run { pair, plan } => Task { rt, pair, workers }.run_plan(plan, out, err),
         Job::Sync { pair } => Task { rt, pair, workers }.sync(out, err),

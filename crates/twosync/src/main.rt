@@ -113,6 +113,7 @@ fn is_run_or_sync(job: &Job<'_>) -> bool
         | Job::Scan { .. }
         | Job::Show { .. }
         | Job::Plan { .. }
+        | Job::Preview { .. }
         | Job::Check { .. } => false,
     }
 }

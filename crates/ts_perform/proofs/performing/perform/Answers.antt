@@ -1,5 +1,5 @@
 use Rattle.std.proofs.Common.{inl}
-use Rattle.ts_perform.proofs.Pairs.{in_check, in_plan, in_run, in_scan, in_show, in_sync, in_tell}
+use Rattle.ts_perform.proofs.Pairs.{in_check, in_plan, in_preview, in_run, in_scan, in_show, in_sync, in_tell}
 use Rattle.ts_perform.proofs.Reported.{answers_fault, answers_refusal}
 use Rattle.ts_perform.proofs.Trials.{told_refusal}
 use Rattle.ts_perform.proofs.performing.perform.Goals as goal
@@ -15,6 +15,9 @@ returns-in-Ok-clause-show g c = in_show c.args.command.now.job _ _ (λ name prin
 
 pub returns-in-Ok-clause-plan : goal.returns-in-Ok-clause-plan
 returns-in-Ok-clause-plan g c = in_plan c.args.command.now.job _ _ (λ pair printed. inl printed) c.in-Ok.ensures.plan
+
+pub returns-in-Ok-clause-preview : goal.returns-in-Ok-clause-preview
+returns-in-Ok-clause-preview g c = in_preview c.args.command.now.job _ _ (λ pair json printed. inl printed) c.in-Ok.ensures.preview
 
 pub returns-in-Ok-clause-check : goal.returns-in-Ok-clause-check
 returns-in-Ok-clause-check g c = in_check c.args.command.now.job _ _ (λ pair plan printed. inl printed) c.in-Ok.ensures.check
@@ -37,6 +40,7 @@ returns-in-Err g c =
       scan = in_scan job _ _ (λ root printed. answers_fault _ old mid new old_faults mid_faults new_faults fault c.refuse.result printed is refuses) ensures.scan;
       show = in_show job _ _ (λ name printed. answers_fault _ old mid new old_faults mid_faults new_faults fault c.refuse.result printed is refuses) ensures.show;
       plan = in_plan job _ _ (λ pair printed. answers_fault _ old mid new old_faults mid_faults new_faults fault c.refuse.result printed is refuses) ensures.plan;
+      preview = in_preview job _ _ (λ pair json printed. answers_fault _ old mid new old_faults mid_faults new_faults fault c.refuse.result printed is refuses) ensures.preview;
       check = in_check job _ _ (λ pair plan printed. answers_fault _ old mid new old_faults mid_faults new_faults fault c.refuse.result printed is refuses) ensures.check;
       run = in_run job _ _ (λ pair plan ran. answers_refusal _ old mid new old_faults mid_faults new_faults fault c.refuse.result ran is refuses) ensures.run;
       sync = in_sync job _ _ (λ pair ran. answers_refusal _ old mid new old_faults mid_faults new_faults fault c.refuse.result ran is refuses) ensures.sync;

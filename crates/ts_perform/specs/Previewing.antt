@@ -1,0 +1,38 @@
+-- What `preview` prints.
+--     IsPreview k json written status          what would become of each entry of a plan that `resume` makes, for people or as JSON; with the
+--                                              status of a report in which all is done but what is skipped
+--     IsPreviewOf s json written status        the same of some plan for this snapshot
+--     IsPreviewAt .. pair json written status  the same of scans of a pair's replicas, and of the archive and the rules that were read for it
+use Rattle.std.specs.Prelude.{◌≡◌, ℕ, Bool, if◌then◌else◌, List, Option}
+use Rattle.ts_check.specs.Checkup.{Checkup}
+use Rattle.ts_command.specs.declared.job.Pair.{Pair}
+use Rattle.ts_model.specs.Texts.{text}
+use Rattle.ts_model.specs.Trees.{Listing}
+use Rattle.ts_model.specs.declared.plan.Plan.{Plan}
+use Rattle.ts_preview.specs.Outlooks.{AreOutlooks}
+use Rattle.ts_preview.specs.Previews.{preview_lines}
+use Rattle.ts_preview.specs.Totals.{best_totals}
+use Rattle.ts_preview.specs.declared.outlook.Outlook.{Outlook}
+use Rattle.ts_preview.specs.declared.writing.Form.{Form}
+use Rattle.ts_preview.specs.declared.writing.Form.TheVariants.{People, Json}
+use Rattle.ts_report.specs.Reports.{status_of}
+use Rattle.ts_perform.specs.Inputs.{Finds, IsReadFor}
+use Rattle.ts_perform.specs.Snapshots.{IsPlanned, checkup_of}
+use Rattle.ts_perform.specs.Stands.{AreScans}
+use Rattle.ts_perform.specs.declared.snapshot.Snapshot.{Snapshot}
+
+abbrev pub form_of : Bool → Form
+form_of json = if json then Json else People
+
+abbrev pub IsPreview : Checkup → Bool → List ℕ → ℕ → Type 0
+IsPreview k json written status =
+    (all : List Outlook) × IsPlanned k × AreOutlooks k.archive k.first k.second k.plan.entries all
+    × (written ≡ text (preview_lines (form_of json) all)) × (status ≡ status_of (best_totals all))
+
+abbrev pub IsPreviewOf : Snapshot → Bool → List ℕ → ℕ → Type 0
+IsPreviewOf s json written status = (plan : Plan) × IsPreview (checkup_of s plan) json written status
+
+abbrev pub IsPreviewAt : {F : Type 0} → (F → List ℕ → Type 0) → (F → Option (Listing (List ℕ))) → Finds → Pair → Bool → List ℕ → ℕ → Type 0
+IsPreviewAt is_at tells finds pair json written status =
+    (k : Checkup) × AreScans is_at tells pair.first.now pair.second.now k.first k.second × IsReadFor finds pair k.archive k.rules
+    × IsPreview k json written status

@@ -1,0 +1,67 @@
+//! What `preview` shows.
+ghost use Rattle.std.specs.Prelude.{◌≡◌};
+ghost use Rattle.ts_perform.specs.Previewing.{IsPreviewAt, IsPreviewOf, form_of};
+ghost use Rattle.ts_perform.specs.Snapshots.{IsPlanned, Prints, checkup_of};
+
+use crate::disk::Machine;
+use crate::fault::PerformFault;
+use crate::snapshot::Snapshot;
+use crate::task::Task;
+use std::alloc::Global;
+use ts_command::Pair;
+use ts_model::plan::Plan;
+use ts_preview::{Form, best_status, outlooks, write};
+use ts_text::Sink;
+
+impl Snapshot {
+    /// Shows what the plan for what is there would do. It is refused where that plan would be, for paths that are too long.
+    fn print_preview<O: Sink>(
+        &self,
+        alloc: Global,
+        pair: &Pair<'_>,
+        json: bool,
+        out: &mut O,
+    ) -> Result<u8, PerformFault>
+        ensures { Prints (IsPreviewOf self.now json) (O.holds out.old) (O.holds out.new) result }
+    {
+        let plan = self.plan(alloc)?;
+        self.look_at_lengths(alloc, pair, &plan)?;
+        self.print_outlooks(alloc, &plan, json, out)
+    }
+
+    /// Shows what a plan would do.
+    fn print_outlooks<O: Sink>(
+        &self,
+        alloc: Global,
+        plan: &Plan,
+        json: bool,
+        out: &mut O,
+    ) -> Result<u8, PerformFault>
+        requires { IsPlanned (checkup_of self.now plan.now) }
+        ensures { Prints (IsPreviewOf self.now json) (O.holds out.old) (O.holds out.new) result }
+    {
+        let entries = plan.entries.as_slice();
+        let all = outlooks(alloc, entries, &self.archive, &self.first, &self.second)?;
+        write(alloc, form_of(json), &all, out)?;
+        Ok(best_status(&all))
+    }
+}
+
+/// For whom a preview is.
+fn form_of(json: bool) -> Form
+    ensures { result ≡ form_of json }
+{
+    if json { Form::Json } else { Form::People }
+}
+
+/// Shows what `sync` would do for the pair.
+pub(crate) fn preview<R: Machine, O: Sink>(
+    task: &Task<'_, R>,
+    json: bool,
+    out: &mut O,
+) -> Result<u8, PerformFault>
+    ensures { Prints (IsPreviewAt R.is_at R.Folder.tells R.finds task.now.pair.now json) (O.holds out.old) (O.holds out.new) result }
+{
+    let snapshot = Snapshot::read(task)?;
+    snapshot.print_preview(task.rt.alloc(), task.pair, json, out)
+}
