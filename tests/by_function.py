@@ -82,7 +82,7 @@ def module_of(path):
 
 def lines_of(text, start, indent):
     """Returns the first and the last line of the function that begins at a place, as `rt fmt` lays it out."""
-    end = re.compile(rf"(?m)^{indent}\}}$|\{{\}}$").search(text, start)
+    end = re.compile(rf"(?m)^{indent}(?:\}}|(?:\S.*)?\{{\}})$").search(text, start)
     return text.count("\n", 0, start) + 1, text.count("\n", 0, end.start() if end else len(text)) + 1
 
 

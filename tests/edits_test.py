@@ -395,6 +395,7 @@ def the_changed_function_is_named(_world):
     text = (
         "const A: u8 = 1;\nfn one() {\n    a\n}\nimpl<T: B> C<T> {\n    pub fn two(&self) {\n        b\n    }\n}\n"
         "impl D for C {\n    fn three() {\n        c\n    }\n}\npub(crate) fn four() {\n    let d = |x| {\n    };\n}\nconst E: u8 = 2;\n"
+        "fn five() {\n    match f {\n        G => {}\n    }\n    h\n}\nfn six()\n    ensures i\n{}\nconst J: u8 = 3;\n"
     )
 
     def named(path, old):
@@ -409,6 +410,10 @@ def the_changed_function_is_named(_world):
         ("let d", ("m::four", "four", 15, 18)),
         # what stands behind a function isn't of it
         ("E:", ("m::four", "", 15, 18)),
+        # an arm that does nothing doesn't end a function; a body that has nothing does
+        ("h\n", ("m::five", "five", 20, 25)),
+        ("ensures i", ("m::six", "six", 26, 28)),
+        ("J:", ("m::six", "", 26, 28)),
     ]:
         same((old, named("src/m.rt", old)), (old, wanted))
     same(named("src/m/n.rt", "a\n")[0], "m::n::one")
