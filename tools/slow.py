@@ -1,0 +1,66 @@
+#!/usr/bin/env python3
+"""Says which functions of a crate the prover takes longest for.
+
+Each module that a check has read it writes to a file, one after another, so the times of these files tell how long each one
+took. Most of it goes into what a function borrows and drops (`Lts`): that grows with the values that are dropped where a `?` may
+end it, with all that their types are made of. What helps is a function of its own for what is done with such a value, or an
+`impl Drop` written out in the place of a derived one.
+
+usage: tools/slow.py CLONE CRATE [COUNT]
+       checks the crate from nothing over the libraries that another clone has built, by one processor, and lists the COUNT
+       slowest functions (30), with the share of it that went into each kind of module
+"""
+import collections
+import os
+import re
+import shutil
+import subprocess
+import sys
+
+TOP = os.path.dirname(os.path.dirname(os.path.abspath(__file__)))
+# What a module's name ends in, where it belongs to a function or a type.
+KINDS = re.compile(r"\.(Lts|Tie|Proof|Goals|Answers\w*|Code|Mir|Named|Reads|View|Given|Layout|Kinds[\w-]*|Statement|Met|Invariants)\b.*")
+
+
+def modules_of(crate, kept):
+    """Yields for each module of a crate that a check has kept its name, and how many seconds after the one before it came."""
+    files = [(os.stat(f"{at}/{name}").st_mtime, name) for at, _, names in os.walk(kept) for name in names if name.endswith(".oantt")]
+    files.sort()
+    own = f"Rattle-{crate}-"
+    for (before, _), (time, name) in zip(files, files[1:]):
+        if name.startswith(own):
+            yield name.removeprefix(own).removesuffix(".oantt"), time - before
+
+
+def summed(modules):
+    """Returns the seconds of each function or file, and those of each of its kinds of modules."""
+    found = collections.defaultdict(collections.Counter)
+    for name, seconds in modules:
+        kind = KINDS.search(name)
+        function = KINDS.sub("", name).removeprefix("proofs.")
+        found[function][kind.group(1) if kind else "itself"] += seconds
+    return found
+
+
+def main(words):
+    if len(words) not in (2, 3):
+        print(__doc__, file=sys.stderr)
+        return 2
+    clone, crate, count = words[0], words[1], int(words[2]) if len(words) == 3 else 30
+    kept = f"{TOP}/out/kept/{crate}"
+    shutil.rmtree(kept, ignore_errors=True)
+    words = [f"{TOP}/tools/check_over.py", clone, crate, "--jobs", "1"]
+    ran = subprocess.run(words, stdout=subprocess.PIPE, stderr=subprocess.STDOUT, text=True)
+    if ran.returncode:
+        print(ran.stdout, end="")
+    found = summed(modules_of(crate, kept))
+    total = sum(sum(it.values()) for it in found.values())
+    print(f"{total:7.1f} s in all")
+    for function, kinds in sorted(found.items(), key=lambda it: -sum(it[1].values()))[:count]:
+        shares = ", ".join(f"{kind} {seconds:.1f}" for kind, seconds in kinds.most_common(3))
+        print(f"{sum(kinds.values()):7.1f}   {function} ({shares})")
+    return ran.returncode
+
+
+if __name__ == "__main__":
+    sys.exit(main(sys.argv[1:]))
