@@ -12,5 +12,7 @@ complete -c twosync -n "not __fish_seen_subcommand_from $commands" -a sync -d 'P
 complete -c twosync -n "not __fish_seen_subcommand_from $commands" -s V -l version -d 'Prints the version'
 complete -c twosync -s h -l help -d 'Prints help'
 complete -c twosync -n '__fish_seen_subcommand_from plan preview check run sync' -l holds -r -d 'Rules on what stays untouched'
+complete -c twosync -n '__fish_seen_subcommand_from plan preview check run sync' -l hold-special -d 'Holds what cannot be synchronized, too'
 complete -c twosync -n '__fish_seen_subcommand_from trial scan plan preview check run sync' -l workers -x -a '1 2 4 8 16 32 64' -d 'How many threads work, 1 to 64'
 complete -c twosync -n '__fish_seen_subcommand_from preview' -l json -d 'Prints JSON for programs'
+complete -c twosync -n '__fish_seen_subcommand_from trial scan show plan preview check run sync' -l explain -d 'Puts faults in words'

@@ -87,6 +87,14 @@ commands.sh: alike 'first sync': ts_disk::Lock::release ts_disk::clear_leftovers
 commands.sh: holds_true 'the archive file': ts_perform::HostRuntime::claim ts_perform::HostRuntime::write_archive
 commands.sh: holds_true 'the archive file': ts_disk::claim_archive ts_disk::ArchivePlace::write
 preview.sh: expect 'a first look' 0: ts_preview::outlooks ts_preview::write
+explain.sh: told 'no archive to show' 3: ts_explain::write_fault ts_explain::push_sentence ts_explain::push_pieces
+explain.sh: told 'no archive to show' 3: ts_preview::push_shown ts_explain::push_fault ts_explain::write_explained
+explain.sh: expect 'such a path, explained' 3: ts_explain::write_sentence
+special.sh: expect 'links in three folders' 1: ts_perform::HostRuntime::specials ts_special::search ts_special::union
+special.sh: expect 'links in three folders' 1: ts_special::HoldingFolder::new ts_special::HoldingFolder::list
+special.sh: expect 'links in three folders' 1: ts_special::HoldingFolder::open_file ts_special::HoldingFolder::fill
+special.sh: expect 'names that are not UTF-8' 1: ts_special::stand_in
+special.sh: refused 'links in three folders, without the option' '10 /both': ts_special::Specials::none
 disk_edge.sh: refused 'an archive that is none, no .twosync' 6: ts_disk::Lock::withdraw ts_disk::ArchivePlace::release
 """
 File = collections.namedtuple("File", "path crates functions links")

@@ -12,7 +12,7 @@ unset_page() { sed -E 's/^\.SH /# /; s/^\.[A-Z]+ ?//; s/\\-/-/g; s/\\f[A-Z]//g; 
 # help_of WORDS..: what help is printed for these words
 help_of() { "$program" "$@" --help; }
 # options_in: the long options that a help names
-options_in() { grep -oE -- '--[a-z]+' | sort -u; }
+options_in() { grep -oE -- '--[a-z]+(-[a-z]+)*' | sort -u; }
 
 # section TITLE: the lines of a section of the page
 section() { awk -v title="$1" '/^# / { inside = $0 == "# " title; next } inside' page; }
@@ -71,9 +71,11 @@ completed() {
 }
 mkdir folder
 completed 'scan show sync' twosync s
-completed '--holds --workers --help' twosync sync --
-completed '--workers --help' twosync scan --
-completed '--json --holds --workers --help' twosync preview --
+completed '--holds --hold-special --workers --explain --help' twosync sync --
+completed '--holds --hold-special' twosync run --hold
+completed '--workers --explain --help' twosync scan --
+completed '--explain --help' twosync show --
+completed '--json --holds --hold-special --workers --explain --help' twosync preview --
 completed folder twosync sync fol
 completed '1 16' twosync sync --workers 1
 for shell in zsh fish; do

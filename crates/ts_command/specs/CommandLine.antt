@@ -23,8 +23,17 @@ abbrev pub holds_rule : Rule
 holds_rule = record (new_rule (codes "holds")) { long = Some (codes "holds"); value_names = 1; parser = Some parser.NonEmptyString }
 
 -- a flag: it takes no value
+abbrev pub flag_rule : Text → Rule
+flag_rule id = record (new_rule id) { long = Some id; action = Some SetTrue }
+
 abbrev pub json_rule : Rule
-json_rule = record (new_rule (codes "json")) { long = Some (codes "json"); action = Some SetTrue }
+json_rule = flag_rule (codes "json")
+
+abbrev pub hold_special_rule : Rule
+hold_special_rule = flag_rule (codes "hold-special")
+
+abbrev pub explain_rule : Rule
+explain_rule = flag_rule (codes "explain")
 
 -- the command has no argument that its subcommands share
 abbrev pub IsLocal : Command → Type 0
@@ -35,23 +44,26 @@ abbrev pub taking : Text → List Rule → Shape
 taking name rules = record (new_shape name) { rules = rules }
 
 abbrev pub pair_rules : List Rule
-pair_rules = place_rule (codes "FIRST") ∷ place_rule (codes "SECOND") ∷ place_rule (codes "ARCHIVE") ∷ holds_rule ∷ workers_rule ∷ []
+pair_rules = place_rule (codes "FIRST") ∷ place_rule (codes "SECOND") ∷ place_rule (codes "ARCHIVE") ∷ holds_rule ∷ hold_special_rule ∷ workers_rule
+    ∷ explain_rule ∷ []
 
 abbrev pub planned_pair_rules : List Rule
-planned_pair_rules = place_rule (codes "FIRST") ∷ place_rule (codes "SECOND") ∷ place_rule (codes "ARCHIVE") ∷ holds_rule ∷ workers_rule ∷ place_rule (codes "PLAN") ∷ []
+planned_pair_rules = place_rule (codes "FIRST") ∷ place_rule (codes "SECOND") ∷ place_rule (codes "ARCHIVE") ∷ holds_rule ∷ hold_special_rule ∷ workers_rule
+    ∷ explain_rule ∷ place_rule (codes "PLAN") ∷ []
 
 abbrev pub previewed_pair_rules : List Rule
-previewed_pair_rules = place_rule (codes "FIRST") ∷ place_rule (codes "SECOND") ∷ place_rule (codes "ARCHIVE") ∷ holds_rule ∷ workers_rule ∷ json_rule ∷ []
+previewed_pair_rules = place_rule (codes "FIRST") ∷ place_rule (codes "SECOND") ∷ place_rule (codes "ARCHIVE") ∷ holds_rule ∷ hold_special_rule ∷ workers_rule
+    ∷ explain_rule ∷ json_rule ∷ []
 
 -- the subcommands that work on no pair
 abbrev pub trial_shape : Shape
-trial_shape = taking (codes "trial") (workers_rule ∷ [])
+trial_shape = taking (codes "trial") (workers_rule ∷ explain_rule ∷ [])
 
 abbrev pub scan_shape : Shape
-scan_shape = taking (codes "scan") (place_rule (codes "DIR") ∷ workers_rule ∷ [])
+scan_shape = taking (codes "scan") (place_rule (codes "DIR") ∷ workers_rule ∷ explain_rule ∷ [])
 
 abbrev pub show_shape : Shape
-show_shape = taking (codes "show") (place_rule (codes "ARCHIVE") ∷ [])
+show_shape = taking (codes "show") (place_rule (codes "ARCHIVE") ∷ explain_rule ∷ [])
 
 -- the command line before its subcommands, with those that work on no pair, with those that make or check a plan, and with `preview`, too
 abbrev pub line_head : App
@@ -91,9 +103,9 @@ command_line = record {
     subcommand_required = true;
     disable_help_subcommand = true;
   };
-  subs = taking (codes "trial") (workers_rule ∷ [])
-      ∷ taking (codes "scan") (place_rule (codes "DIR") ∷ workers_rule ∷ [])
-      ∷ taking (codes "show") (place_rule (codes "ARCHIVE") ∷ [])
+  subs = taking (codes "trial") (workers_rule ∷ explain_rule ∷ [])
+      ∷ taking (codes "scan") (place_rule (codes "DIR") ∷ workers_rule ∷ explain_rule ∷ [])
+      ∷ taking (codes "show") (place_rule (codes "ARCHIVE") ∷ explain_rule ∷ [])
       ∷ taking (codes "plan") pair_rules
       ∷ taking (codes "check") planned_pair_rules
       ∷ taking (codes "preview") previewed_pair_rules

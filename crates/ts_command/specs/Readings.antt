@@ -16,15 +16,16 @@ use Rattle.ts_command.specs.declared.job.Command.{Command}
 abbrev pub Names : Text → List Row → Text → Type 0
 Names id rows name = first_of id rows ≡ Some name
 
+-- the flag of this name is given
+abbrev pub IsFlagged : Text → List Row → Type 0
+IsFlagged id rows = Names id rows (codes "true")
+
 pub record IsPair (rows : List Row) (pair : Pair) : Type 0 where
   pub first : Names (codes "FIRST") rows pair.first.now
   pub second : Names (codes "SECOND") rows pair.second.now
   pub archive : Names (codes "ARCHIVE") rows pair.archive.now
   pub holds : first_of (codes "holds") rows ≡ option_map (λ s. s.now) pair.holds
-
--- the flag `--json` is given
-abbrev pub AsksForJson : List Row → Type 0
-AsksForJson rows = Names (codes "json") rows (codes "true")
+  pub hold_special : IsTrue pair.hold_special ↔ IsFlagged (codes "hold-special") rows
 
 abbrev pub IsJob : Text → List Row → Job → Type 0
 IsJob name rows (job.Tell text) = ⊥
@@ -32,7 +33,7 @@ IsJob name rows job.Trial = name ≡ codes "trial"
 IsJob name rows (job.Scan folder) = (name ≡ codes "scan") × Names (codes "DIR") rows folder.now
 IsJob name rows (job.Show archive) = (name ≡ codes "show") × Names (codes "ARCHIVE") rows archive.now
 IsJob name rows (job.Plan pair) = (name ≡ codes "plan") × IsPair rows pair
-IsJob name rows (job.Preview pair json) = (name ≡ codes "preview") × IsPair rows pair × (IsTrue json ↔ AsksForJson rows)
+IsJob name rows (job.Preview pair json) = (name ≡ codes "preview") × IsPair rows pair × (IsTrue json ↔ IsFlagged (codes "json") rows)
 IsJob name rows (job.Check pair plan) = (name ≡ codes "check") × IsPair rows pair × Names (codes "PLAN") rows plan.now
 IsJob name rows (job.Run pair plan) = (name ≡ codes "run") × IsPair rows pair × Names (codes "PLAN") rows plan.now
 IsJob name rows (job.Sync pair) = (name ≡ codes "sync") × IsPair rows pair
@@ -52,7 +53,8 @@ HasWorkers rows = AreWorkers (first_of (codes "workers") rows)
 
 abbrev pub Gives : Option (Text × List Row) → Command → Type 0
 Gives None command = ⊥
-Gives (Some (name, rows)) command = IsJob name rows command.job × HasWorkers rows command.workers
+Gives (Some (name, rows)) command =
+    IsJob name rows command.job × HasWorkers rows command.workers × (IsTrue command.explain ↔ IsFlagged (codes "explain") rows)
 
 abbrev pub reading_of_words : List Text → Option (Text × List Row)
 reading_of_words words = subcommand_of command_line words

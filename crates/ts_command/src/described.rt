@@ -1,7 +1,8 @@
 //! The command line as clap reads it, with its help.
 ghost use Rattle.std.specs.Prelude.{◌≡◌, [], false, IfOk};
 ghost use Rattle.clap.specs.Words.{app_of, rule_of};
-ghost use Rattle.ts_command.specs.CommandLine.{IsLocal, command_line, holds_rule, json_rule, line_head, pair_rules, place_rule};
+ghost use Rattle.ts_command.specs.CommandLine.{IsLocal, command_line, explain_rule, flag_rule, hold_special_rule, holds_rule};
+ghost use Rattle.ts_command.specs.CommandLine.{json_rule, line_head, pair_rules, place_rule};
 ghost use Rattle.ts_command.specs.CommandLine.{planned_pair_rules, planning_line, previewed_pair_rules, previewing_line};
 ghost use Rattle.ts_command.specs.CommandLine.{scan_shape, show_shape, single_line, taking, trial_shape, workers_rule};
 
@@ -13,8 +14,8 @@ use std::alloc::{AllocError, Global};
 const EXAMPLE: &str = "\
 FIRST and SECOND are folders, ARCHIVE is a file that tells what both had in common; it is made where
 it isn't there. Keep it outside of both folders: inside, it would be copied like any other file.
-Permissions, times and links are not synchronized; a link ends the command. What changed on both
-sides is left alone and reported as a conflict.
+Permissions, times and links are not synchronized; a link ends the command, or is left alone with
+`--hold-special`. What changed on both sides is left alone and reported as a conflict.
 
 Example:
   twosync sync ~/notes /mnt/stick/notes ~/.notes.archive
@@ -27,7 +28,8 @@ Faults are reported by number: 1 out of memory, 4 a path is too long, 5 a file c
 written, 6 a text isn't in its form, 7 an archive's last line is wrong, 8 a device failed or another
 run is at work, 9 nothing is there, 10 neither a file nor a folder or a name that isn't lawful, 11 a
 bad hold rule, 12 a plan is too large, 14 what was to be replaced has changed, 15 what was read isn't
-what was scanned, 16 words that are no command.";
+what was scanned, 16 words that are no command. With --explain, or on a terminal, each is put in
+words, too.";
 
 /// What stands below the help of the commands on a pair.
 const PLAN_EXAMPLE: &str = "\
@@ -90,18 +92,45 @@ fn holds<'a>(alloc: Global) -> Arg<'a>
         .help("Rules, one a line: `path /a/b` or `name *.o`. What they name stays untouched")
 }
 
+/// A flag: a word that takes no value.
+fn flag<'a>(alloc: Global, name: &'a str, about: &'a str) -> Arg<'a>
+    ensures rule { rule_of result ≡ flag_rule name.now }
+    ensures local { result.global ≡ false }
+{
+    Arg::new(alloc, name)
+        .long(name)
+        .action(ArgAction::SetTrue)
+        .help(about)
+}
+
+/// `--hold-special`.
+fn hold_special<'a>(alloc: Global) -> Arg<'a>
+    ensures rule { rule_of result ≡ hold_special_rule }
+    ensures local { result.global ≡ false }
+{
+    let help = "Holds links, devices and what else can't be synchronized, too";
+    flag(alloc, "hold-special", help)
+}
+
 /// `--json`.
 fn json<'a>(alloc: Global) -> Arg<'a>
     ensures rule { rule_of result ≡ json_rule }
     ensures local { result.global ≡ false }
 {
-    Arg::new(alloc, "json")
-        .long("json")
-        .action(ArgAction::SetTrue)
-        .help("Prints JSON, a line each, for programs")
+    flag(alloc, "json", "Prints JSON, a line each, for programs")
 }
 
-/// The subcommand of this name, with FIRST, SECOND, ARCHIVE, `--holds` and `--workers`, and an example of it.
+/// `--explain`.
+fn explain<'a>(alloc: Global) -> Arg<'a>
+    ensures rule { rule_of result ≡ explain_rule }
+    ensures local { result.global ≡ false }
+{
+    let help = "Puts each fault in words, in a line before its number";
+    flag(alloc, "explain", help)
+}
+
+/// The subcommand of this name, with FIRST, SECOND, ARCHIVE, `--holds`, `--hold-special`, `--workers` and `--explain`, and an
+/// example of it.
 fn on_pair<'a>(
     alloc: Global,
     name: &'a str,
@@ -118,7 +147,9 @@ fn on_pair<'a>(
         .arg(place(alloc, "SECOND", "The other folder"))?
         .arg(place(alloc, "ARCHIVE", "What both had in common"))?
         .arg(holds(alloc))?
-        .arg(workers(alloc))
+        .arg(hold_special(alloc))?
+        .arg(workers(alloc))?
+        .arg(explain(alloc))
 }
 
 /// The same, with PLAN.
@@ -155,7 +186,8 @@ fn trial<'a>(alloc: Global) -> Result<Command<'a>, AllocError>
     Command::new(alloc, "trial")
         .about("Answers a bundle of archive, folders, rules and plan on standard input")
         .after_help("Example:\n  twosync trial < bundle")
-        .arg(workers(alloc))
+        .arg(workers(alloc))?
+        .arg(explain(alloc))
 }
 
 /// The subcommand that prints what a folder has.
@@ -167,7 +199,8 @@ fn scan<'a>(alloc: Global) -> Result<Command<'a>, AllocError>
         .about("Prints the archive of a folder as it is now")
         .after_help("Example:\n  twosync scan ~/notes > notes.archive")
         .arg(place(alloc, "DIR", "A folder"))?
-        .arg(workers(alloc))
+        .arg(workers(alloc))?
+        .arg(explain(alloc))
 }
 
 /// The subcommand that prints what an archive has.
@@ -178,7 +211,8 @@ fn show<'a>(alloc: Global) -> Result<Command<'a>, AllocError>
     Command::new(alloc, "show")
         .about("Prints what an archive has, a path a line")
         .after_help("Example:\n  twosync show ~/.notes.archive")
-        .arg(place(alloc, "ARCHIVE", "An archive"))
+        .arg(place(alloc, "ARCHIVE", "An archive"))?
+        .arg(explain(alloc))
 }
 
 /// The command line before its subcommands.

@@ -10,6 +10,8 @@ pub struct Pair<'a> {
     pub archive: &'a str,
     /// A file of hold rules, if there are any.
     pub holds: Option<&'a str>,
+    /// Whether links, devices and whatever else can't be synchronized are held, too. Else they are refused.
+    pub hold_special: bool,
 }
 
 /// What is to be done.
@@ -35,11 +37,12 @@ pub enum Job<'a> {
     Sync { pair: Pair<'a> },
 }
 
-/// A job, and by how many threads it is done: 1 to 64.
+/// A job, by how many threads it is done, 1 to 64, and whether faults are put in words, too.
 #[derive(Drop)]
 pub struct Command<'a> {
     pub job: Job<'a>,
     pub workers: u32,
+    pub explain: bool,
     pub ghost some: { 1 ≤ workers },
     pub ghost few: { workers ≤ 64 },
 }

@@ -2,7 +2,7 @@
 ghost use Rattle.std.specs.Prelude.{◌≡◌, ◌≢◌, ◌≤◌, ◌↔◌, ℕ, List, Some, true, map, IfErr, IfNone, IfOk, IfSome, IsTrue, option_map};
 ghost use Rattle.clap.specs.Words.{first_of, found_of, kind_of, rows_of, subcommand_rows_of, takes};
 ghost use Rattle.ts_command.specs.CommandLine.{command_line};
-ghost use Rattle.ts_command.specs.Readings.{AreWorkers, AsksForJson, AsksToTell, Gives, HasWorkers, IsAsked, IsJob, IsNoCommand, IsPair};
+ghost use Rattle.ts_command.specs.Readings.{AreWorkers, AsksToTell, Gives, HasWorkers, IsAsked, IsFlagged, IsJob, IsNoCommand, IsPair};
 ghost use Rattle.ts_command.specs.declared.fault.CommandFault.TheVariants.{OutOfMemory};
 ghost use Rattle.ts_command.specs.declared.job.Command.{Command};
 ghost use Rattle.ts_command.specs.declared.job.Job.{Job};
@@ -69,6 +69,7 @@ fn tell<'a>(message: clap::Error) -> Result<Command<'a>, CommandFault>
         ErrorKind::DisplayHelp | ErrorKind::DisplayVersion => Ok(Command {
             job: Job::Tell { text: message },
             workers: USUAL_WORKERS,
+            explain: false,
         }),
         _ => Err(CommandFault::Usage { message }),
     }
@@ -82,7 +83,12 @@ fn read_command<'a>(matches: &ArgMatches<'a>) -> Option<Command<'a>>
     let (name, inner) = matches.subcommand()?;
     let job = read_job(name, inner)?;
     let workers = read_workers(inner)?;
-    Some(Command { job, workers })
+    let explain = is_flagged(inner, "explain");
+    Some(Command {
+        job,
+        workers,
+        explain,
+    })
 }
 
 /// The value of this name.
@@ -131,7 +137,7 @@ fn read_job<'a>(name: &str, matches: &ArgMatches<'a>) -> Option<Job<'a>>
             pair: read_pair(matches)?,
         }),
         "preview" => Some(Job::Preview {
-            json: asks_for_json(matches),
+            json: is_flagged(matches, "json"),
             pair: read_pair(matches)?,
         }),
         "check" => Some(Job::Check {
@@ -149,11 +155,11 @@ fn read_job<'a>(name: &str, matches: &ArgMatches<'a>) -> Option<Job<'a>>
     }
 }
 
-/// Whether `--json` is among the words.
-fn asks_for_json(matches: &ArgMatches<'_>) -> bool
-    ensures { IsTrue result ↔ AsksForJson (rows_of (found_of matches.now)) }
+/// Whether the flag of this name is among the words.
+fn is_flagged(matches: &ArgMatches<'_>, id: &str) -> bool
+    ensures { IsTrue result ↔ IsFlagged id.now (rows_of (found_of matches.now)) }
 {
-    match value(matches, "json") {
+    match value(matches, id) {
         Some(text) => text == "true",
         None => false,
     }
@@ -169,5 +175,6 @@ fn read_pair<'a>(matches: &ArgMatches<'a>) -> Option<Pair<'a>>
         second: value(matches, "SECOND")?,
         archive: value(matches, "ARCHIVE")?,
         holds: value(matches, "holds"),
+        hold_special: is_flagged(matches, "hold-special"),
     })
 }

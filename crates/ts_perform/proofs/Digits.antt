@@ -1,5 +1,5 @@
 -- How many decimal digits a number has.
-use Rattle.std.proofs.Common.{◌≡◌, ◌+◌, ◌/◌, ◌<◌, ◌≤◌, ◌^◌, ℕ, zero, suc, arith, ap, decimal, length, refl, ◌∙◌}
+use Rattle.std.proofs.Common.{◌≡◌, ◌+◌, ◌/◌, ◌<◌, ◌^◌, ℕ, zero, suc, arith, ap, decimal, length, refl, ◌∙◌}
 use Rattle.std.proofs.lemmas.Fmt.{decimal-digits_of, decimal_nonempty, length-decimal-le}
 use Rattle.std.proofs.lemmas.Int.Digits.{length-digits_of_step}
 use Rattle.std.proofs.lemmas.List.{length-map}

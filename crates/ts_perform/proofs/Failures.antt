@@ -1,5 +1,5 @@
 -- What is reported of a run: the lines of failed actions, one by one, and what comes after them.
-use Rattle.std.proofs.Common.{◌≡◌, ℕ, ◌+◌, ◌<◌, suc, List, [], ◌∷◌, ◌++◌, length, drop, get_or, Option, None, sym, ap, ap₂, subst, ◌∙◌, add-one, drop-cons}
+use Rattle.std.proofs.Common.{◌≡◌, ℕ, Bool, ◌+◌, ◌<◌, suc, List, [], ◌++◌, length, drop, get_or, Option, sym, ap, ap₂, subst, ◌∙◌, add-one, drop-cons}
 use Rattle.std.proofs.lemmas.List.{append-nil}
 use Rattle.std.specs.Io.KnownBytes.{Appends}
 use Rattle.ts_text.specs.Sources.{AppendsFront}
@@ -8,27 +8,26 @@ use Rattle.ts_model.specs.declared.plan.Plan.{Plan}
 use Rattle.ts_tree.proofs.Writing.{begun_after, sent_more}
 use Rattle.ts_report.specs.Reports.{report_text}
 use Rattle.ts_exec.specs.Ends.{ending_at}
-use Rattle.ts_perform.specs.Faults.{fault_line}
 use Rattle.ts_exec.specs.declared.outcome.ActionResult.{ActionResult}
 use Rattle.ts_model.specs.declared.plan.Action.{Action}
 use Rattle.ts_model.specs.declared.plan.Entry.{Entry}
 use Rattle.ts_perform.specs.Runs.{failure_line, failure_lines}
 
 -- those of an action, and those after it
-pub failures_step : (entries : List Entry) (actions : List Action) (results : List ActionResult) (i : ℕ) (action : Action) (other : ActionResult)
+pub failures_step : (explain : Bool) (entries : List Entry) (actions : List Action) (results : List ActionResult) (i : ℕ) (action : Action) (other : ActionResult)
     → i < length actions → i < length results → action ≡ get_or actions i action
-    → failure_lines entries (drop i actions) (drop i results) ≡ failure_line entries action (get_or results i other) ++ failure_lines entries (drop (i + 1) actions) (drop (i + 1) results)
-failures_step entries actions results i action other within within' is =
+    → failure_lines explain entries (drop i actions) (drop i results) ≡ failure_line explain entries action (get_or results i other) ++ failure_lines explain entries (drop (i + 1) actions) (drop (i + 1) results)
+failures_step explain entries actions results i action other within within' is =
     rw (add-one, drop-cons actions i action within, drop-cons results i other within')
-    (ap (λ (a : Action). failure_line entries a (get_or results i other) ++ failure_lines entries (drop (suc i) actions) (drop (suc i) results)) (sym is))
+    (ap (λ (a : Action). failure_line explain entries a (get_or results i other) ++ failure_lines explain entries (drop (suc i) actions) (drop (suc i) results)) (sym is))
 
 -- what a plan is read as
 pub report_same : (plan plan' : Plan) (results : List ActionResult) → plan' ≡ plan → report_text (ending_at results) plan' ≡ report_text (ending_at results) plan
 report_same plan plan' results same = ap (report_text (ending_at results)) same
 
-pub lines_same : (plan plan' : Plan) (results results' : List ActionResult) → plan' ≡ plan → results' ≡ results
-    → failure_lines plan'.entries plan'.actions results' ≡ failure_lines plan.entries plan.actions results
-lines_same plan plan' results results' same same' = ap₂ (λ (p : Plan) (r : List ActionResult). failure_lines p.entries p.actions r) same same'
+pub lines_same : (explain : Bool) (plan plan' : Plan) (results results' : List ActionResult) → plan' ≡ plan → results' ≡ results
+    → failure_lines explain plan'.entries plan'.actions results' ≡ failure_lines explain plan.entries plan.actions results
+lines_same explain plan plan' results results' same same' = ap₂ (λ (p : Plan) (r : List ActionResult). failure_lines explain p.entries p.actions r) same same'
 
 -- what was written whole was begun
 pub whole_begun : (old new : Option (List ℕ)) (bytes : List ℕ) → Appends old new bytes → AppendsFront old new bytes
@@ -38,15 +37,13 @@ whole_begun old new bytes whole = record { front = bytes; rest = []; split = sym
 pub none_lost : (old new : Option (List ℕ)) (lines lines' : List Line) → lines' ≡ lines → Appends old new (text lines') → Appends old new (text (lines ++ []))
 none_lost old new lines lines' same told = subst (λ (l : List Line). Appends old new (text l)) (same ∙ sym (append-nil lines)) told
 
--- the line of the lost archive comes after them
-pub lost_told : (old mid new : Option (List ℕ)) (lines lines' : List Line) (number number' : ℕ) → lines' ≡ lines → number' ≡ number
-    → Appends old mid (text lines') → Appends mid new (text (fault_line number' None ∷ [])) → Appends old new (text (lines ++ fault_line number None ∷ []))
-lost_told old mid new lines lines' number number' same same' before last =
-    sent_more old mid new lines (fault_line number None ∷ []) (subst (λ (l : List Line). Appends old mid (text l)) same before)
-    (subst (λ (n : ℕ). Appends mid new (text (fault_line n None ∷ []))) same' last)
+-- what is said of the lost archive comes after them
+pub lost_told : (old mid new : Option (List ℕ)) (lines lines' last : List Line) → lines' ≡ lines
+    → Appends old mid (text lines') → Appends mid new (text last) → Appends old new (text (lines ++ last))
+lost_told old mid new lines lines' last same before after =
+    sent_more old mid new lines last (subst (λ (l : List Line). Appends old mid (text l)) same before) after
 
-pub lost_begun : (old mid new : Option (List ℕ)) (lines lines' : List Line) (number number' : ℕ) → lines' ≡ lines → number' ≡ number
-    → Appends old mid (text lines') → AppendsFront mid new (text (fault_line number' None ∷ [])) → AppendsFront old new (text (lines ++ fault_line number None ∷ []))
-lost_begun old mid new lines lines' number number' same same' before last =
-    begun_after old mid new lines (fault_line number None ∷ []) (subst (λ (l : List Line). Appends old mid (text l)) same before)
-    (subst (λ (n : ℕ). AppendsFront mid new (text (fault_line n None ∷ []))) same' last)
+pub lost_begun : (old mid new : Option (List ℕ)) (lines lines' last : List Line) → lines' ≡ lines
+    → Appends old mid (text lines') → AppendsFront mid new (text last) → AppendsFront old new (text (lines ++ last))
+lost_begun old mid new lines lines' last same before after =
+    begun_after old mid new lines last (subst (λ (l : List Line). Appends old mid (text l)) same before) after

@@ -8,3 +8,5 @@ mod Pairs
 mod Printing
 mod Putting
 mod Staged
+mod Adding
+mod Scanning

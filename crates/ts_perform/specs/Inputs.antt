@@ -4,14 +4,25 @@
 --     IsArchiveIn finds name found    the same of an archive; or nothing was found
 --     IsArchiveAt finds name rows     the same; an archive that isn't there has no paths
 --     AreRulesAt finds name rules     the rules that were read from a file, or none where no file is named
---     IsReadFor finds pair rows rules the archive and the rules of a pair
-use Rattle.std.specs.Prelude.{◌≡◌, ◌⊎◌, ℕ, List, [], Option, Some, None, IfSome}
+--     AreRulesFor finds pair special rules   those, and then one for each of these special paths
+--     IsReadFor finds pair special rows rules  the archive and the rules of a pair
+--     IsSeenFor .. pair rows rules first second  the same with scans of both replicas, which have stand-ins at the special paths that the rules name
+--     scanned_of pair first second    what the scans of a pair's replicas give; where neither gives a print, the fault is that of the first
+use Rattle.std.specs.Prelude.{◌≡◌, ◌⊎◌, ℕ, List, [], ◌++◌, Option, Some, None, IfSome, Result, Ok, Err}
 use Rattle.std.specs.Borrow.{Bor}
 use Rattle.ts_command.specs.declared.job.Pair.{Pair}
 use Rattle.ts_model.specs.Texts.{IsArchiveText, IsRulesText}
 use Rattle.ts_model.specs.Trees.{Listing}
 use Rattle.ts_model.specs.declared.hold.Rule.{Rule}
 use Rattle.ts_model.specs.declared.row.Stamp.{Stamp}
+use Rattle.ts_scan.specs.declared.fault.ScanFault.{ScanFault}
+use Rattle.ts_explain.specs.declared.fault.PerformFault.{PerformFault}
+use Rattle.ts_explain.specs.declared.subject.Subject.TheVariants.{First, Second}
+use Rattle.ts_perform.specs.Lengths.{fault_below}
+use Rattle.ts_perform.specs.declared.inputs.Scanned.{Scanned}
+use Rattle.ts_perform.specs.Specials.{AreSpecials, FindsSpecial, rules_of}
+use Rattle.ts_perform.specs.Stands.{AreScans, IsAt}
+use Rattle.ts_perform.specs.declared.special.SpecialPaths.{SpecialPaths}
 
 abbrev pub Finds : Type 1
 Finds = List ℕ → Option (Option (List ℕ)) → Type 0
@@ -30,6 +41,21 @@ abbrev pub AreRulesAt : Finds → Option (Bor (List ℕ)) → List Rule → Type
 AreRulesAt finds None rules = rules ≡ []
 AreRulesAt finds (Some name) rules = IsReadAt finds IsRulesText name.now rules
 
-pub record IsReadFor (finds : Finds) (pair : Pair) (rows : Listing Stamp) (rules : List Rule) : Type 0 where
+abbrev pub AreRulesFor : Finds → Pair → SpecialPaths → List Rule → Type 0
+AreRulesFor finds pair special rules = (read : List Rule) × AreRulesAt finds pair.holds read × (rules ≡ read ++ rules_of special)
+
+pub record IsReadFor (finds : Finds) (pair : Pair) (special : SpecialPaths) (rows : Listing Stamp) (rules : List Rule) : Type 0 where
   pub archive : IsArchiveAt finds pair.archive.now rows
-  pub holds : AreRulesAt finds pair.holds rules
+  pub holds : AreRulesFor finds pair special rules
+
+pub record IsSeenFor {F : Type 0} (is_at : IsAt F) (tells : F → Option (Listing (List ℕ))) (finds : Finds) (finds_special : FindsSpecial)
+    (pair : Pair) (rows : Listing Stamp) (rules : List Rule) (first second : Listing Stamp) : Type 0 where
+  pub special : SpecialPaths
+  pub found : AreSpecials finds_special pair special
+  pub read : IsReadFor finds pair special rows rules
+  pub scans : AreScans is_at tells pair special first second
+
+abbrev pub scanned_of : Pair → Result (Listing Stamp) ScanFault → Result (Listing Stamp) ScanFault → Result Scanned PerformFault
+scanned_of pair (Err e) second = Err (fault_below pair.first.now First e)
+scanned_of pair (Ok a) (Err e) = Err (fault_below pair.second.now Second e)
+scanned_of pair (Ok a) (Ok b) = Ok (record { first = a; second = b })

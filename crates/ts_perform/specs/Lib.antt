@@ -1,3 +1,4 @@
+pub mod Failures
 pub mod Faults
 pub mod Inputs
 pub mod Jobs
@@ -8,6 +9,7 @@ pub mod Printouts
 pub mod Puts
 pub mod Runs
 pub mod Snapshots
+pub mod Specials
 pub mod Staging
 pub mod Stands
 pub mod Trials

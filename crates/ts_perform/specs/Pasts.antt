@@ -2,11 +2,14 @@
 --     IsPastOf took stopped lock past          that is what is said of a lock; where there is none, nothing is known
 --     IsOneNew first second                    just one of them took part, and a run into both of them wasn't stopped
 --     SaysOneNew took stopped first second one whether that is so, by what is said of two locks
+--     new_one first, SaysNew ..                which one is new, where just one is
 --     IsOfBoth .. pair rows                    where it is so of the locks of the pair's replicas, the archive names no path
-use Rattle.std.specs.Prelude.{◌≡◌, ◌≢◌, ◌↔◌, ℕ, Bool, false, List, [], Option, Some, None, IsTrue}
+use Rattle.std.specs.Prelude.{◌≡◌, ◌≢◌, ◌↔◌, ℕ, Bool, false, if◌then◌else◌, List, [], Option, Some, None, IsTrue}
 use Rattle.ts_command.specs.declared.job.Pair.{Pair}
 use Rattle.ts_model.specs.Trees.{Listing}
 use Rattle.ts_model.specs.declared.row.Stamp.{Stamp}
+use Rattle.ts_explain.specs.declared.subject.Subject.{Subject}
+use Rattle.ts_explain.specs.declared.subject.Subject.TheVariants.{First, Second}
 use Rattle.ts_perform.specs.declared.past.Past.{Past}
 
 abbrev pub IsPastOf : {L : Type 0} → (took stopped : L → Bool → Type 0) → Option L → Past → Type 0
@@ -16,6 +19,13 @@ IsPastOf took stopped (Some lock) past = took lock past.took_part × stopped loc
 pub record IsOneNew (first second : Past) : Type 0 where
   pub one : first.took_part ≢ second.took_part
   pub going : ¬ (IsTrue first.was_stopped × IsTrue second.was_stopped)
+
+-- the one that is new where just one is, by what is known of the first
+abbrev pub new_one : Past → Subject
+new_one first = if first.took_part then Second else First
+
+abbrev pub SaysNew : {L : Type 0} → (took stopped : L → Bool → Type 0) → Option L → Subject → Type 0
+SaysNew took stopped first new = (of_first : Past) × IsPastOf took stopped first of_first × (new ≡ new_one of_first)
 
 abbrev pub SaysOneNew : {L : Type 0} → (took stopped : L → Bool → Type 0) → (first second : Option L) → Bool → Type 0
 SaysOneNew took stopped first second one =

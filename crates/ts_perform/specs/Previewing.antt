@@ -16,9 +16,10 @@ use Rattle.ts_preview.specs.declared.outlook.Outlook.{Outlook}
 use Rattle.ts_preview.specs.declared.writing.Form.{Form}
 use Rattle.ts_preview.specs.declared.writing.Form.TheVariants.{People, Json}
 use Rattle.ts_report.specs.Reports.{status_of}
-use Rattle.ts_perform.specs.Inputs.{Finds, IsReadFor}
+use Rattle.ts_perform.specs.Inputs.{Finds, IsSeenFor}
 use Rattle.ts_perform.specs.Snapshots.{IsPlanned, checkup_of}
-use Rattle.ts_perform.specs.Stands.{AreScans}
+use Rattle.ts_perform.specs.Specials.{FindsSpecial}
+use Rattle.ts_perform.specs.Stands.{IsAt}
 use Rattle.ts_perform.specs.declared.snapshot.Snapshot.{Snapshot}
 
 abbrev pub form_of : Bool → Form
@@ -32,7 +33,7 @@ IsPreview k json written status =
 abbrev pub IsPreviewOf : Snapshot → Bool → List ℕ → ℕ → Type 0
 IsPreviewOf s json written status = (plan : Plan) × IsPreview (checkup_of s plan) json written status
 
-abbrev pub IsPreviewAt : {F : Type 0} → (F → List ℕ → Type 0) → (F → Option (Listing (List ℕ))) → Finds → Pair → Bool → List ℕ → ℕ → Type 0
-IsPreviewAt is_at tells finds pair json written status =
-    (k : Checkup) × AreScans is_at tells pair.first.now pair.second.now k.first k.second × IsReadFor finds pair k.archive k.rules
+abbrev pub IsPreviewAt : {F : Type 0} → IsAt F → (F → Option (Listing (List ℕ))) → Finds → FindsSpecial → Pair → Bool → List ℕ → ℕ → Type 0
+IsPreviewAt is_at tells finds finds_special pair json written status =
+    (k : Checkup) × IsSeenFor is_at tells finds finds_special pair k.archive k.rules k.first k.second
     × IsPreview k json written status

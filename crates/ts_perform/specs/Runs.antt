@@ -22,6 +22,7 @@ use Rattle.ts_board.specs.Archives.{LeftArchive}
 use Rattle.ts_board.specs.declared.law.Slot.{Slot}
 use Rattle.ts_check.specs.Checkup.{Checkup, snapshot_of}
 use Rattle.ts_check.specs.Verdict.{IsSafe}
+use Rattle.ts_command.specs.declared.job.Command.{Command}
 use Rattle.ts_command.specs.declared.job.Job.{Job}
 use Rattle.ts_command.specs.declared.job.Pair.{Pair}
 use Rattle.ts_command.specs.declared.job.Job.TheVariants as job
@@ -45,14 +46,19 @@ use Rattle.ts_report.specs.Reports.{entry_of, fates, report_text, status_of, tot
 use Rattle.ts_text.specs.Sources.{AppendsFront}
 use Rattle.ts_trial.specs.Answers.{refusal}
 use Rattle.ts_exec.specs.Ends.{ending_at}
-use Rattle.ts_perform.specs.Faults.{fault_line, fault_number, kept_line, mount_line, own_path, place_of}
-use Rattle.ts_perform.specs.Inputs.{Finds, IsReadAt, IsReadFor}
+use Rattle.ts_explain.specs.Faults.{fault_line, fault_number}
+use Rattle.ts_explain.specs.Lines.{BeginsLines, fault_lines, sentence_lines, with_sentence}
+use Rattle.ts_explain.specs.Sentences.{sentence_of}
+use Rattle.ts_perform.specs.Failures.{failure_text, notice_text}
+use Rattle.ts_perform.specs.Faults.{kept_line, mount_line}
+use Rattle.ts_perform.specs.Inputs.{Finds, IsReadAt, IsSeenFor}
 use Rattle.ts_perform.specs.Pasts.{IsOfBoth}
-use Rattle.ts_perform.specs.Snapshots.{IsBegun, IsPlanned}
-use Rattle.ts_perform.specs.Stands.{AreScans, IsRunOf, Stand}
+use Rattle.ts_perform.specs.Snapshots.{IsBegun, IsBrokenAt, IsPlanned, IsValidAt, IsValidBegun, valid_text}
+use Rattle.ts_perform.specs.Specials.{FindsSpecial}
+use Rattle.ts_perform.specs.Stands.{IsAt, IsRunOf, Stand}
 use Rattle.ts_perform.specs.Trials.{IsQuiet}
-use Rattle.ts_perform.specs.declared.fault.PerformFault.{PerformFault}
-use Rattle.ts_perform.specs.declared.fault.PerformFault.TheVariants as fault
+use Rattle.ts_explain.specs.declared.fault.PerformFault.{PerformFault}
+use Rattle.ts_explain.specs.declared.fault.PerformFault.TheVariants as fault
 
 abbrev pub path_in : Option Entry → Option Path
 path_in None = None
@@ -62,37 +68,38 @@ path_in (Some entry) = Some entry.path
 abbrev pub path_for : List Entry → Kind → Option Path
 path_for entries kind = path_in (slice_get entries (entry_of kind))
 
-abbrev pub failure_line : List Entry → Action → ActionResult → List Line
-failure_line entries action ended.Done = []
-failure_line entries action (ended.Failed fault) = fault_line (act_number fault) (path_for entries action.kind) ∷ []
-failure_line entries action (ended.Blocked before) = []
+abbrev pub failure_line : Bool → List Entry → Action → ActionResult → List Line
+failure_line explain entries action ended.Done = []
+failure_line explain entries action (ended.Failed fault) =
+    let path = path_for entries action.kind in with_sentence explain (failure_text fault path) (fault_line (act_number fault) path)
+failure_line explain entries action (ended.Blocked before) = []
 
-abbrev pub failure_lines : List Entry → List Action → List ActionResult → List Line
-failure_lines entries [] results = []
-failure_lines entries (action ∷ actions) [] = []
-failure_lines entries (action ∷ actions) (result ∷ results) = failure_line entries action result ++ failure_lines entries actions results
+abbrev pub failure_lines : Bool → List Entry → List Action → List ActionResult → List Line
+failure_lines explain entries [] results = []
+failure_lines explain entries (action ∷ actions) [] = []
+failure_lines explain entries (action ∷ actions) (result ∷ results) = failure_line explain entries action result ++ failure_lines explain entries actions results
 
 abbrev pub notice_line : Notice → Line
-notice_line (notice.Discarded path) = fault_line (fault_number fault.Device) (Some path)
+notice_line (notice.Discarded path) = fault_line 8 (Some path)
 notice_line (notice.Kept path place) = kept_line path (string_bytes place)
 notice_line (notice.Mounted path) = mount_line path
 
-abbrev pub notice_lines : List Notice → List Line
-notice_lines [] = []
-notice_lines (notice ∷ notices) = notice_line notice ∷ notice_lines notices
+abbrev pub notice_lines : Bool → List Notice → List Line
+notice_lines explain [] = []
+notice_lines explain (notice ∷ notices) = with_sentence explain (notice_text notice) (notice_line notice) ++ notice_lines explain notices
 
 -- some notices were reported, as far as they could be written
-abbrev pub BeginsNotices : (old new : Option (List ℕ)) → Type 0
-BeginsNotices old new = (notices : List Notice) × AppendsFront old new (text (notice_lines notices))
+abbrev pub BeginsNotices : Bool → (old new : Option (List ℕ)) → Type 0
+BeginsNotices explain old new = (notices : List Notice) × AppendsFront old new (text (notice_lines explain notices))
 
 -- why something is lost, and what is said of that
 abbrev pub lost_by : {A : Type 0} → Result A PerformFault → Option PerformFault
 lost_by (Ok kept) = None
 lost_by (Err fault) = Some fault
 
-abbrev pub lost_lines : Option PerformFault → List Line
-lost_lines None = []
-lost_lines (Some fault) = fault_line (fault_number fault) None ∷ []
+abbrev pub lost_lines : Command → Option PerformFault → List Line
+lost_lines command None = []
+lost_lines command (Some fault) = with_sentence command.explain (sentence_of command.job fault) (fault_line (fault_number fault) None)
 
 abbrev pub status_with : Option PerformFault → ℕ → ℕ
 status_with None status = status
@@ -103,8 +110,8 @@ abbrev pub run_report : Plan → List ActionResult → List ℕ
 run_report plan results = report_text (ending_at results) plan
 
 -- the fault of each failed action, and why the archive is lost, if it is
-abbrev pub run_faults : Plan → List ActionResult → Option PerformFault → List Line
-run_faults plan results lost = failure_lines plan.entries plan.actions results ++ lost_lines lost
+abbrev pub run_faults : Command → Plan → List ActionResult → Option PerformFault → List Line
+run_faults command plan results lost = failure_lines command.explain plan.entries plan.actions results ++ lost_lines command lost
 
 -- the status of the report's totals, or 2 where the archive is lost
 abbrev pub run_status : Plan → List ActionResult → Option PerformFault → ℕ
@@ -119,16 +126,16 @@ pub record Came : Type 0 where
 abbrev pub report_of : Came → List ℕ
 report_of came = run_report came.checkup.plan came.results
 
-abbrev pub faults_of : Came → List ℕ
-faults_of came = text (run_faults came.checkup.plan came.results came.lost ++ notice_lines came.notices)
+abbrev pub faults_of : Command → Came → List ℕ
+faults_of command came = text (run_faults command came.checkup.plan came.results came.lost ++ notice_lines command.explain came.notices)
 
 abbrev pub status_after : Came → ℕ
 status_after came = run_status came.checkup.plan came.results came.lost
 
-abbrev pub HasReported : Came → (old new old_faults new_faults : Option (List ℕ)) → ℕ → Type 0
-HasReported came old new old_faults new_faults status =
-    ((status ≡ status_after came) × Appends old new (report_of came) × Appends old_faults new_faults (faults_of came))
-    ⊎ ((status ≡ 2) × AppendsFront old new (report_of came) × AppendsFront old_faults new_faults (faults_of came))
+abbrev pub HasReported : Command → Came → (old new old_faults new_faults : Option (List ℕ)) → ℕ → Type 0
+HasReported command came old new old_faults new_faults status =
+    ((status ≡ status_after came) × Appends old new (report_of came) × Appends old_faults new_faults (faults_of command came))
+    ⊎ ((status ≡ 2) × AppendsFront old new (report_of came) × AppendsFront old_faults new_faults (faults_of command came))
 
 -- ---- which plan was run, and how
 
@@ -140,10 +147,9 @@ HasKept has k words place = (rows : Listing Stamp) × LeftArchive k words rows �
 -- one run of it, whose commits were made where they stand; and the archive that this run left was written in the place that has its name,
 -- unless it is lost
 pub record IsCarriedOut {S F A : Type 0} (stand : S → Stand) (content : S → Option (Listing (List ℕ))) (failures : S → ℕ)
-    (is_at : F → List ℕ → Type 0) (tells : F → Option (Listing (List ℕ))) (lets : F → Call → Path → Trouble → Type 0)
-    (is_named : A → List ℕ → Type 0) (has : A → Listing Stamp → Type 0) (finds : Finds) (pair : Pair) (came : Came) : Type 0 where
-  pub scans : AreScans is_at tells pair.first.now pair.second.now came.checkup.first came.checkup.second
-  pub read : IsReadFor finds pair came.checkup.archive came.checkup.rules
+    (is_at : IsAt F) (tells : F → Option (Listing (List ℕ))) (lets : F → Call → Path → Trouble → Type 0)
+    (is_named : A → List ℕ → Type 0) (has : A → Listing Stamp → Type 0) (finds : Finds) (finds_special : FindsSpecial) (pair : Pair) (came : Came) : Type 0 where
+  pub seen : IsSeenFor is_at tells finds finds_special pair came.checkup.archive came.checkup.rules came.checkup.first came.checkup.second
   pub valid : Valid (snapshot_of came.checkup) came.checkup.plan
   pub safe : IsSafe (snapshot_of came.checkup) came.checkup.plan
   pub words : List ℕ
@@ -153,28 +159,28 @@ pub record IsCarriedOut {S F A : Type 0} (stand : S → Stand) (content : S → 
 
 -- the same of this plan, with what it was checked against
 pub record IsCarriedOutFor {S F A : Type 0} (k : Checkup) (stand : S → Stand) (content : S → Option (Listing (List ℕ))) (failures : S → ℕ)
-    (is_at : F → List ℕ → Type 0) (tells : F → Option (Listing (List ℕ))) (lets : F → Call → Path → Trouble → Type 0)
-    (is_named : A → List ℕ → Type 0) (has : A → Listing Stamp → Type 0) (finds : Finds) (pair : Pair) (came : Came) : Type 0 where
+    (is_at : IsAt F) (tells : F → Option (Listing (List ℕ))) (lets : F → Call → Path → Trouble → Type 0)
+    (is_named : A → List ℕ → Type 0) (has : A → Listing Stamp → Type 0) (finds : Finds) (finds_special : FindsSpecial) (pair : Pair) (came : Came) : Type 0 where
   pub checkup : came.checkup ≡ k
-  pub carried_out : IsCarriedOut stand content failures is_at tells lets is_named has finds pair came
+  pub carried_out : IsCarriedOut stand content failures is_at tells lets is_named has finds finds_special pair came
 
 -- the same of the plan that was read from the file of this name
 pub record IsRun {S F A : Type 0} (stand : S → Stand) (content : S → Option (Listing (List ℕ))) (failures : S → ℕ)
-    (is_at : F → List ℕ → Type 0) (tells : F → Option (Listing (List ℕ))) (lets : F → Call → Path → Trouble → Type 0)
-    (is_named : A → List ℕ → Type 0) (has : A → Listing Stamp → Type 0) (finds : Finds) (pair : Pair) (name : List ℕ)
+    (is_at : IsAt F) (tells : F → Option (Listing (List ℕ))) (lets : F → Call → Path → Trouble → Type 0)
+    (is_named : A → List ℕ → Type 0) (has : A → Listing Stamp → Type 0) (finds : Finds) (finds_special : FindsSpecial) (pair : Pair) (name : List ℕ)
     (came : Came) : Type 0 where
   pub plan : IsReadAt finds IsPlanText name came.checkup.plan
-  pub carried_out : IsCarriedOut stand content failures is_at tells lets is_named has finds pair came
+  pub carried_out : IsCarriedOut stand content failures is_at tells lets is_named has finds finds_special pair came
 
 -- the same of a plan that `resume` made for the archive, the rules and the scans; and where just one replica took part before, the archive
 -- names no path
 pub record IsSynced {S F A L : Type 0} (stand : S → Stand) (content : S → Option (Listing (List ℕ))) (failures : S → ℕ)
-    (is_at : F → List ℕ → Type 0) (tells : F → Option (Listing (List ℕ))) (lets : F → Call → Path → Trouble → Type 0)
-    (is_named : A → List ℕ → Type 0) (has : A → Listing Stamp → Type 0) (finds : Finds)
+    (is_at : IsAt F) (tells : F → Option (Listing (List ℕ))) (lets : F → Call → Path → Trouble → Type 0)
+    (is_named : A → List ℕ → Type 0) (has : A → Listing Stamp → Type 0) (finds : Finds) (finds_special : FindsSpecial)
     (is_locked : Option L → List ℕ → Type 0) (took stopped : L → Bool → Type 0) (pair : Pair) (came : Came) : Type 0 where
   pub planned : IsPlanned came.checkup
   pub both : IsOfBoth is_locked took stopped pair came.checkup.archive
-  pub carried_out : IsCarriedOut stand content failures is_at tells lets is_named has finds pair came
+  pub carried_out : IsCarriedOut stand content failures is_at tells lets is_named has finds finds_special pair came
 
 -- ---- what is answered
 
@@ -183,53 +189,57 @@ abbrev pub IsRight : PerformFault → Type 0
 IsRight e = (rule : PlanRule) (place : ℕ) → e ≡ fault.Broken rule place → (k : Checkup) × Broken (snapshot_of k) k.plan rule place
 
 -- a plan was run of which this is said, and all was reported
-abbrev pub HasRun : (Came → Type 0) → (old new old_faults new_faults : Option (List ℕ)) → ℕ → Type 0
-HasRun Is old new old_faults new_faults status = (came : Came) × Is came × HasReported came old new old_faults new_faults status
+abbrev pub HasRun : Command → (Came → Type 0) → (old new old_faults new_faults : Option (List ℕ)) → ℕ → Type 0
+HasRun command Is old new old_faults new_faults status = (came : Came) × Is came × HasReported command came old new old_faults new_faults status
 
-abbrev pub RanQuietly : (Came → Type 0) → (old new old_faults new_faults : Option (List ℕ)) → Result ℕ PerformFault → Type 0
-RanQuietly Is old new old_faults new_faults (Ok status) = HasRun Is old new old_faults new_faults status
-RanQuietly Is old new old_faults new_faults (Err fault) = IsRight fault × (new ≡ old) × (new_faults ≡ old_faults)
+abbrev pub RanQuietly : Command → (Came → Type 0) → (old new old_faults new_faults : Option (List ℕ)) → Result ℕ PerformFault → Type 0
+RanQuietly command Is old new old_faults new_faults (Ok status) = HasRun command Is old new old_faults new_faults status
+RanQuietly command Is old new old_faults new_faults (Err fault) = IsRight fault × (new ≡ old) × (new_faults ≡ old_faults)
 
-abbrev pub Ran : (Came → Type 0) → (old new old_faults new_faults : Option (List ℕ)) → Result ℕ PerformFault → Type 0
-Ran Is old new old_faults new_faults (Ok status) = HasRun Is old new old_faults new_faults status
-Ran Is old new old_faults new_faults (Err fault) = IsRight fault × (new ≡ old) × BeginsNotices old_faults new_faults
+abbrev pub Ran : Command → (Came → Type 0) → (old new old_faults new_faults : Option (List ℕ)) → Result ℕ PerformFault → Type 0
+Ran command Is old new old_faults new_faults (Ok status) = HasRun command Is old new old_faults new_faults status
+Ran command Is old new old_faults new_faults (Err fault) = IsRight fault × (new ≡ old) × BeginsNotices command.explain old_faults new_faults
 
--- the path that a fault is told with
-abbrev pub told_path : PerformFault → Option Path
-told_path fault.Own = Some own_path
-told_path other = place_of other
+-- what is reported of a fault on standard error, as far as it could be written
+abbrev pub BeginsFault : Command → PerformFault → (old new : Option (List ℕ)) → Type 0
+BeginsFault command fault old new = AppendsFront old new (text (fault_lines command fault))
 
--- a fault's line on standard error, as far as it could be written
-abbrev pub BeginsFault : PerformFault → (old new : Option (List ℕ)) → Type 0
-BeginsFault fault old new = AppendsFront old new (text (fault_line (fault_number fault) (told_path fault) ∷ []))
-
--- the line that refuses a plan on standard output; or as much of it as could be written, and on standard error why no more
-abbrev pub RefusesPlan : PlanRule → ℕ → (old new old_faults new_faults : Option (List ℕ)) → Type 0
-RefusesPlan rule place old new old_faults new_faults =
-    (Appends old new (text (refusal rule place ∷ [])) × (new_faults ≡ old_faults))
-    ⊎ (AppendsFront old new (text (refusal rule place ∷ [])) × ((number : ℕ) × AppendsFront old_faults new_faults (text (fault_line number None ∷ []))))
+-- the line that refuses a plan on standard output, and what it means on standard error, where that is asked for; or as much of the line as
+-- could be written, and on standard error why no more
+abbrev pub RefusesPlan : Command → PerformFault → PlanRule → ℕ → (old new old_faults new_faults : Option (List ℕ)) → Type 0
+RefusesPlan command e rule place old new old_faults new_faults =
+    (Appends old new (text (refusal rule place ∷ [])) × BeginsLines old_faults new_faults (sentence_lines command e))
+    ⊎ (AppendsFront old new (text (refusal rule place ∷ [])) × ((why : PerformFault) × IsQuiet why × BeginsFault command why old_faults new_faults))
 
 -- a broken plan is told on standard output, all else on standard error
-pub record Refuses (e : PerformFault) (old new old_faults new_faults : Option (List ℕ)) : Type 0 where
-  pub broken : (rule : PlanRule) (place : ℕ) → e ≡ fault.Broken rule place → RefusesPlan rule place old new old_faults new_faults
-  pub other : IsQuiet e → (new ≡ old) × BeginsFault e old_faults new_faults
+pub record Refuses (command : Command) (e : PerformFault) (old new old_faults new_faults : Option (List ℕ)) : Type 0 where
+  pub broken : (rule : PlanRule) (place : ℕ) → e ≡ fault.Broken rule place → RefusesPlan command e rule place old new old_faults new_faults
+  pub other : IsQuiet e → (new ≡ old) × BeginsFault command e old_faults new_faults
 
 -- why nothing was done, which is right
-abbrev pub IsRefusal : (old new old_faults new_faults : Option (List ℕ)) → ℕ → Type 0
-IsRefusal old new old_faults new_faults status =
-    (status ≡ 3) × ((fault : PerformFault) × IsRight fault × Refuses fault old new old_faults new_faults)
+abbrev pub IsRefusal : Command → (old new old_faults new_faults : Option (List ℕ)) → ℕ → Type 0
+IsRefusal command old new old_faults new_faults status =
+    (status ≡ 3) × ((fault : PerformFault) × IsRight fault × Refuses command fault old new old_faults new_faults)
 
-abbrev pub AnswersRun : (Came → Type 0) → (old new old_faults new_faults : Option (List ℕ)) → ℕ → Type 0
-AnswersRun Is old new old_faults new_faults status =
-    HasRun Is old new old_faults new_faults status
-    ⊎ ((mid_faults : Option (List ℕ)) × BeginsNotices old_faults mid_faults × IsRefusal old new mid_faults new_faults status)
+abbrev pub AnswersRun : Command → (Came → Type 0) → (old new old_faults new_faults : Option (List ℕ)) → ℕ → Type 0
+AnswersRun command Is old new old_faults new_faults status =
+    HasRun command Is old new old_faults new_faults status
+    ⊎ ((mid_faults : Option (List ℕ)) × BeginsNotices command.explain old_faults mid_faults × IsRefusal command old new mid_faults new_faults status)
 
 -- what `plan` and `check` answer: a text with this said of it and of the status; or the status is 3, nothing or a beginning of such a text
 -- was written, and a fault was told on standard error
-abbrev pub AnswersOne : (List ℕ → ℕ → Type 0) → (old new old_faults new_faults : Option (List ℕ)) → ℕ → Type 0
-AnswersOne Says old new old_faults new_faults status =
+abbrev pub AnswersOne : Command → (List ℕ → ℕ → Type 0) → (old new old_faults new_faults : Option (List ℕ)) → ℕ → Type 0
+AnswersOne command Says old new old_faults new_faults status =
     (((written : List ℕ) × Says written status × Appends old new written) × (new_faults ≡ old_faults))
-    ⊎ ((status ≡ 3) × IsBegun Says old new × ((fault : PerformFault) × IsQuiet fault × BeginsFault fault old_faults new_faults))
+    ⊎ ((status ≡ 3) × IsBegun Says old new × ((fault : PerformFault) × IsQuiet fault × BeginsFault command fault old_faults new_faults))
+
+-- what `check` answers: the line of a valid plan; or a plan that isn't valid is refused; or there was a fault
+abbrev pub AnswersVerdict : Command → (Checkup → Type 0) → (old new old_faults new_faults : Option (List ℕ)) → ℕ → Type 0
+AnswersVerdict command Is old new old_faults new_faults status =
+    (IsValidAt Is × (status ≡ 0) × Appends old new valid_text × (new_faults ≡ old_faults))
+    ⊎ ((status ≡ 3)
+    × (((rule : PlanRule) × (place : ℕ) × IsBrokenAt Is rule place × RefusesPlan command (fault.Broken rule place) rule place old new old_faults new_faults)
+    ⊎ (IsValidBegun Is old new × ((e : PerformFault) × IsQuiet e × BeginsFault command e old_faults new_faults))))
 
 -- a plan is carried out
 abbrev pub IsRunOrSync : Job → Type 0

@@ -5,7 +5,8 @@
 --     IsUnchecked k fault            why a plan isn't taken: memory ran out, or it breaks this rule first, and here
 --     IsPrintout k written status    the text of a plan that `resume` makes, with status 0
 --     IsPrintoutOf s written status  the same of some plan for this snapshot
---     IsVerdict k written status     `valid` with status 0 of a valid plan; of another the line that refuses it, with status 3
+--     IsCheckupAt .. pair name k     the plan that was read from this file, with the archive, the prints and the rules of a pair
+--     Judges Is old new result       a plan of which `Is` is said is valid, and its line was written; or it breaks a rule, or there was a fault
 --     Prints Says old new result     a text with this said of it and of the status was written; or there was a fault, and nothing or a beginning of one was
 --     PrintsAlone Says ..            the same, and nothing was written to standard error
 use Rattle.std.specs.Prelude.{◌≡◌, ◌⊎◌, ℕ, List, [], ◌∷◌, Option, Result, Ok, Err, codes}
@@ -16,17 +17,16 @@ use Rattle.ts_model.specs.Texts.{IsPlan, IsPlanText, plan_lines, text}
 use Rattle.ts_model.specs.declared.plan.Plan.{Plan}
 use Rattle.ts_model.specs.declared.plan.PlanRule.{PlanRule}
 use Rattle.ts_check.specs.Checkup.{Checkup, snapshot_of}
-use Rattle.ts_check.specs.Verdict.{IsSafe}
 use Rattle.ts_plan_build.specs.Planned.{IsPastLimit}
 use Rattle.ts_plan_build.specs.Resumed.{EndsAsBegun, IsTooMuch}
 use Rattle.ts_command.specs.declared.job.Pair.{Pair}
 use Rattle.ts_model.specs.Trees.{Listing}
-use Rattle.ts_trial.specs.Answers.{refusal}
-use Rattle.ts_perform.specs.Inputs.{Finds, IsReadAt, IsReadFor}
-use Rattle.ts_perform.specs.Stands.{AreScans}
+use Rattle.ts_perform.specs.Inputs.{Finds, IsReadAt, IsSeenFor}
+use Rattle.ts_perform.specs.Specials.{FindsSpecial}
+use Rattle.ts_perform.specs.Stands.{IsAt}
 use Rattle.ts_perform.specs.Trials.{IsQuiet}
-use Rattle.ts_perform.specs.declared.fault.PerformFault.{PerformFault}
-use Rattle.ts_perform.specs.declared.fault.PerformFault.TheVariants as fault
+use Rattle.ts_explain.specs.declared.fault.PerformFault.{PerformFault}
+use Rattle.ts_explain.specs.declared.fault.PerformFault.TheVariants as fault
 use Rattle.ts_perform.specs.declared.snapshot.Snapshot.{Snapshot}
 
 abbrev pub checkup_of : Snapshot → Plan → Checkup
@@ -39,7 +39,7 @@ pub record IsPlanned (k : Checkup) : Type 0 where
   pub within : ¬ IsPastLimit k.first k.second k.plan.entries
 
 abbrev pub IsUnplanned : Snapshot → PerformFault → Type 0
-IsUnplanned s e = (e ≡ fault.OutOfMemory) ⊎ ((e ≡ fault.PastLimit) × IsTooMuch s.archive s.first s.second s.holds)
+IsUnplanned s e = (e ≡ fault.OutOfMemory) ⊎ ((e ≡ fault.TooMuch) × IsTooMuch s.archive s.first s.second s.holds)
 
 abbrev pub IsUnchecked : Checkup → PerformFault → Type 0
 IsUnchecked k e = (e ≡ fault.OutOfMemory) ⊎ ((rule : PlanRule) × (place : ℕ) × (e ≡ fault.Broken rule place) × Broken (snapshot_of k) k.plan rule place)
@@ -50,23 +50,44 @@ IsPrintout k written status = IsPlanned k × (written ≡ text (plan_lines k.pla
 abbrev pub IsPrintoutOf : Snapshot → List ℕ → ℕ → Type 0
 IsPrintoutOf s written status = (plan : Plan) × IsPrintout (checkup_of s plan) written status
 
--- the line of a valid plan, or of one that breaks this rule first, and here
-abbrev pub IsVerdict : Checkup → List ℕ → ℕ → Type 0
-IsVerdict k written status =
-    (Valid (snapshot_of k) k.plan × (written ≡ text (codes "valid" ∷ [])) × (status ≡ 0))
-    ⊎ ((rule : PlanRule) × (place : ℕ) × Broken (snapshot_of k) k.plan rule place × (written ≡ text (refusal rule place ∷ [])) × (status ≡ 3))
-
 -- the same of scans of a pair's replicas, and of the archive and the rules that were read for it
-abbrev pub IsPrintoutAt : {F : Type 0} → (F → List ℕ → Type 0) → (F → Option (Listing (List ℕ))) → Finds → Pair → List ℕ → ℕ → Type 0
-IsPrintoutAt is_at tells finds pair written status =
-    (k : Checkup) × AreScans is_at tells pair.first.now pair.second.now k.first k.second × IsReadFor finds pair k.archive k.rules
+abbrev pub IsPrintoutAt : {F : Type 0} → IsAt F → (F → Option (Listing (List ℕ))) → Finds → FindsSpecial → Pair → List ℕ → ℕ → Type 0
+IsPrintoutAt is_at tells finds finds_special pair written status =
+    (k : Checkup) × IsSeenFor is_at tells finds finds_special pair k.archive k.rules k.first k.second
     × IsPrintout k written status
 
--- and of the plan that was read from the file of this name
-abbrev pub IsVerdictAt : {F : Type 0} → (F → List ℕ → Type 0) → (F → Option (Listing (List ℕ))) → Finds → Pair → (name written : List ℕ) → ℕ → Type 0
-IsVerdictAt is_at tells finds pair name written status =
-    (k : Checkup) × AreScans is_at tells pair.first.now pair.second.now k.first k.second × IsReadFor finds pair k.archive k.rules
-    × IsReadAt finds IsPlanText name k.plan × IsVerdict k written status
+-- scans of a pair's replicas, the archive and the rules that were read for it, and the plan that was read from the file of this name
+pub record IsCheckupAt {F : Type 0} (is_at : IsAt F) (tells : F → Option (Listing (List ℕ))) (finds : Finds) (finds_special : FindsSpecial) (pair : Pair)
+    (name : List ℕ) (k : Checkup) : Type 0 where
+  pub seen : IsSeenFor is_at tells finds finds_special pair k.archive k.rules k.first k.second
+  pub plan : IsReadAt finds IsPlanText name k.plan
+
+abbrev pub valid_text : List ℕ
+valid_text = text (codes "valid" ∷ [])
+
+-- a plan of which this is said is valid
+abbrev pub IsValidAt : (Checkup → Type 0) → Type 0
+IsValidAt Is = (k : Checkup) × Is k × Valid (snapshot_of k) k.plan
+
+-- or it breaks this rule first, and here
+abbrev pub IsBrokenAt : (Checkup → Type 0) → PlanRule → ℕ → Type 0
+IsBrokenAt Is rule place = (k : Checkup) × Is k × Broken (snapshot_of k) k.plan rule place
+
+-- nothing was written, or a beginning of the line of a valid plan
+abbrev pub IsValidBegun : (Checkup → Type 0) → (old new : Option (List ℕ)) → Type 0
+IsValidBegun Is old new = (new ≡ old) ⊎ (IsValidAt Is × AppendsFront old new valid_text)
+
+pub record IsUnjudged (Is : Checkup → Type 0) (old new : Option (List ℕ)) (e : PerformFault) : Type 0 where
+  pub broken : (rule : PlanRule) (place : ℕ) → e ≡ fault.Broken rule place → IsBrokenAt Is rule place × (new ≡ old)
+  pub other : IsQuiet e → IsValidBegun Is old new
+
+abbrev pub Judges : (Checkup → Type 0) → (old new : Option (List ℕ)) → Result ℕ PerformFault → Type 0
+Judges Is old new (Ok status) = IsValidAt Is × (status ≡ 0) × Appends old new valid_text
+Judges Is old new (Err e) = IsUnjudged Is old new e
+
+-- and nothing was written to standard error
+abbrev pub JudgesAlone : (Checkup → Type 0) → (old new old_faults new_faults : Option (List ℕ)) → Result ℕ PerformFault → Type 0
+JudgesAlone Is old new old_faults new_faults result = Judges Is old new result × (new_faults ≡ old_faults)
 
 -- nothing was written, or a beginning of a text with this said of it and of some status
 abbrev pub IsBegun : (List ℕ → ℕ → Type 0) → Option (List ℕ) → Option (List ℕ) → Type 0

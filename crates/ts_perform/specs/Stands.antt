@@ -3,8 +3,8 @@
 --     stand_of first second e     where the commit of an entry is made: in the replica that it is copied to. An entry that isn't copied has no commit
 --     stands_of first second      where the commits of a plan are made, in the order of its actions
 --     AreAtStands stand first second plan sites   the sites' commits are made where those of the plan are, one after another
---     IsScanOf is_at tells root print   the print was made of a folder that was asked for by this root
---     AreScans is_at tells first second .. ..   the two prints were, each of its own root
+--     IsScanOf is_at tells root special print   the print was made of a folder that was asked for by this root, with stand-ins at these paths
+--     AreScans is_at tells pair special ..      the two prints were, each of its own root, with its own stand-ins
 --     IsRunOf                     results, words and slots are those of one run, whose commits were made where they stand
 use Rattle.std.specs.Prelude.{◌≡◌, ℕ, List, [], ◌∷◌, Option, Some, None, IfSome, map, slice_get}
 use Rattle.ts_name.specs.Paths.{Path}
@@ -14,6 +14,8 @@ use Rattle.ts_check.specs.Checkup.{Checkup}
 use Rattle.ts_exec.specs.Failures.{of_side, setting_with}
 use Rattle.ts_exec.specs.Outcomes.{IsOutcome}
 use Rattle.ts_exec.specs.declared.outcome.ActionResult.{ActionResult}
+use Rattle.ts_command.specs.declared.job.Pair.{Pair}
+use Rattle.ts_perform.specs.declared.special.SpecialPaths.{SpecialPaths}
 use Rattle.ts_folder.specs.declared.fault.Trouble.{Trouble}
 use Rattle.ts_folder.specs.declared.folder.Call.{Call}
 use Rattle.ts_model.specs.Plans.{other, source}
@@ -66,25 +68,29 @@ stands_of first second entries (action ∷ actions) = elim action.kind [
 abbrev pub AreAtStands : {S : Type 0} → (S → Stand) → (first second : List ℕ) → Plan → List S → Type 0
 AreAtStands stand first second plan sites = map (λ s. Some (stand s)) sites ≡ stands_of first second plan.entries plan.actions
 
+-- a folder was asked for by a root, with stand-ins at these paths
+abbrev pub IsAt : Type 0 → Type 1
+IsAt F = F → List ℕ → List Path → Type 0
+
 -- it is the print of the tree which that folder tells, if it tells one
-abbrev pub IsScanOf : {F : Type 0} → (F → List ℕ → Type 0) → (F → Option (Listing (List ℕ))) → List ℕ → Listing Stamp → Type 0
-IsScanOf {F} is_at tells root print = (folder : F) × is_at folder root × IfSome (tells folder) (λ tree. at print ≡ print_of (at tree))
+abbrev pub IsScanOf : {F : Type 0} → IsAt F → (F → Option (Listing (List ℕ))) → List ℕ → List Path → Listing Stamp → Type 0
+IsScanOf {F} is_at tells root special print = (folder : F) × is_at folder root special × IfSome (tells folder) (λ tree. at print ≡ print_of (at tree))
 
-pub record AreScans {F : Type 0} (is_at : F → List ℕ → Type 0) (tells : F → Option (Listing (List ℕ))) (first second : List ℕ)
-    (first_print second_print : Listing Stamp) : Type 0 where
-  pub of_first : IsScanOf is_at tells first first_print
-  pub of_second : IsScanOf is_at tells second second_print
+pub record AreScans {F : Type 0} (is_at : IsAt F) (tells : F → Option (Listing (List ℕ))) (pair : Pair) (special : SpecialPaths)
+    (first second : Listing Stamp) : Type 0 where
+  pub of_first : IsScanOf is_at tells pair.first.now special.first first
+  pub of_second : IsScanOf is_at tells pair.second.now special.second second
 
--- the sites with which the run began, each at its stand, and the folders that it read, each at its root
-pub record IsRunOf {S F : Type 0} (stand : S → Stand) (content : S → Option (Listing (List ℕ))) (failures : S → ℕ) (is_at : F → List ℕ → Type 0)
+-- the sites with which the run began, each at its stand, and the folders that it read, each at its root and without stand-ins
+pub record IsRunOf {S F : Type 0} (stand : S → Stand) (content : S → Option (Listing (List ℕ))) (failures : S → ℕ) (is_at : IsAt F)
     (tells : F → Option (Listing (List ℕ))) (lets : F → Call → Path → Trouble → Type 0) (first second : List ℕ) (checkup : Checkup)
     (results : List ActionResult) (words : List ℕ) (slots : List (Slot S)) : Type 0 where
   pub sites : List S
   pub stands : AreAtStands stand first second checkup.plan sites
   pub from_first : F
   pub from_second : F
-  pub at_first : is_at from_first first
-  pub at_second : is_at from_second second
+  pub at_first : is_at from_first first []
+  pub at_second : is_at from_second second []
   pub outcome :
       let t = terms_with content checkup.plan checkup.first checkup.second (placed checkup.plan.actions sites) in
       IsOutcome content (setting_with failures tells lets checkup from_first from_second t.told) t results words slots

@@ -6,8 +6,8 @@ use Rattle.std.specs.Io.KnownBytes.{Appends}
 use Rattle.ts_text.specs.Sources.{AppendsFront}
 use Rattle.ts_model.specs.Trial.{HasContentsApart}
 use Rattle.ts_model.specs.declared.plan.PlanRule.{PlanRule}
-use Rattle.ts_perform.specs.declared.fault.PerformFault.{PerformFault}
-use Rattle.ts_perform.specs.declared.fault.PerformFault.TheVariants as fault
+use Rattle.ts_explain.specs.declared.fault.PerformFault.{PerformFault}
+use Rattle.ts_explain.specs.declared.fault.PerformFault.TheVariants as fault
 
 -- of the bytes that the input tells, where their contents are apart
 abbrev pub IfApart : Option (List ℕ) → (List ℕ → Type 0) → Type 0

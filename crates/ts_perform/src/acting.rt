@@ -12,16 +12,17 @@ ghost use Rattle.ts_perform.specs.Stands.{AreAtStands, IsRunOf, source_root, tar
 ghost use Rattle.ts_perform.specs.Trials.{IsQuiet};
 
 use crate::disk::{Disk, Machine};
-use crate::fault::PerformFault;
+use crate::fault::{PerformFault, Subject, of_disk, replica_on};
 use crate::room::{largest_commit, workers_with_room};
 use crate::task::Task;
 use std::alloc::Global;
 use ts_check::Checked;
 use ts_command::Pair;
 use ts_disk::Replica;
-use ts_exec::{ActionResult, OpenGate, Outcome, run};
+use ts_exec::{ActionResult, OpenGate, Outcome, RunFault, run};
 use ts_model::plan::{Action, Entry, Kind, Plan, Reason, Side};
 use ts_name::Path;
+use ts_special::Specials;
 
 /// Carries out a checked plan by the task's workers, or by fewer where commits are large. The outcome is that of commits each of
 /// which is made in the replica that its entry is copied to.
@@ -36,17 +37,22 @@ pub(crate) fn act<R: Machine>(
         task.now.pair.now.first.now task.now.pair.now.second.now checked.now o.results.items (words_of o.closed) (slots_of o.closed)) }
     ensures quiet { IfErr result IsQuiet }
 {
-    let Task { rt, pair, workers } = task;
+    let Task {
+        rt,
+        pair,
+        workers,
+        ..
+    } = task;
     let alloc = rt.alloc();
     let workers = workers_with_room(largest_commit(checked), *workers);
     let sites = sites(*rt, *pair, checked)?;
-    let first = rt.folder(alloc, pair.first)?;
-    let second = rt.folder(alloc, pair.second)?;
+    let first = rt.folder(alloc, pair.first, Specials::none(alloc))?;
+    let second = rt.folder(alloc, pair.second, Specials::none(alloc))?;
     match run(
         *rt, alloc, &*checked, &first, &second, sites, workers, &OpenGate,
     ) {
         Ok(outcome) => Ok(outcome),
-        Err((_sites, fault)) => Err(PerformFault::from(fault)),
+        Err((_sites, RunFault::OutOfMemory)) => Err(PerformFault::OutOfMemory),
     }
 }
 
@@ -108,17 +114,24 @@ pub(crate) fn keep_archive<R: Machine>(
     ensures kept { OnOk result (HasKept R.has checked.now (words_of outcome.now.closed) place.new) }
     ensures named { (name : List ℕ) → R.is_named place.old name → R.is_named place.new name }
 {
-    let Task { rt, pair, workers } = task;
+    let Task {
+        rt,
+        pair,
+        workers,
+        ..
+    } = task;
     let alloc = rt.alloc();
     for side in [Side::First, Side::Second] {
         let root = replica(*pair, side).root;
         let paths = paths_put(alloc, checked.plan(), outcome.results(), side)?;
-        rt.flush_above(*rt, alloc, root, paths.as_slice(), *workers)?;
+        rt.flush_above(*rt, alloc, root, paths.as_slice(), *workers)
+            .map_err(|fault| of_disk(fault, replica_on(side)))?;
     }
     let Ok(archive) = outcome.archive(alloc, checked) else {
         return Err(PerformFault::OutOfMemory);
     };
     rt.write_archive(alloc, place, &archive)
+        .map_err(|fault| of_disk(fault, Subject::Archive))
 }
 
 /// The paths of the entries that were put in place in a replica.

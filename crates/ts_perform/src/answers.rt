@@ -1,18 +1,28 @@
 //! The lines that report faults and verdicts.
-ghost use Rattle.std.specs.Prelude.{◌≡◌, ◌∷◌, ◌++◌, [], codes, decimal, IfErr, OnOk};
+ghost use Rattle.std.specs.Prelude.{◌≡◌, ◌∷◌, ◌++◌, [], IfErr, OnOk};
 ghost use Rattle.std.specs.Option.{option_copied};
+ghost use Rattle.ts_exec.specs.Faults.{fault_number as act_number};
+ghost use Rattle.ts_explain.specs.Faults.{fault_line};
+ghost use Rattle.ts_explain.specs.Lines.{with_sentence};
 ghost use Rattle.ts_model.specs.Texts.{text};
-ghost use Rattle.ts_name.specs.Paths.{path_text};
-ghost use Rattle.ts_perform.specs.Faults.{fault_line, fault_line_at, kept_line, mount_line};
+ghost use Rattle.ts_perform.specs.Faults.{kept_line, mount_line};
+ghost use Rattle.ts_perform.specs.Runs.{notice_line};
+ghost use Rattle.ts_perform.specs.Failures.{act_text, failure_text, notice_text};
 ghost use Rattle.ts_perform.specs.Trials.{IsQuiet};
 ghost use Rattle.ts_text.specs.Sources.{Writes};
 ghost use Rattle.ts_trial.specs.Answers.{refusal};
 
-use crate::fault::PerformFault;
+use crate::fault::{PerformFault, on_output};
 use std::alloc::{AllocError, Global};
+use ts_disk::Notice;
+use ts_exec::ActFault;
+use ts_explain::{Piece, push_fault, push_pieces, write_explained};
 use ts_model::plan::PlanRule;
 use ts_name::Path;
-use ts_text::{Sink, push_decimal, write_line};
+use ts_text::{Sink, TextFault, push_decimal, write_line};
+
+/// The number by which a failing device is told.
+const DEVICE: u8 = 8;
 
 /// Tells which rule a plan breaks first, and where.
 pub(crate) fn write_refusal<W: Sink>(
@@ -26,8 +36,7 @@ pub(crate) fn write_refusal<W: Sink>(
 {
     let mut line = Vec::new(alloc);
     push_refusal(rule, place, &mut line)?;
-    write_line(out, &line)?;
-    Ok(())
+    write_line(out, &line).map_err(on_output)
 }
 
 /// Appends the line that refuses a plan.
@@ -40,74 +49,117 @@ fn push_refusal(rule: PlanRule, place: u64, line: &mut Vec<u8>) -> Result<(), Al
     push_decimal(line, place)
 }
 
-/// Tells a fault by its number and, where it has a path other than the root, by that path.
-pub(crate) fn write_fault<W: Sink>(
+/// Reports the fault of an action, and what it means before that where it is asked for.
+pub(crate) fn write_failure<W: Sink>(
     alloc: Global,
-    number: u8,
+    explain: bool,
+    fault: ActFault,
     path: Option<&Path>,
     err: &mut W,
-) -> Result<(), PerformFault>
-    ensures { Writes (W.holds err.old) (W.holds err.new) (text (fault_line number (option_copied path.entry) ∷ [])) result }
+) -> Result<(), TextFault>
+    ensures { Writes (W.holds err.old) (W.holds err.new)
+        (text (with_sentence explain (failure_text fault (option_copied path.entry)) (fault_line (act_number fault) (option_copied path.entry)))) result }
 {
+    let mut sentence = Vec::new(alloc);
+    if explain {
+        push_failure(alloc, fault, path, &mut sentence)?;
+    }
     let mut line = Vec::new(alloc);
-    push_fault(number, path, &mut line)?;
-    write_line(err, &line)?;
-    Ok(())
+    push_fault(fault.number(), path, &mut line)?;
+    write_explained(explain, &sentence, &line, err)
 }
 
-/// Tells a fault by its number and a place that is no path of an entry.
-pub(crate) fn write_fault_at<W: Sink>(
+/// Appends what the fault of an action means.
+fn push_failure(
     alloc: Global,
-    number: u8,
-    place: &str,
-    err: &mut W,
-) -> Result<(), PerformFault>
-    ensures { Writes (W.holds err.old) (W.holds err.new) (text (fault_line_at number place.now ∷ [])) result }
+    fault: ActFault,
+    path: Option<&Path>,
+    line: &mut Vec<u8>,
+) -> Result<(), AllocError>
+    ensures { OnOk result (line.new.items ≡ line.old.items ++ failure_text fault (option_copied path.entry)) }
 {
-    let mut line = Vec::new(alloc);
-    push_fault_at(number, place, &mut line)?;
-    write_line(err, &line)?;
-    Ok(())
+    match path {
+        Some(path) => {
+            let pieces = [Piece::Below(path), Piece::Words(act_text(fault))];
+            push_pieces(alloc, &pieces, line)
+        }
+        None => push_pieces(alloc, &[Piece::Words(act_text(fault))], line),
+    }
 }
 
-/// Appends that line.
-fn push_fault_at(number: u8, place: &str, line: &mut Vec<u8>) -> Result<(), AllocError>
-    ensures { OnOk result (line.new.items ≡ line.old.items ++ fault_line_at number place.now) }
+/// What the fault of an action means. It comes after the path.
+fn act_text(fault: ActFault) -> &'static [u8]
+    ensures { result.now ≡ act_text fault }
 {
-    line.extend_from_slice(b"twosync: fault ")?;
-    push_decimal(line, u64::from(number))?;
-    line.push(b' ')?;
-    line.extend_from_slice(place.as_bytes())?;
-    Ok(())
+    match fault {
+        ActFault::OutOfMemory => b" isn't synchronized: memory ran out.",
+        ActFault::Device => {
+            b" isn't synchronized: the device failed, or nothing can be written there."
+        }
+        ActFault::NotThere => { b" isn't synchronized: it went away meanwhile. Run `sync` again." }
+        ActFault::Unreadable => b" isn't synchronized: it can't be read.",
+        ActFault::Changed => {
+            b" isn't synchronized: what it would replace has changed meanwhile. Run `sync` again."
+        }
+        ActFault::Misfit => {
+            b" isn't synchronized: it changed while it was read. Run `sync` again."
+        }
+    }
 }
 
-/// Reports what was kept of an entry, and where.
-pub(crate) fn write_kept<W: Sink>(
+/// Reports a notice: a fault of the device where what a swap left can't be removed, the place of what was kept, and a mount. What
+/// it means comes before that where it is asked for.
+pub(crate) fn write_notice<W: Sink>(
     alloc: Global,
-    path: &Path,
-    place: &str,
+    explain: bool,
+    notice: &Notice,
     err: &mut W,
-) -> Result<(), PerformFault>
-    ensures { Writes (W.holds err.old) (W.holds err.new) (text (kept_line path.now place.now ∷ [])) result }
+) -> Result<(), TextFault>
+    ensures { Writes (W.holds err.old) (W.holds err.new) (text (with_sentence explain (notice_text notice.now) (notice_line notice.now))) result }
 {
+    let mut sentence = Vec::new(alloc);
+    if explain {
+        push_notice_text(alloc, notice, &mut sentence)?;
+    }
     let mut line = Vec::new(alloc);
-    push_kept(path, place, &mut line)?;
-    write_line(err, &line)?;
-    Ok(())
+    push_notice(notice, &mut line)?;
+    write_explained(explain, &sentence, &line, err)
 }
 
-/// Reports that another file system is mounted at a path of a replica.
-pub(crate) fn write_mount<W: Sink>(
-    alloc: Global,
-    path: &Path,
-    err: &mut W,
-) -> Result<(), PerformFault>
-    ensures { Writes (W.holds err.old) (W.holds err.new) (text (mount_line path.now ∷ [])) result }
+/// Appends the line that reports a notice.
+fn push_notice(notice: &Notice, line: &mut Vec<u8>) -> Result<(), AllocError>
+    ensures { OnOk result (line.new.items ≡ line.old.items ++ notice_line notice.now) }
 {
-    let mut line = Vec::new(alloc);
-    push_mount(path, &mut line)?;
-    write_line(err, &line)?;
-    Ok(())
+    match notice {
+        Notice::Discarded { path } => push_fault(DEVICE, Some(path), line),
+        Notice::Kept { path, place } => push_kept(path, place.as_str(), line),
+        Notice::Mounted { path } => push_mount(path, line),
+    }
+}
+
+/// Appends what a notice means.
+fn push_notice_text(alloc: Global, notice: &Notice, line: &mut Vec<u8>) -> Result<(), AllocError>
+    ensures { OnOk result (line.new.items ≡ line.old.items ++ notice_text notice.now) }
+{
+    match notice {
+        Notice::Discarded { path } => {
+            let end = b": what it replaced can't be removed. Later runs try again.";
+            push_pieces(alloc, &[Piece::Below(path), Piece::Words(end)], line)
+        }
+        Notice::Kept { path, place } => {
+            let pieces = [
+                Piece::Below(path),
+                Piece::Words(b": what stood there can't go back, and is kept as "),
+                Piece::Name(place.as_str()),
+                Piece::Words(b"."),
+            ];
+            push_pieces(alloc, &pieces, line)
+        }
+        Notice::Mounted { path } => {
+            let end = b" is another file system: nothing can be put in place there.";
+            push_pieces(alloc, &[Piece::Below(path), Piece::Words(end)], line)
+        }
+    }
 }
 
 /// Appends the line that reports a mount.
@@ -126,21 +178,5 @@ fn push_kept(path: &Path, place: &str, line: &mut Vec<u8>) -> Result<(), AllocEr
     path.write_text(line)?;
     line.extend_from_slice(b" as ")?;
     line.extend_from_slice(place.as_bytes())?;
-    Ok(())
-}
-
-/// Appends the line that tells a fault.
-fn push_fault(number: u8, path: Option<&Path>, line: &mut Vec<u8>) -> Result<(), AllocError>
-    ensures { OnOk result (line.new.items ≡ line.old.items ++ fault_line number (option_copied path.entry)) }
-{
-    line.extend_from_slice(b"twosync: fault ")?;
-    push_decimal(line, u64::from(number))?;
-    let Some(path) = path else {
-        return Ok(());
-    };
-    if !path.is_root() {
-        line.push(b' ')?;
-        path.write_text(line)?;
-    }
     Ok(())
 }

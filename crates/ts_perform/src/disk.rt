@@ -6,17 +6,19 @@ ghost use Rattle.ts_perform.specs.Stands.{Stand};
 ghost use Rattle.ts_perform.specs.Trials.{IsQuiet};
 ghost use denote.Param.Send.{IsSync};
 
-use crate::fault::PerformFault;
+use crate::fault::{OpenFault, PerformFault};
 use std::alloc::Global;
 use std::fs;
 use std::fs::{File, Files};
 use std::io::{ErrorKind, Read};
 use std::thread::Threads;
-use ts_disk::{ArchivePlace, DiskSite, Lock, claim_archive, flush_above, take_lock};
-use ts_folder::{DiskFolder, Folder};
+use ts_disk::{ArchivePlace, DiskFault, DiskSite, Lock, claim_archive, flush_above, take_lock};
+use ts_folder::Folder;
 use ts_name::Path;
 use ts_print::Print;
+use ts_scan::ScanFault;
 use ts_site::Site;
+use ts_special::{HoldingFolder, Specials, search};
 
 /// Folders by their names, the places of commits in them, their locks, and the places of archives.
 pub trait Disk {
@@ -35,8 +37,11 @@ pub trait Disk {
     // Where a site's commit is made.
     ghost stand: { Self.Site → Stand };
 
-    // The folder was asked for by this root.
-    ghost is_at: { Self.Folder → List ℕ → Type 0 };
+    // The folder was asked for by this root, with stand-ins at these paths.
+    ghost is_at: { Self.Folder → List ℕ → List (List (List ℕ)) → Type 0 };
+
+    // These paths were found below this root to be such that they can't be synchronized.
+    ghost finds_special: { List ℕ → List (List (List ℕ)) → Type 0 };
 
     // The place's archive was claimed by this name.
     ghost is_named: { Self.Archive → List ℕ → Type 0 };
@@ -58,13 +63,21 @@ pub trait Disk {
 
     /// Opens a file to be read. None where nothing is there. A directory, a device or a pipe is never opened: it might be waited
     /// for.
-    fn open(&self, name: &str) -> Result<Option<Self::Opened>, PerformFault>
-        ensures found { IfOk result (λ found. finds name.now (option_map Self.Opened.remaining found)) }
-        ensures quiet { IfErr result IsQuiet };
+    fn open(&self, name: &str) -> Result<Option<Self::Opened>, OpenFault>
+        ensures found { IfOk result (λ found. finds name.now (option_map Self.Opened.remaining found)) };
 
-    /// The folder at a directory. Nothing is looked at yet.
-    fn folder(&self, alloc: Global, root: &str) -> Result<Self::Folder, PerformFault>
-        ensures at { IfOk result (λ folder. is_at folder root.now) }
+    /// The paths below a root that can't be synchronized.
+    fn specials(&self, alloc: Global, root: &str) -> Result<Specials, ScanFault>
+        ensures found { IfOk result (finds_special root.now) };
+
+    /// The folder at a directory, with a stand-in at each of these paths. Nothing is looked at yet.
+    fn folder(
+        &self,
+        alloc: Global,
+        root: &str,
+        specials: Specials,
+    ) -> Result<Self::Folder, PerformFault>
+        ensures at { IfOk result (λ folder. is_at folder root.now specials) }
         ensures quiet { IfErr result IsQuiet };
 
     /// The place in a replica of the commit of the entry of this number and path, which is copied from the replica `source`.
@@ -81,9 +94,8 @@ pub trait Disk {
         ensures quiet { IfErr result IsQuiet };
 
     /// Locks a replica until what is answered is dropped. There is no lock where no directory is.
-    fn lock(&self, alloc: Global, root: &str) -> Result<Option<Self::Lock>, PerformFault>
-        ensures locked { IfOk result (λ lock. is_locked lock root.now) }
-        ensures quiet { IfErr result IsQuiet };
+    fn lock(&self, alloc: Global, root: &str) -> Result<Option<Self::Lock>, DiskFault>
+        ensures locked { IfOk result (λ lock. is_locked lock root.now) };
 
     /// Whether the replica took part in a run before it was locked.
     fn took_part(&self, lock: &Self::Lock) -> bool
@@ -97,8 +109,7 @@ pub trait Disk {
     fn is_in_place(&self, lock: &Self::Lock) -> bool;
 
     /// Notes that a replica takes part in this run.
-    fn take_part(&self, lock: &Self::Lock) -> Result<(), PerformFault>
-        ensures { IfErr result IsQuiet };
+    fn take_part(&self, lock: &Self::Lock) -> Result<(), DiskFault>;
 
     /// Gives a lock up, and removes its file from the replica, where that can be done.
     fn unlock(&self, lock: Self::Lock);
@@ -107,9 +118,8 @@ pub trait Disk {
     fn withdraw(&self, lock: Self::Lock);
 
     /// Takes the place of an archive, so that no other run writes it.
-    fn claim(&self, alloc: Global, name: &str) -> Result<Self::Archive, PerformFault>
-        ensures named { IfOk result (λ place. is_named place name.now) }
-        ensures quiet { IfErr result IsQuiet };
+    fn claim(&self, alloc: Global, name: &str) -> Result<Self::Archive, DiskFault>
+        ensures named { IfOk result (λ place. is_named place name.now) };
 
     /// Writes an archive in its place, and waits until it has reached the device.
     fn write_archive(
@@ -117,7 +127,7 @@ pub trait Disk {
         alloc: Global,
         place: &mut Self::Archive,
         archive: &Print,
-    ) -> Result<(), PerformFault>
+    ) -> Result<(), DiskFault>
         ensures written { OnOk result (has place.new archive.now) }
         ensures named { (name : List ℕ) → is_named place.old name → is_named place.new name };
 
@@ -132,7 +142,7 @@ pub trait Disk {
         root: &str,
         paths: &[&Path],
         workers: u32,
-    ) -> Result<(), PerformFault>
+    ) -> Result<(), DiskFault>
         requires { IsSync T.row };
 }
 
@@ -142,12 +152,14 @@ pub trait Machine: Disk + Files + AllocGlobal + Threads + Clone + Drop + Sync {}
 impl<R: Disk + Files + AllocGlobal + Threads + Clone + Drop + Sync> Machine for R {}
 
 impl Disk for HostRuntime {
-    ghost use Rattle.std.specs.Prelude.{⊤};
+    ghost use Rattle.std.specs.Prelude.{◌≡◌, ⊤};
     ghost use Rattle.std.specs.String.{string_bytes};
 
     ghost stand = { λ site. record { root = string_bytes site.root; source = string_bytes site.source; path = site.path } };
 
-    ghost is_at = { λ _ _. ⊤ };
+    ghost is_at = { λ folder _ specials. folder.specials ≡ specials };
+
+    ghost finds_special = { λ _ _. ⊤ };
 
     ghost is_named = { λ _ _. ⊤ };
 
@@ -161,9 +173,9 @@ impl Disk for HostRuntime {
 
     ghost finds = { λ _ _. ⊤ };
 
-    type File = File;
+    type File = Option<File>;
 
-    type Folder = DiskFolder<HostRuntime>;
+    type Folder = HoldingFolder<HostRuntime>;
 
     type Site = DiskSite<HostRuntime>;
 
@@ -173,12 +185,21 @@ impl Disk for HostRuntime {
 
     type Opened = File;
 
-    fn open(&self, name: &str) -> Result<Option<File>, PerformFault> {
+    fn open(&self, name: &str) -> Result<Option<File>, OpenFault> {
         open_to_read(self, name)
     }
 
-    fn folder(&self, alloc: Global, root: &str) -> Result<DiskFolder<HostRuntime>, PerformFault> {
-        match DiskFolder::new(alloc, self.clone()?, root) {
+    fn specials(&self, alloc: Global, root: &str) -> Result<Specials, ScanFault> {
+        search(alloc, self, root)
+    }
+
+    fn folder(
+        &self,
+        alloc: Global,
+        root: &str,
+        specials: Specials,
+    ) -> Result<HoldingFolder<HostRuntime>, PerformFault> {
+        match HoldingFolder::new(alloc, self.clone()?, root, specials) {
             Ok(folder) => Ok(folder),
             Err(_) => Err(PerformFault::OutOfMemory),
         }
@@ -192,11 +213,14 @@ impl Disk for HostRuntime {
         path: &Path,
         entry: u32,
     ) -> Result<DiskSite<HostRuntime>, PerformFault> {
-        Ok(DiskSite::new(alloc, self.clone()?, root, source, path, entry)?)
+        match DiskSite::new(alloc, self.clone()?, root, source, path, entry) {
+            Ok(site) => Ok(site),
+            Err(_) => Err(PerformFault::OutOfMemory),
+        }
     }
 
-    fn lock(&self, alloc: Global, root: &str) -> Result<Option<Lock>, PerformFault> {
-        Ok(take_lock(self, alloc, root)?)
+    fn lock(&self, alloc: Global, root: &str) -> Result<Option<Lock>, DiskFault> {
+        take_lock(self, alloc, root)
     }
 
     fn took_part(&self, lock: &Lock) -> bool {
@@ -211,8 +235,8 @@ impl Disk for HostRuntime {
         lock.is_in_place(self)
     }
 
-    fn take_part(&self, lock: &Lock) -> Result<(), PerformFault> {
-        Ok(lock.take_part(self)?)
+    fn take_part(&self, lock: &Lock) -> Result<(), DiskFault> {
+        lock.take_part(self)
     }
 
     fn unlock(&self, lock: Lock) {
@@ -223,8 +247,8 @@ impl Disk for HostRuntime {
         lock.withdraw(self);
     }
 
-    fn claim(&self, alloc: Global, name: &str) -> Result<ArchivePlace, PerformFault> {
-        Ok(claim_archive(self, alloc, name)?)
+    fn claim(&self, alloc: Global, name: &str) -> Result<ArchivePlace, DiskFault> {
+        claim_archive(self, alloc, name)
     }
 
     fn write_archive(
@@ -232,8 +256,8 @@ impl Disk for HostRuntime {
         alloc: Global,
         place: &mut ArchivePlace,
         archive: &Print,
-    ) -> Result<(), PerformFault> {
-        Ok(place.write(self, alloc, archive)?)
+    ) -> Result<(), DiskFault> {
+        place.write(self, alloc, archive)
     }
 
     fn release(&self, place: ArchivePlace) {
@@ -247,26 +271,25 @@ impl Disk for HostRuntime {
         root: &str,
         paths: &[&Path],
         workers: u32,
-    ) -> Result<(), PerformFault> {
-        Ok(flush_above(rt, self, alloc, root, paths, workers)?)
+    ) -> Result<(), DiskFault> {
+        flush_above(rt, self, alloc, root, paths, workers)
     }
 }
 
 /// Opens a file to be read, as `Disk::open` says.
-fn open_to_read<R: Files>(rt: &R, name: &str) -> Result<Option<R::File>, PerformFault>
-    ensures quiet { IfErr result IsQuiet }
-{
+fn open_to_read<R: Files>(rt: &R, name: &str) -> Result<Option<R::File>, OpenFault> {
     if let Ok(metadata) = fs::metadata(rt, name)
         && !metadata.is_file()
     {
-        return Err(PerformFault::Failed);
+        return Err(OpenFault::NotFile);
     }
     match fs::open(rt, name) {
         Ok(file) => Ok(Some(file)),
         Err(e) => match e.kind() {
             ErrorKind::NotFound => Ok(None),
-            ErrorKind::OutOfMemory => Err(PerformFault::OutOfMemory),
-            _ => Err(PerformFault::Failed),
+            ErrorKind::OutOfMemory => Err(OpenFault::OutOfMemory),
+            ErrorKind::PermissionDenied => Err(OpenFault::Denied),
+            _ => Err(OpenFault::Failed),
         },
     }
 }

@@ -1,23 +1,44 @@
 //! What commands read: archives, hold rules, plans and folders.
-ghost use Rattle.std.specs.Prelude.{◌≡◌, ◌≤◌, [], IfErr, IfOk, IfSome, IsTrue};
+ghost use Rattle.std.specs.Prelude.{◌≡◌, ◌≤◌, [], length, option_map, IfErr, IfOk, IfSome, IsTrue, OnOk};
+ghost use Rattle.ts_explain.specs.Faults.{IsAbout};
 ghost use Rattle.ts_model.specs.Texts.{IsPlan, IsPlanText, IsRulesText};
-ghost use Rattle.ts_perform.specs.Inputs.{AreRulesAt, IsArchiveIn, IsReadAt, IsReadFor};
-ghost use Rattle.ts_perform.specs.Lengths.{fault_below};
+ghost use Rattle.ts_perform.specs.Inputs.{AreRulesAt, IsArchiveIn, IsReadAt, IsReadFor, IsSeenFor, scanned_of};
+ghost use Rattle.ts_perform.specs.Specials.{AreSpecials};
 ghost use Rattle.ts_perform.specs.Stands.{AreScans, IsScanOf};
 ghost use Rattle.ts_perform.specs.Trials.{IsQuiet};
 
 use crate::disk::{Disk, Machine};
-use crate::fault::PerformFault;
-use crate::lengths::{is_too_long, too_long};
+use crate::fault::{PerformFault, Subject, Why, of_archive, of_hold, of_open, of_plan, of_text};
+use crate::lengths::fault_below;
 use crate::snapshot::Snapshot;
+use crate::special::SpecialPaths;
 use crate::task::Task;
 use std::alloc::Global;
+use std::io::Read;
 use ts_command::Pair;
 use ts_hold::{Holds, RuleReader};
 use ts_model::plan::Plan;
 use ts_print::Print;
 use ts_scan::{ScanFault, scan, scan_both};
+use ts_special::Specials;
 use ts_text::{Counted, Lines, Source, TextFault};
+
+/// What is in a file, to be read. None where nothing is there.
+fn opened<R: Disk>(rt: &R, name: &str, what: Subject) -> Result<Option<R::Opened>, PerformFault>
+    ensures found { IfOk result (λ found. R.finds name.now (option_map R.Opened.remaining found)) }
+    ensures about { IfErr result (IsAbout what) }
+    ensures quiet { IfErr result IsQuiet }
+{
+    rt.open(name).map_err(|fault| of_open(fault, what))
+}
+
+/// Its lines.
+fn lines_of<S: Read + Drop>(alloc: Global, file: S) -> Result<Lines<Counted<S>>, PerformFault>
+    ensures left { IfOk result (λ lines. lines.left ≡ S.remaining file) }
+    ensures memory { IfErr result (λ e. e ≡ PerformFault.OutOfMemory) }
+{
+    Lines::new(alloc, Counted::new(file)).map_err(|_| PerformFault::OutOfMemory)
+}
 
 /// The archive in a file. None where nothing is there.
 pub(crate) fn read_archive<R: Disk + AllocGlobal>(
@@ -25,43 +46,50 @@ pub(crate) fn read_archive<R: Disk + AllocGlobal>(
     name: &str,
 ) -> Result<Option<Print>, PerformFault>
     ensures read { IfOk result (IsArchiveIn R.finds name.now) }
+    ensures about { IfErr result (IsAbout Subject.Archive) }
     ensures quiet { IfErr result IsQuiet }
 {
-    let Some(file) = rt.open(name)? else {
+    let Some(file) = opened(rt, name, Subject::Archive)? else {
         return Ok(None);
     };
-    let mut lines = Lines::new(rt.alloc(), Counted::new(file))?;
-    Ok(Some(ts_archive::decode(rt.alloc(), &mut lines)?))
+    let mut lines = lines_of(rt.alloc(), file)?;
+    match ts_archive::decode(rt.alloc(), &mut lines) {
+        Ok(archive) => Ok(Some(archive)),
+        Err(fault) => Err(of_archive(fault, Subject::Archive, Why::Unread)),
+    }
 }
 
 /// The rules in a file, or none where no file is named. They are read line by line: the first bad line ends it.
-fn read_holds<R: Disk + AllocGlobal>(rt: &R, name: Option<&str>) -> Result<Holds, PerformFault>
+fn read_holds<R: Disk + AllocGlobal>(rt: &R, name: Option<&str>) -> Result<RuleReader, PerformFault>
     ensures read { IfOk result (AreRulesAt R.finds name.entry) }
+    ensures about { IfErr result (IsAbout Subject.Holds) }
     ensures quiet { IfErr result IsQuiet }
 {
     let Some(name) = name else {
-        return Ok(Holds::none(rt.alloc()));
+        return Ok(RuleReader::new(rt.alloc()));
     };
-    let Some(file) = rt.open(name)? else {
-        return Err(PerformFault::NotThere);
+    let what = Subject::Holds;
+    let Some(file) = opened(rt, name, what)? else {
+        return Err(PerformFault::NotThere { what });
     };
-    let mut lines = Lines::new(rt.alloc(), Counted::new(file))?;
+    let mut lines = lines_of(rt.alloc(), file)?;
     rules_in(rt.alloc(), &mut lines)
 }
 
 /// The rules that all lines spell.
-fn rules_in<S: Source>(alloc: Global, lines: &mut Lines<S>) -> Result<Holds, PerformFault>
+fn rules_in<S: Source>(alloc: Global, lines: &mut Lines<S>) -> Result<RuleReader, PerformFault>
     ensures spelled { IfOk result (λ rules. IfSome lines.old.left (λ text. IsRulesText text rules)) }
+    ensures about { IfErr result (IsAbout Subject.Holds) }
     ensures quiet { IfErr result IsQuiet }
 {
     let mut reader = RuleReader::new(alloc);
     // a file without an end has lines past the limit, and is left there
     for line in 1..=u64::MAX {
         match lines.advance() {
-            Ok(true) => reader.line(lines.line())?,
-            Ok(false) => return Ok(reader.finish()),
+            Ok(true) => reader.line(lines.line()).map_err(of_hold)?,
+            Ok(false) => return Ok(reader),
             Err(TextFault::NotCanonical) => return Err(PerformFault::BadRule { line }),
-            Err(fault) => return Err(PerformFault::from(fault)),
+            Err(fault) => return Err(of_text(fault, Subject::Holds, Why::Unread)),
         }
     }
     unreachable!()
@@ -71,13 +99,15 @@ fn rules_in<S: Source>(alloc: Global, lines: &mut Lines<S>) -> Result<Holds, Per
 fn read_plan<R: Disk + AllocGlobal>(rt: &R, name: &str) -> Result<Plan, PerformFault>
     ensures read { IfOk result (IsReadAt R.finds IsPlanText name.now) }
     ensures fits { IfOk result (λ plan. IsPlan plan) }
+    ensures about { IfErr result (IsAbout Subject.Plan) }
     ensures quiet { IfErr result IsQuiet }
 {
-    let Some(file) = rt.open(name)? else {
-        return Err(PerformFault::NotThere);
+    let what = Subject::Plan;
+    let Some(file) = opened(rt, name, what)? else {
+        return Err(PerformFault::NotThere { what });
     };
-    let mut lines = Lines::new(rt.alloc(), Counted::new(file))?;
-    Ok(ts_plan::decode(rt.alloc(), &mut lines)?)
+    let mut lines = lines_of(rt.alloc(), file)?;
+    ts_plan::decode(rt.alloc(), &mut lines).map_err(|fault| of_plan(fault, what, Why::Unread))
 }
 
 /// The print of a folder.
@@ -88,30 +118,27 @@ pub(crate) fn scan_folder<R: Machine>(
 ) -> Result<Print, PerformFault>
     requires some { 1 ≤ workers }
     requires few { workers ≤ 64 }
-    ensures scan { IfOk result (IsScanOf R.is_at R.Folder.tells root.now) }
+    ensures scan { IfOk result (IsScanOf R.is_at R.Folder.tells root.now []) }
     ensures quiet { IfErr result IsQuiet }
 {
-    let folder = rt.folder(rt.alloc(), root)?;
-    match scan(rt, rt.alloc(), &folder, workers) {
+    let alloc = rt.alloc();
+    let folder = rt.folder(alloc, root, Specials::none(alloc))?;
+    match scan(rt, alloc, &folder, workers) {
         Ok(print) => Ok(print),
-        Err(fault) => Err(fault_below(root, fault)),
+        Err(fault) => Err(fault_below(root, Subject::Folder, fault)),
     }
 }
 
-/// The fault of a scan. Where the system doesn't take a path at all, that is what it is.
-fn fault_below(root: &str, fault: ScanFault) -> PerformFault
-    ensures fault { result ≡ fault_below root.now fault }
-    ensures quiet { IsQuiet result }
+/// That an archive names no path, where a replica is new.
+fn look_at_new(archive: &Print, new: Subject) -> Result<(), PerformFault>
+    ensures empty { OnOk result (archive.now ≡ []) }
+    ensures new { IfErr result (λ e. e ≡ PerformFault.New new (length archive.now)) }
 {
-    match fault {
-        ScanFault::At { path, fault } => {
-            if is_too_long(root, &path) {
-                too_long(path)
-            } else {
-                PerformFault::from(ScanFault::At { path, fault })
-            }
-        }
-        ScanFault::OutOfMemory => PerformFault::OutOfMemory,
+    let paths = archive.rows().len();
+    if paths == 0 {
+        Ok(())
+    } else {
+        Err(PerformFault::New { what: new, paths })
     }
 }
 
@@ -123,17 +150,24 @@ struct Known {
 }
 
 impl Known {
-    /// Reads the archive, and then the rules. An archive that isn't there has no paths.
-    fn read<R: Disk + AllocGlobal>(rt: &R, pair: &Pair<'_>) -> Result<Known, PerformFault>
-        ensures read { IfOk result (λ known. IsReadFor R.finds pair.now known.archive known.holds) }
+    /// Reads the archive, and then the rules, and adds those for what is special. An archive that isn't there has no paths.
+    fn read<R: Disk + AllocGlobal>(
+        rt: &R,
+        pair: &Pair<'_>,
+    ) -> Result<(Known, SpecialPaths), PerformFault>
+        ensures found { IfOk result (λ known. AreSpecials R.finds_special pair.now known.1) }
+        ensures read { IfOk result (λ known. IsReadFor R.finds pair.now known.1 known.0.archive known.0.holds) }
         ensures quiet { IfErr result IsQuiet }
     {
         let archive = match read_archive(rt, pair.archive)? {
             Some(archive) => archive,
             None => Print::empty(rt.alloc()),
         };
-        let holds = read_holds(rt, pair.holds)?;
-        Ok(Known { archive, holds })
+        let mut rules = read_holds(rt, pair.holds)?;
+        let special = SpecialPaths::find(rt, pair)?;
+        special.add_rules(rt.alloc(), &mut rules)?;
+        let holds = rules.finish();
+        Ok((Known { archive, holds }, special))
     }
 }
 
@@ -145,20 +179,33 @@ struct Scanned {
 }
 
 impl Scanned {
-    /// Scans both replicas, at once where there are several workers: they often lie on two devices. Where neither can be scanned
-    /// the fault is that of the first.
-    fn read<R: Machine>(task: &Task<'_, R>) -> Result<Scanned, PerformFault>
-        ensures scans { IfOk result (λ s. AreScans R.is_at R.Folder.tells task.now.pair.now.first.now task.now.pair.now.second.now s.first s.second) }
+    /// Scans both replicas, with stand-ins at these paths, at once where there are several workers: they often lie on two devices.
+    /// Where neither can be scanned the fault is that of the first.
+    fn read<R: Machine>(task: &Task<'_, R>, special: SpecialPaths) -> Result<Scanned, PerformFault>
+        ensures scans { IfOk result (λ s. AreScans R.is_at R.Folder.tells task.now.pair.now special s.first s.second) }
         ensures quiet { IfErr result IsQuiet }
     {
         let (rt, alloc, pair) = (task.rt, task.rt.alloc(), task.pair);
-        let first = rt.folder(alloc, pair.first)?;
-        let second = rt.folder(alloc, pair.second)?;
+        let SpecialPaths { first, second } = special;
+        let first = rt.folder(alloc, pair.first, first)?;
+        let second = rt.folder(alloc, pair.second, second)?;
         let (first, second) = scan_both(rt, alloc, &first, &second, task.workers);
+        Scanned::of(pair, first, second)
+    }
+
+    /// What two scans give. Where neither gives a print, the fault is that of the first.
+    fn of(
+        pair: &Pair<'_>,
+        first: Result<Print, ScanFault>,
+        second: Result<Print, ScanFault>,
+    ) -> Result<Scanned, PerformFault>
+        ensures scanned { result ≡ scanned_of pair.now first second }
+        ensures quiet { IfErr result IsQuiet }
+    {
         match (first, second) {
             (Ok(first), Ok(second)) => Ok(Scanned { first, second }),
-            (Err(fault), _) => Err(fault_below(pair.first, fault)),
-            (Ok(_), Err(fault)) => Err(fault_below(pair.second, fault)),
+            (Err(fault), _) => Err(fault_below(pair.first, Subject::First, fault)),
+            (Ok(_), Err(fault)) => Err(fault_below(pair.second, Subject::Second, fault)),
         }
     }
 }
@@ -181,33 +228,32 @@ impl Snapshot {
         }
     }
 
-    /// Reads the archive and the rules, and then scans both replicas.
+    /// Reads the archive and the rules, searches both replicas for what is special where the pair asks for it, and then scans them.
     pub(crate) fn read<R: Machine>(task: &Task<'_, R>) -> Result<Snapshot, PerformFault>
-        ensures scans { IfOk result (λ s. AreScans R.is_at R.Folder.tells task.now.pair.now.first.now task.now.pair.now.second.now s.first s.second) }
-        ensures read { IfOk result (λ s. IsReadFor R.finds task.now.pair.now s.archive s.holds) }
+        ensures seen { IfOk result (λ s. IsSeenFor R.is_at R.Folder.tells R.finds R.finds_special task.now.pair.now s.archive s.holds s.first s.second) }
         ensures quiet { IfErr result IsQuiet }
     {
-        let known = Known::read(task.rt, task.pair)?;
-        let scanned = Scanned::read(task)?;
+        let (known, special) = Known::read(task.rt, task.pair)?;
+        let scanned = Scanned::read(task, special)?;
         Ok(Snapshot::of(known, scanned))
     }
 
     /// The same for a `sync`, which is refused where only one of the replicas took part in a run before, though the archive
-    /// names a path: then the other one isn't the folder that the archive is of, as where a disk isn't mounted.
+    /// names a path: then the other one, `new`, isn't the folder that the archive is of, as where a disk isn't mounted.
     pub(crate) fn read_of_both<R: Machine>(
         task: &Task<'_, R>,
         is_one_new: bool,
+        new: Subject,
     ) -> Result<Snapshot, PerformFault>
-        ensures scans { IfOk result (λ s. AreScans R.is_at R.Folder.tells task.now.pair.now.first.now task.now.pair.now.second.now s.first s.second) }
+        ensures seen { IfOk result (λ s. IsSeenFor R.is_at R.Folder.tells R.finds R.finds_special task.now.pair.now s.archive s.holds s.first s.second) }
         ensures both { IfOk result (λ s. IsTrue is_one_new → s.archive ≡ []) }
-        ensures read { IfOk result (λ s. IsReadFor R.finds task.now.pair.now s.archive s.holds) }
         ensures quiet { IfErr result IsQuiet }
     {
-        let known = Known::read(task.rt, task.pair)?;
-        if is_one_new && !known.archive.rows().is_empty() {
-            return Err(PerformFault::NotThere);
+        let (known, special) = Known::read(task.rt, task.pair)?;
+        if is_one_new {
+            look_at_new(&known.archive, new)?;
         }
-        let scanned = Scanned::read(task)?;
+        let scanned = Scanned::read(task, special)?;
         Ok(Snapshot::of(known, scanned))
     }
 
@@ -218,14 +264,13 @@ impl Snapshot {
     ) -> Result<(Snapshot, Plan), PerformFault>
         ensures fits { IfOk result (λ read. IsPlan read.1) }
         ensures plan { IfOk result (λ read. IsReadAt R.finds IsPlanText plan.now read.1) }
-        ensures scans { IfOk result (λ read. AreScans R.is_at R.Folder.tells task.now.pair.now.first.now task.now.pair.now.second.now
-            read.0.first read.0.second) }
-        ensures read { IfOk result (λ read. IsReadFor R.finds task.now.pair.now read.0.archive read.0.holds) }
+        ensures seen { IfOk result (λ read. IsSeenFor R.is_at R.Folder.tells R.finds R.finds_special task.now.pair.now
+            read.0.archive read.0.holds read.0.first read.0.second) }
         ensures quiet { IfErr result IsQuiet }
     {
-        let known = Known::read(task.rt, task.pair)?;
+        let (known, special) = Known::read(task.rt, task.pair)?;
         let plan = read_plan(task.rt, plan)?;
-        let scanned = Scanned::read(task)?;
+        let scanned = Scanned::read(task, special)?;
         Ok((Snapshot::of(known, scanned), plan))
     }
 }

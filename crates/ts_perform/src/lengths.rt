@@ -2,10 +2,10 @@
 ghost use Rattle.std.specs.List.{find};
 ghost use Rattle.std.specs.Option.{option_copied};
 ghost use Rattle.std.specs.Prelude.{◌≡◌, ◌↔◌, ◌+◌, ◌-◌, ◌<◌, ◌^◌, ◌∷◌, IsTrue, decimal, length, map, min};
-ghost use Rattle.ts_perform.specs.Lengths.{is_past, most_bytes, path_bytes, spot_bytes};
+ghost use Rattle.ts_perform.specs.Lengths.{fault_below, is_past, most_bytes, path_bytes, spot_bytes};
 ghost use Rattle.ts_perform.specs.Trials.{IsQuiet};
 
-use crate::fault::PerformFault;
+use crate::fault::{PerformFault, Subject};
 use ts_model::row::{Row, Stamp};
 use ts_name::Path;
 use ts_scan::{Refusal, ScanFault};
@@ -77,11 +77,30 @@ fn is_past(root: &str, spot: usize, entry: &Path, path: &Path) -> bool
     is_too_long(root, path) || staged > MOST_BYTES
 }
 
-/// That a path is too long for the system.
-pub(crate) fn too_long(path: Path) -> PerformFault
-    ensures fault { result ≡ PerformFault.Scan (ScanFault.At path Refusal.TooLong) }
+/// That a path in this folder is too long for the system.
+pub(crate) fn too_long(what: Subject, path: Path) -> PerformFault
+    ensures fault { result ≡ PerformFault.Scan what (ScanFault.At path Refusal.TooLong) }
     ensures quiet { IsQuiet result }
 {
     let fault = Refusal::TooLong;
-    PerformFault::from(ScanFault::At { path, fault })
+    let fault = ScanFault::At { path, fault };
+    PerformFault::Scan { what, fault }
+}
+
+/// The fault of a scan of this folder. Where the system doesn't take a path at all, that is what it is.
+pub(crate) fn fault_below(root: &str, what: Subject, fault: ScanFault) -> PerformFault
+    ensures fault { result ≡ fault_below root.now what fault }
+    ensures quiet { IsQuiet result }
+{
+    match fault {
+        ScanFault::At { path, fault } => {
+            if is_too_long(root, &path) {
+                too_long(what, path)
+            } else {
+                let fault = ScanFault::At { path, fault };
+                PerformFault::Scan { what, fault }
+            }
+        }
+        ScanFault::OutOfMemory => PerformFault::OutOfMemory,
+    }
 }

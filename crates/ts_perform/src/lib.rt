@@ -14,9 +14,10 @@ mod reporting;
 mod room;
 mod running;
 mod snapshot;
+mod special;
 mod task;
 
 pub use disk::{Disk, Machine};
-pub use fault::PerformFault;
+pub use fault::{OpenFault, PerformFault};
 pub use performing::{REFUSED, perform};
 pub use reporting::FAILED;

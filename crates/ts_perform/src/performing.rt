@@ -4,14 +4,14 @@ ghost use Rattle.ts_model.specs.Trial.{Trial};
 ghost use Rattle.ts_perform.specs.Jobs.{IfCheck, IfPlan, IfPreview, IfRun, IfScan, IfShow, IfSync, IfTell};
 ghost use Rattle.ts_perform.specs.Previewing.{IsPreviewAt};
 ghost use Rattle.ts_perform.specs.Printouts.{IsBodyOf, IsScanText, IsShown, IsTold};
-ghost use Rattle.ts_perform.specs.Runs.{AnswersOne, AnswersRun, IsRun, IsSynced, Ran, Refuses};
-ghost use Rattle.ts_perform.specs.Snapshots.{IsPrintoutAt, IsVerdictAt, Prints, PrintsAlone};
+ghost use Rattle.ts_perform.specs.Runs.{AnswersOne, AnswersRun, AnswersVerdict, IsRun, IsSynced, Ran, Refuses};
+ghost use Rattle.ts_perform.specs.Snapshots.{IsCheckupAt, IsPrintoutAt, Judges, JudgesAlone, Prints, PrintsAlone};
 ghost use Rattle.ts_perform.specs.Trials.{Answers, IfApart, IsQuiet};
 ghost use Rattle.ts_trial.specs.Answers.{WritesOne};
 
-use crate::answers::{write_fault, write_fault_at, write_refusal};
+use crate::answers::write_refusal;
 use crate::disk::{Disk, Machine};
-use crate::fault::PerformFault;
+use crate::fault::{PerformFault, Subject, Why, of_archive, of_trial, on_output};
 use crate::inputs::{read_archive, scan_folder};
 use crate::previewing::preview;
 use crate::snapshot::Snapshot;
@@ -20,12 +20,10 @@ use std::alloc::Global;
 use std::fmt::Display;
 use std::thread::Threads;
 use ts_command::{Command, Job};
+use ts_explain::{write_fault, write_sentence};
 use ts_print::{Print, PrintFault};
 use ts_text::{Lines, Sink, Source, write_all};
 use ts_trial::trial;
-
-/// The program's own directory in a replica. It is no path of an entry.
-const OWN_PATH: &str = "/.twosync";
 
 /// The exit status of a refusal.
 pub const REFUSED: u8 = 3;
@@ -39,47 +37,52 @@ pub fn perform<R: Machine, I: Source + Drop, O: Sink, E: Sink>(
     out: &mut O,
     err: &mut E,
 ) -> u8
-    ensures tell { IfTell command.now.job (AnswersOne (IsTold None)
+    ensures tell { IfTell command.now.job (AnswersOne command.now (IsTold None)
         (O.holds out.old) (O.holds out.new) (E.holds err.old) (E.holds err.new) result) }
     ensures trial { command.now.job ≡ Job.Trial → IfApart (I.holds input) (λ bytes. Answers (Trial bytes)
         (O.holds out.old) (O.holds out.new) result) }
-    ensures scan { IfScan command.now.job (λ root. AnswersOne (IsScanText R.is_at R.Folder.tells root)
+    ensures scan { IfScan command.now.job (λ root. AnswersOne command.now (IsScanText R.is_at R.Folder.tells root)
         (O.holds out.old) (O.holds out.new) (E.holds err.old) (E.holds err.new) result) }
-    ensures show { IfShow command.now.job (λ name. AnswersOne (IsShown R.finds name)
+    ensures show { IfShow command.now.job (λ name. AnswersOne command.now (IsShown R.finds name)
         (O.holds out.old) (O.holds out.new) (E.holds err.old) (E.holds err.new) result) }
-    ensures plan { IfPlan command.now.job (λ pair. AnswersOne (IsPrintoutAt R.is_at R.Folder.tells R.finds pair)
+    ensures plan { IfPlan command.now.job (λ pair. AnswersOne command.now (IsPrintoutAt R.is_at R.Folder.tells R.finds R.finds_special pair)
         (O.holds out.old) (O.holds out.new) (E.holds err.old) (E.holds err.new) result) }
-    ensures preview { IfPreview command.now.job (λ pair json. AnswersOne (IsPreviewAt R.is_at R.Folder.tells R.finds pair json)
+    ensures preview { IfPreview command.now.job (λ pair json. AnswersOne command.now (IsPreviewAt R.is_at R.Folder.tells R.finds R.finds_special pair json)
         (O.holds out.old) (O.holds out.new) (E.holds err.old) (E.holds err.new) result) }
-    ensures check { IfCheck command.now.job (λ pair plan. AnswersOne (IsVerdictAt R.is_at R.Folder.tells R.finds pair plan)
+    ensures check { IfCheck command.now.job (λ pair plan. AnswersVerdict command.now (IsCheckupAt R.is_at R.Folder.tells R.finds R.finds_special pair plan)
         (O.holds out.old) (O.holds out.new) (E.holds err.old) (E.holds err.new) result) }
-    ensures run { IfRun command.now.job (λ pair plan. AnswersRun (IsRun
-        R.stand R.Site.content R.Site.failures R.is_at R.Folder.tells R.Folder.lets R.is_named R.has R.finds pair plan)
+    ensures run { IfRun command.now.job (λ pair plan. AnswersRun command.now (IsRun
+        R.stand R.Site.content R.Site.failures R.is_at R.Folder.tells R.Folder.lets R.is_named R.has R.finds R.finds_special pair plan)
         (O.holds out.old) (O.holds out.new) (E.holds err.old) (E.holds err.new) result) }
-    ensures sync { IfSync command.now.job (λ pair. AnswersRun (IsSynced
+    ensures sync { IfSync command.now.job (λ pair. AnswersRun command.now (IsSynced
         R.stand R.Site.content R.Site.failures R.is_at R.Folder.tells R.Folder.lets R.is_named R.has
-        R.finds R.is_locked R.took R.stopped pair)
+        R.finds R.finds_special R.is_locked R.took R.stopped pair)
         (O.holds out.old) (O.holds out.new) (E.holds err.old) (E.holds err.new) result) }
 {
     match answer(rt, command, input, out, err) {
         Ok(status) => status,
-        Err(fault) => refuse(rt.alloc(), &fault, out, err),
+        Err(fault) => refuse(rt.alloc(), command, &fault, out, err),
     }
 }
 
 /// Tells why a command is refused: a broken plan on standard output, all else on standard error. Where even that can't be
 /// told, the exit status says so alone.
-fn refuse<O: Sink, E: Sink>(alloc: Global, fault: &PerformFault, out: &mut O, err: &mut E) -> u8
+fn refuse<O: Sink, E: Sink>(
+    alloc: Global,
+    command: &Command<'_>,
+    fault: &PerformFault,
+    out: &mut O,
+    err: &mut E,
+) -> u8
     ensures status { result ≡ 3 }
-    ensures told { Refuses fault.now (O.holds out.old) (O.holds out.new) (E.holds err.old) (E.holds err.new) }
+    ensures told { Refuses command.now fault.now (O.holds out.old) (O.holds out.new) (E.holds err.old) (E.holds err.new) }
 {
     let _ = match fault {
         PerformFault::Broken { rule, place } => match write_refusal(alloc, *rule, *place, out) {
-            Ok(()) => Ok(()),
-            Err(fault) => write_fault(alloc, fault.number(), None, err),
+            Ok(()) => write_sentence(alloc, command, fault, err),
+            Err(unwritten) => write_fault(alloc, command, &unwritten, err),
         },
-        PerformFault::Own => write_fault_at(alloc, fault.number(), OWN_PATH, err),
-        _ => write_fault(alloc, fault.number(), fault.path(), err),
+        _ => write_fault(alloc, command, fault, err),
     };
     REFUSED
 }
@@ -101,18 +104,18 @@ fn answer<R: Machine, I: Source + Drop, O: Sink, E: Sink>(
         (O.holds out.old) (O.holds out.new) (E.holds err.old) (E.holds err.new) result) }
     ensures show { IfShow command.now.job (λ name. PrintsAlone (IsShown R.finds name)
         (O.holds out.old) (O.holds out.new) (E.holds err.old) (E.holds err.new) result) }
-    ensures plan { IfPlan command.now.job (λ pair. PrintsAlone (IsPrintoutAt R.is_at R.Folder.tells R.finds pair)
+    ensures plan { IfPlan command.now.job (λ pair. PrintsAlone (IsPrintoutAt R.is_at R.Folder.tells R.finds R.finds_special pair)
         (O.holds out.old) (O.holds out.new) (E.holds err.old) (E.holds err.new) result) }
-    ensures preview { IfPreview command.now.job (λ pair json. PrintsAlone (IsPreviewAt R.is_at R.Folder.tells R.finds pair json)
+    ensures preview { IfPreview command.now.job (λ pair json. PrintsAlone (IsPreviewAt R.is_at R.Folder.tells R.finds R.finds_special pair json)
         (O.holds out.old) (O.holds out.new) (E.holds err.old) (E.holds err.new) result) }
-    ensures check { IfCheck command.now.job (λ pair plan. PrintsAlone (IsVerdictAt R.is_at R.Folder.tells R.finds pair plan)
+    ensures check { IfCheck command.now.job (λ pair plan. JudgesAlone (IsCheckupAt R.is_at R.Folder.tells R.finds R.finds_special pair plan)
         (O.holds out.old) (O.holds out.new) (E.holds err.old) (E.holds err.new) result) }
-    ensures run { IfRun command.now.job (λ pair plan. Ran (IsRun
-        R.stand R.Site.content R.Site.failures R.is_at R.Folder.tells R.Folder.lets R.is_named R.has R.finds pair plan)
+    ensures run { IfRun command.now.job (λ pair plan. Ran command.now (IsRun
+        R.stand R.Site.content R.Site.failures R.is_at R.Folder.tells R.Folder.lets R.is_named R.has R.finds R.finds_special pair plan)
         (O.holds out.old) (O.holds out.new) (E.holds err.old) (E.holds err.new) result) }
-    ensures sync { IfSync command.now.job (λ pair. Ran (IsSynced
+    ensures sync { IfSync command.now.job (λ pair. Ran command.now (IsSynced
         R.stand R.Site.content R.Site.failures R.is_at R.Folder.tells R.Folder.lets R.is_named R.has
-        R.finds R.is_locked R.took R.stopped pair)
+        R.finds R.finds_special R.is_locked R.took R.stopped pair)
         (O.holds out.old) (O.holds out.new) (E.holds err.old) (E.holds err.new) result) }
 {
     let workers = command.workers;
@@ -121,11 +124,11 @@ fn answer<R: Machine, I: Source + Drop, O: Sink, E: Sink>(
         Job::Trial => answer_bundle(rt, input, out, workers),
         Job::Scan { folder } => print_scan(rt, folder, workers, out),
         Job::Show { archive } => show(rt, archive, out),
-        Job::Plan { pair } => print_plan(&Task { rt, pair, workers }, out),
-        Job::Preview { pair, json } => preview(&Task { rt, pair, workers }, *json, out),
-        Job::Check { pair, plan } => check_plan(&Task { rt, pair, workers }, plan, out),
-        Job::Run { pair, plan } => Task { rt, pair, workers }.run_plan(plan, out, err),
-        Job::Sync { pair } => Task { rt, pair, workers }.sync(out, err),
+        Job::Plan { pair } => print_plan(&Task::new(rt, command, pair), out),
+        Job::Preview { pair, json } => preview(&Task::new(rt, command, pair), *json, out),
+        Job::Check { pair, plan } => check_plan(&Task::new(rt, command, pair), plan, out),
+        Job::Run { pair, plan } => Task::new(rt, command, pair).run_plan(plan, out, err),
+        Job::Sync { pair } => Task::new(rt, command, pair).sync(out, err),
     }
 }
 
@@ -134,7 +137,7 @@ fn tell<T: Display, O: Sink>(alloc: Global, told: &T, out: &mut O) -> Result<u8,
     ensures { Prints (IsTold (T.output told.now)) (O.holds out.old) (O.holds out.new) result }
 {
     let text = format!(in alloc; "{told}")?;
-    write_all(out, text.as_bytes())?;
+    write_all(out, text.as_bytes()).map_err(on_output)?;
     Ok(0)
 }
 
@@ -152,7 +155,10 @@ fn answer_bundle<R: AllocGlobal + Threads + Sync, I: Source + Drop, O: Sink>(
 {
     let alloc = rt.alloc();
     match Lines::new(alloc, input) {
-        Ok(mut lines) => Ok(trial(rt, alloc, &mut lines, out, workers)?),
+        Ok(mut lines) => match trial(rt, alloc, &mut lines, out, workers) {
+            Ok(status) => Ok(status),
+            Err(fault) => Err(of_trial(fault)),
+        },
         // nothing was read yet, so memory ran out
         Err(_) => Err(PerformFault::OutOfMemory),
     }
@@ -170,7 +176,11 @@ fn print_scan<R: Machine, O: Sink>(
     ensures { Prints (IsScanText R.is_at R.Folder.tells folder.now) (O.holds out.old) (O.holds out.new) result }
 {
     let print = scan_folder(rt, folder, workers)?;
-    ts_archive::encode(rt.alloc(), &print, out)?;
+    ts_archive::encode(rt.alloc(), &print, out).map_err(|fault| of_archive(
+        fault,
+        Subject::Output,
+        Why::Unwritten,
+    ))?;
     Ok(0)
 }
 
@@ -179,7 +189,9 @@ fn show<R: Disk + AllocGlobal, O: Sink>(rt: &R, name: &str, out: &mut O) -> Resu
     ensures { Prints (IsShown R.finds name.now) (O.holds out.old) (O.holds out.new) result }
 {
     let Some(archive) = read_archive(rt, name)? else {
-        return Err(PerformFault::NotThere);
+        return Err(PerformFault::NotThere {
+            what: Subject::Archive,
+        });
     };
     print_body(rt.alloc(), &archive, out)
 }
@@ -191,14 +203,17 @@ fn print_body<O: Sink>(alloc: Global, archive: &Print, out: &mut O) -> Result<u8
     match ts_print::encode(alloc, archive, out) {
         Ok(()) => Ok(0),
         Err(PrintFault::OutOfMemory) => Err(PerformFault::OutOfMemory),
-        Err(PrintFault::Failed) => Err(PerformFault::Failed),
+        Err(PrintFault::Failed) => Err(PerformFault::Failed {
+            what: Subject::Output,
+            why: Why::Unwritten,
+        }),
         Err(PrintFault::TooLong | PrintFault::NotCanonical) => unreachable!(),
     }
 }
 
 /// Prints a plan for the pair.
 fn print_plan<R: Machine, O: Sink>(task: &Task<'_, R>, out: &mut O) -> Result<u8, PerformFault>
-    ensures { Prints (IsPrintoutAt R.is_at R.Folder.tells R.finds task.now.pair.now) (O.holds out.old) (O.holds out.new) result }
+    ensures { Prints (IsPrintoutAt R.is_at R.Folder.tells R.finds R.finds_special task.now.pair.now) (O.holds out.old) (O.holds out.new) result }
 {
     let snapshot = Snapshot::read(task)?;
     snapshot.print_plan(task.rt.alloc(), out)
@@ -210,7 +225,7 @@ fn check_plan<R: Machine, O: Sink>(
     plan: &str,
     out: &mut O,
 ) -> Result<u8, PerformFault>
-    ensures { Prints (IsVerdictAt R.is_at R.Folder.tells R.finds task.now.pair.now plan.now)
+    ensures { Judges (IsCheckupAt R.is_at R.Folder.tells R.finds R.finds_special task.now.pair.now plan.now)
         (O.holds out.old) (O.holds out.new) result }
 {
     let (snapshot, plan) = Snapshot::read_for(task, plan)?;

@@ -4,7 +4,7 @@ ghost use Rattle.ts_perform.specs.Previewing.{IsPreviewAt, IsPreviewOf, form_of}
 ghost use Rattle.ts_perform.specs.Snapshots.{IsPlanned, Prints, checkup_of};
 
 use crate::disk::Machine;
-use crate::fault::PerformFault;
+use crate::fault::{PerformFault, on_output};
 use crate::snapshot::Snapshot;
 use crate::task::Task;
 use std::alloc::Global;
@@ -42,8 +42,10 @@ impl Snapshot {
     {
         let entries = plan.entries.as_slice();
         let all = outlooks(alloc, entries, &self.archive, &self.first, &self.second)?;
-        write(alloc, form_of(json), &all, out)?;
-        Ok(best_status(&all))
+        match write(alloc, form_of(json), &all, out) {
+            Ok(()) => Ok(best_status(&all)),
+            Err(fault) => Err(on_output(fault)),
+        }
     }
 }
 
@@ -60,7 +62,7 @@ pub(crate) fn preview<R: Machine, O: Sink>(
     json: bool,
     out: &mut O,
 ) -> Result<u8, PerformFault>
-    ensures { Prints (IsPreviewAt R.is_at R.Folder.tells R.finds task.now.pair.now json) (O.holds out.old) (O.holds out.new) result }
+    ensures { Prints (IsPreviewAt R.is_at R.Folder.tells R.finds R.finds_special task.now.pair.now json) (O.holds out.old) (O.holds out.new) result }
 {
     let snapshot = Snapshot::read(task)?;
     snapshot.print_preview(task.rt.alloc(), task.pair, json, out)

@@ -1,48 +1,74 @@
 //! What is reported of a run.
 ghost use Rattle.std.specs.Option.{option_copied};
-ghost use Rattle.std.specs.Prelude.{◌≡◌, ◌∷◌, ◌++◌, [], length, IfOk};
+ghost use Rattle.std.specs.Prelude.{◌≡◌, ◌≤◌, ◌++◌, Some, length, IfOk};
+ghost use Rattle.ts_model.specs.Plans.{action_limit};
 ghost use Rattle.ts_model.specs.Texts.{text};
-ghost use Rattle.ts_perform.specs.Runs.{failure_line, failure_lines, lost_by, notice_line, notice_lines, path_for, run_faults, run_report, run_status};
+ghost use Rattle.ts_perform.specs.Runs.{failure_line, failure_lines, lost_by, lost_lines, notice_lines, path_for, run_faults, run_report, run_status};
+ghost use Rattle.ts_report.specs.Reports.{fates, report_text, totals_of};
 ghost use Rattle.ts_text.specs.Sources.{Writes};
 
-use crate::answers::{write_fault, write_kept, write_mount};
+use crate::answers::{write_failure, write_notice};
 use crate::fault::PerformFault;
 use std::alloc::Global;
 use ts_check::Checked;
+use ts_command::Command;
 use ts_disk::Notice;
 use ts_exec::{ActionResult, Outcome};
+use ts_explain::{push_fault, push_sentence, write_explained};
 use ts_model::plan::{Action, Kind, Plan};
 use ts_name::Path;
+use ts_report::{ReportFault, Results, Totals};
 use ts_site::Site;
-use ts_text::Sink;
+use ts_text::{Sink, TextFault};
 
 /// The exit status where an action failed, or the archive or the report couldn't be written.
 pub const FAILED: u8 = 2;
+
+/// Writes the report, and answers its totals.
+fn write_report<E: Results, O: Sink>(
+    alloc: Global,
+    plan: &Plan,
+    results: &E,
+    out: &mut O,
+) -> Result<Totals, TextFault>
+    requires limit { length plan.now.actions ≤ action_limit }
+    requires covered { length plan.now.actions ≤ E.count results.now }
+    ensures written { Writes (O.holds out.old) (O.holds out.new) (report_text (E.endings results.now) plan.now) result }
+    ensures totals { IfOk result (λ totals. totals ≡ totals_of (fates (E.endings results.now) plan.now)) }
+{
+    match ts_report::write(alloc, plan, results, out) {
+        Ok(totals) => Ok(totals),
+        Err(ReportFault::OutOfMemory) => Err(TextFault::OutOfMemory),
+        Err(ReportFault::Failed) => Err(TextFault::Failed),
+    }
+}
 
 /// Writes the report, then the faults of failed actions, and why the new archive wasn't kept, if it wasn't. Answers the exit
 /// status.
 pub(crate) fn report_outcome<S: Site, O: Sink, E: Sink>(
     alloc: Global,
+    command: &Command<'_>,
     checked: &Checked<'_>,
     outcome: &Outcome<S>,
     kept: Result<(), PerformFault>,
     out: &mut O,
     err: &mut E,
-) -> Result<u8, PerformFault>
+) -> Result<u8, TextFault>
     requires count { length outcome.now.results.items ≡ length checked.now.plan.actions }
     ensures report { Writes (O.holds out.old) (O.holds out.new) (run_report checked.now.plan outcome.now.results.items) result }
-    ensures faults { Writes (E.holds err.old) (E.holds err.new) (text (run_faults checked.now.plan outcome.now.results.items (lost_by kept))) result }
+    ensures faults { Writes (E.holds err.old) (E.holds err.new)
+        (text (run_faults command.now checked.now.plan outcome.now.results.items (lost_by kept))) result }
     ensures status { IfOk result (λ status. status ≡ run_status checked.now.plan outcome.now.results.items (lost_by kept)) }
 {
     let plan = checked.plan();
     let _count = checked.action_count();
     let results = outcome.results();
-    let totals = ts_report::write(alloc, plan, outcome, out)?;
-    report_failures(alloc, plan, results, err)?;
+    let totals = write_report(alloc, plan, outcome, out)?;
+    report_failures(alloc, command.explain, plan, results, err)?;
     match kept {
         Ok(()) => Ok(totals.status()),
         Err(fault) => {
-            write_fault(alloc, fault.number(), None, err)?;
+            write_lost(alloc, command, &fault, err)?;
             Ok(FAILED)
         }
     }
@@ -51,64 +77,72 @@ pub(crate) fn report_outcome<S: Site, O: Sink, E: Sink>(
 /// The same, and then the notices.
 pub(crate) fn report_all<S: Site, O: Sink, E: Sink>(
     alloc: Global,
+    command: &Command<'_>,
     checked: &Checked<'_>,
     outcome: &Outcome<S>,
     kept: Result<(), PerformFault>,
     notices: &[Notice],
     out: &mut O,
     err: &mut E,
-) -> Result<u8, PerformFault>
+) -> Result<u8, TextFault>
     requires count { length outcome.now.results.items ≡ length checked.now.plan.actions }
     ensures report { Writes (O.holds out.old) (O.holds out.new) (run_report checked.now.plan outcome.now.results.items) result }
     ensures faults { Writes (E.holds err.old) (E.holds err.new)
-        (text (run_faults checked.now.plan outcome.now.results.items (lost_by kept) ++ notice_lines notices.now)) result }
+        (text (run_faults command.now checked.now.plan outcome.now.results.items (lost_by kept) ++ notice_lines command.now.explain notices.now)) result }
     ensures status { IfOk result (λ status. status ≡ run_status checked.now.plan outcome.now.results.items (lost_by kept)) }
 {
-    let status = report_outcome(alloc, checked, outcome, kept, out, err)?;
-    report_notices(alloc, notices, err)?;
+    let status = report_outcome(alloc, command, checked, outcome, kept, out, err)?;
+    report_notices(alloc, command.explain, notices, err)?;
     Ok(status)
 }
 
-/// Reports notices, a line each.
-pub(crate) fn report_notices<E: Sink>(
+/// Reports why the archive is lost. The line has the fault's number alone.
+fn write_lost<E: Sink>(
     alloc: Global,
-    notices: &[Notice],
+    command: &Command<'_>,
+    fault: &PerformFault,
     err: &mut E,
-) -> Result<(), PerformFault>
-    ensures told { Writes (E.holds err.old) (E.holds err.new) (text (notice_lines notices.now)) result }
+) -> Result<(), TextFault>
+    ensures { Writes (E.holds err.old) (E.holds err.new) (text (lost_lines command.now (Some fault.now))) result }
 {
-    for i in 0..notices.len() {
-        report_notice(alloc, &notices[i], err)?;
+    let mut sentence = Vec::new(alloc);
+    if command.explain {
+        push_sentence(alloc, &command.job, fault, &mut sentence)?;
     }
-    Ok(())
+    let mut line = Vec::new(alloc);
+    push_fault(fault.number(), None, &mut line)?;
+    write_explained(command.explain, &sentence, &line, err)
 }
 
-/// Reports a notice: a fault of the device where what a swap left can't be removed, the place of what was kept, and a mount.
-fn report_notice<E: Sink>(alloc: Global, notice: &Notice, err: &mut E) -> Result<(), PerformFault>
-    ensures told { Writes (E.holds err.old) (E.holds err.new) (text (notice_line notice.now ∷ [])) result }
+/// Reports notices, a line each, and what it means before that where it is asked for.
+pub(crate) fn report_notices<E: Sink>(
+    alloc: Global,
+    explain: bool,
+    notices: &[Notice],
+    err: &mut E,
+) -> Result<(), TextFault>
+    ensures told { Writes (E.holds err.old) (E.holds err.new) (text (notice_lines explain notices.now)) result }
 {
-    match notice {
-        Notice::Discarded { path } => {
-            write_fault(alloc, PerformFault::Device.number(), Some(path), err)
-        }
-        Notice::Kept { path, place } => write_kept(alloc, path, place.as_str(), err),
-        Notice::Mounted { path } => write_mount(alloc, path, err),
+    for i in 0..notices.len() {
+        write_notice(alloc, explain, &notices[i], err)?;
     }
+    Ok(())
 }
 
 /// Reports the fault of each action that failed, with its entry's path, in the order of the actions.
 fn report_failures<E: Sink>(
     alloc: Global,
+    explain: bool,
     plan: &Plan,
     results: &[ActionResult],
     err: &mut E,
-) -> Result<(), PerformFault>
+) -> Result<(), TextFault>
     requires count { length results.now ≡ length plan.now.actions }
-    ensures told { Writes (E.holds err.old) (E.holds err.new) (text (failure_lines plan.now.entries plan.now.actions results.now)) result }
+    ensures told { Writes (E.holds err.old) (E.holds err.new) (text (failure_lines explain plan.now.entries plan.now.actions results.now)) result }
 {
     let actions = plan.actions.as_slice();
     for (i, ended) in results.iter().enumerate() {
-        report_failure(alloc, plan, &actions[i], *ended, err)?;
+        report_failure(alloc, explain, plan, &actions[i], *ended, err)?;
     }
     Ok(())
 }
@@ -116,17 +150,18 @@ fn report_failures<E: Sink>(
 /// Reports the fault of an action, if it failed.
 fn report_failure<E: Sink>(
     alloc: Global,
+    explain: bool,
     plan: &Plan,
     action: &Action,
     ended: ActionResult,
     err: &mut E,
-) -> Result<(), PerformFault>
-    ensures told { Writes (E.holds err.old) (E.holds err.new) (text (failure_line plan.now.entries action.now ended)) result }
+) -> Result<(), TextFault>
+    ensures told { Writes (E.holds err.old) (E.holds err.new) (text (failure_line explain plan.now.entries action.now ended)) result }
 {
     match ended {
         ActionResult::Done | ActionResult::Blocked(_) => Ok(()),
         ActionResult::Failed(fault) => {
-            write_fault(alloc, fault.number(), path_of(plan, &action.kind), err)
+            write_failure(alloc, explain, fault, path_of(plan, &action.kind), err)
         }
     }
 }

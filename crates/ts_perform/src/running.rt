@@ -1,23 +1,23 @@
 //! Plans carried out on two folders.
 ghost use Rattle.std.specs.Prelude.{◌≡◌, ℕ, List, IfErr, IfOk};
 ghost use Rattle.ts_model.specs.Texts.{IsPlan};
-ghost use Rattle.ts_perform.specs.Inputs.{IsReadFor};
-ghost use Rattle.ts_perform.specs.Pasts.{IsPastOf, SaysOneNew};
+ghost use Rattle.ts_perform.specs.Inputs.{IsSeenFor};
+ghost use Rattle.ts_perform.specs.Pasts.{IsPastOf, SaysNew, SaysOneNew};
 ghost use Rattle.ts_perform.specs.Runs.{BeginsNotices, IsCarriedOutFor, IsRun, IsSynced, Ran, RanQuietly};
 ghost use Rattle.ts_perform.specs.Snapshots.{checkup_of, IsPlanned};
-ghost use Rattle.ts_perform.specs.Stands.{AreScans};
 ghost use Rattle.ts_perform.specs.Trials.{IsQuiet};
 
 use crate::acting::{act, keep_archive, replica};
 use crate::disk::{Disk, Machine};
-use crate::fault::PerformFault;
-use crate::past::{Past, is_one_new};
+use crate::fault::{PerformFault, Subject, of_disk};
+use crate::past::{Past, is_one_new, new_one};
 use crate::reporting::{FAILED, report_all, report_notices};
 use crate::snapshot::Snapshot;
 use crate::task::Task;
 use std::alloc::Global;
 use ts_disk::{
-    Notice, check_leftovers, clear_leftovers, mount_above, recover_replica, remove_plan, save_plan,
+    DiskFault, Notice, check_leftovers, clear_leftovers, mount_above, recover_replica, remove_plan,
+    save_plan,
 };
 use ts_exec::ActionResult;
 use ts_model::plan::{Kind, Plan, Side};
@@ -40,8 +40,8 @@ impl<R: Machine> Task<'_, R> {
         out: &mut O,
         err: &mut E,
     ) -> Result<u8, PerformFault>
-        ensures ran { Ran (IsRun
-            R.stand R.Site.content R.Site.failures R.is_at R.Folder.tells R.Folder.lets R.is_named R.has R.finds self.now.pair.now plan.now)
+        ensures ran { Ran self.now.command.now (IsRun
+            R.stand R.Site.content R.Site.failures R.is_at R.Folder.tells R.Folder.lets R.is_named R.has R.finds R.finds_special self.now.pair.now plan.now)
             (O.holds out.old) (O.holds out.new) (E.holds err.old) (E.holds err.new) result }
     {
         let mut claims = self.claim()?;
@@ -57,9 +57,9 @@ impl<R: Machine> Task<'_, R> {
         out: &mut O,
         err: &mut E,
     ) -> Result<u8, PerformFault>
-        ensures ran { Ran (IsSynced
+        ensures ran { Ran self.now.command.now (IsSynced
             R.stand R.Site.content R.Site.failures R.is_at R.Folder.tells R.Folder.lets R.is_named R.has
-            R.finds R.is_locked R.took R.stopped self.now.pair.now)
+            R.finds R.finds_special R.is_locked R.took R.stopped self.now.pair.now)
             (O.holds out.old) (O.holds out.new) (E.holds err.old) (E.holds err.new) result }
     {
         let mut claims = self.claim()?;
@@ -78,10 +78,10 @@ impl<R: Machine> Task<'_, R> {
     ) -> Result<u8, PerformFault>
         ensures same { result ≡ status }
         ensures quiet { IfOk status (λ _. E.holds err.new ≡ E.holds err.old) }
-        ensures told { IfErr status (λ _. BeginsNotices (E.holds err.old) (E.holds err.new)) }
+        ensures told { IfErr status (λ _. BeginsNotices self.now.command.now.explain (E.holds err.old) (E.holds err.new)) }
     {
         if status.is_err() {
-            let _ = report_notices(self.rt.alloc(), notices, err);
+            let _ = report_notices(self.rt.alloc(), self.command.explain, notices, err);
         }
         status
     }
@@ -95,12 +95,14 @@ impl<R: Machine> Task<'_, R> {
     {
         let Task { rt, pair, .. } = self;
         let alloc = rt.alloc();
-        let first = rt.lock(alloc, pair.first)?;
+        let first = rt
+            .lock(alloc, pair.first)
+            .map_err(|fault| of_disk(fault, Subject::First))?;
         let second = match rt.lock(alloc, pair.second) {
             Ok(second) => second,
             Err(fault) => {
                 self.unlock(first, true);
-                return Err(fault);
+                return Err(of_disk(fault, Subject::Second));
             }
         };
         match rt.claim(alloc, pair.archive) {
@@ -112,7 +114,7 @@ impl<R: Machine> Task<'_, R> {
             Err(fault) => {
                 self.unlock(first, true);
                 self.unlock(second, true);
-                Err(fault)
+                Err(of_disk(fault, Subject::Archive))
             }
         }
     }
@@ -161,6 +163,13 @@ impl<R: Machine> Task<'_, R> {
         is_one_new(self.past(&claims.first), self.past(&claims.second))
     }
 
+    /// Which replica is new, where just one is.
+    fn new_one(&self, claims: &Claims<R>) -> Subject
+        ensures { SaysNew R.took R.stopped claims.now.first result }
+    {
+        new_one(self.past(&claims.first))
+    }
+
     /// Whether a replica is still there, if it was locked.
     fn is_in_place(&self, lock: &Option<R::Lock>) -> bool {
         match lock {
@@ -174,11 +183,14 @@ impl<R: Machine> Task<'_, R> {
     fn look_at_claims(&self, claims: &Claims<R>) -> Result<(), PerformFault>
         ensures quiet { IfErr result IsQuiet }
     {
-        if self.is_in_place(&claims.first) && self.is_in_place(&claims.second) {
-            Ok(())
+        let what = if !self.is_in_place(&claims.first) {
+            Subject::First
+        } else if !self.is_in_place(&claims.second) {
+            Subject::Second
         } else {
-            Err(PerformFault::NotThere)
-        }
+            return Ok(());
+        };
+        Err(PerformFault::NotThere { what })
     }
 
     /// Notes that both replicas take part in this run.
@@ -186,10 +198,14 @@ impl<R: Machine> Task<'_, R> {
         ensures quiet { IfErr result IsQuiet }
     {
         if let Some(lock) = &claims.first {
-            self.rt.take_part(lock)?;
+            self.rt
+                .take_part(lock)
+                .map_err(|fault| of_disk(fault, Subject::First))?;
         }
         if let Some(lock) = &claims.second {
-            self.rt.take_part(lock)?;
+            self.rt
+                .take_part(lock)
+                .map_err(|fault| of_disk(fault, Subject::Second))?;
         }
         Ok(())
     }
@@ -201,10 +217,12 @@ impl<R: Machine> Task<'_, R> {
     {
         let Task { rt, pair, .. } = self;
         let alloc = rt.alloc();
-        check_leftovers(*rt, alloc, pair.first)?;
-        check_leftovers(*rt, alloc, pair.second)?;
-        recover_replica(*rt, alloc, pair.first, notices)?;
-        Ok(recover_replica(*rt, alloc, pair.second, notices)?)
+        let in_first = |fault| of_disk(fault, Subject::First);
+        let in_second = |fault| of_disk(fault, Subject::Second);
+        check_leftovers(*rt, alloc, pair.first).map_err(in_first)?;
+        check_leftovers(*rt, alloc, pair.second).map_err(in_second)?;
+        recover_replica(*rt, alloc, pair.first, notices).map_err(in_first)?;
+        recover_replica(*rt, alloc, pair.second, notices).map_err(in_second)
     }
 
     /// Checks a plan from a file, and carries it out.
@@ -217,8 +235,8 @@ impl<R: Machine> Task<'_, R> {
         err: &mut E,
     ) -> Result<u8, PerformFault>
         requires named { R.is_named claims.old.archive self.now.pair.now.archive.now }
-        ensures ran { RanQuietly (IsRun
-            R.stand R.Site.content R.Site.failures R.is_at R.Folder.tells R.Folder.lets R.is_named R.has R.finds self.now.pair.now plan.now)
+        ensures ran { RanQuietly self.now.command.now (IsRun
+            R.stand R.Site.content R.Site.failures R.is_at R.Folder.tells R.Folder.lets R.is_named R.has R.finds R.finds_special self.now.pair.now plan.now)
             (O.holds out.old) (O.holds out.new) (E.holds err.old) (E.holds err.new) result }
     {
         self.recover(notices)?;
@@ -238,13 +256,14 @@ impl<R: Machine> Task<'_, R> {
         requires first { R.is_locked claims.old.first self.now.pair.now.first.now }
         requires second { R.is_locked claims.old.second self.now.pair.now.second.now }
         requires named { R.is_named claims.old.archive self.now.pair.now.archive.now }
-        ensures ran { RanQuietly (IsSynced
+        ensures ran { RanQuietly self.now.command.now (IsSynced
             R.stand R.Site.content R.Site.failures R.is_at R.Folder.tells R.Folder.lets R.is_named R.has
-            R.finds R.is_locked R.took R.stopped self.now.pair.now)
+            R.finds R.finds_special R.is_locked R.took R.stopped self.now.pair.now)
             (O.holds out.old) (O.holds out.new) (E.holds err.old) (E.holds err.new) result }
     {
         self.recover(notices)?;
-        let snapshot = Snapshot::read_of_both(self, self.is_one_new(&*claims))?;
+        let is_one_new = self.is_one_new(&*claims);
+        let snapshot = Snapshot::read_of_both(self, is_one_new, self.new_one(&*claims))?;
         let plan = snapshot.plan(self.rt.alloc())?;
         self.look_at_claims(&*claims)?;
         self.carry_out(claims, &snapshot, &plan, notices, out, err)
@@ -262,11 +281,11 @@ impl<R: Machine> Task<'_, R> {
         err: &mut E,
     ) -> Result<u8, PerformFault>
         requires plan { IsPlan plan.now }
-        requires scans { AreScans R.is_at R.Folder.tells self.now.pair.now.first.now self.now.pair.now.second.now snapshot.now.first snapshot.now.second }
-        requires read { IsReadFor R.finds self.now.pair.now snapshot.now.archive snapshot.now.holds }
+        requires seen { IsSeenFor R.is_at R.Folder.tells R.finds R.finds_special self.now.pair.now
+            snapshot.now.archive snapshot.now.holds snapshot.now.first snapshot.now.second }
         requires named { R.is_named claims.old.archive self.now.pair.now.archive.now }
-        ensures ran { RanQuietly (IsCarriedOutFor (checkup_of snapshot.now plan.now)
-            R.stand R.Site.content R.Site.failures R.is_at R.Folder.tells R.Folder.lets R.is_named R.has R.finds self.now.pair.now)
+        ensures ran { RanQuietly self.now.command.now (IsCarriedOutFor (checkup_of snapshot.now plan.now)
+            R.stand R.Site.content R.Site.failures R.is_at R.Folder.tells R.Folder.lets R.is_named R.has R.finds R.finds_special self.now.pair.now)
             (O.holds out.old) (O.holds out.new) (E.holds err.old) (E.holds err.new) result }
     {
         let alloc = self.rt.alloc();
@@ -281,7 +300,16 @@ impl<R: Machine> Task<'_, R> {
                 // what can't be found out of mounts is no reason to end
                 let _ = self.add_mounts(alloc, plan, outcome.results(), notices);
                 let notices = notices.as_slice();
-                let told = report_all(alloc, &checked, &outcome, kept, notices, out, err);
+                let told = report_all(
+                    alloc,
+                    self.command,
+                    &checked,
+                    &outcome,
+                    kept,
+                    notices,
+                    out,
+                    err,
+                );
                 Ok(told.unwrap_or(FAILED))
             }
             Err(fault) => {
@@ -313,8 +341,8 @@ impl<R: Machine> Task<'_, R> {
         ensures quiet { IfErr result IsQuiet }
     {
         let Task { rt, pair, .. } = self;
-        save_plan(*rt, alloc, pair.first, plan)?;
-        Ok(save_plan(*rt, alloc, pair.second, plan)?)
+        save_plan(*rt, alloc, pair.first, plan).map_err(|fault| of_disk(fault, Subject::First))?;
+        save_plan(*rt, alloc, pair.second, plan).map_err(|fault| of_disk(fault, Subject::Second))
     }
 
     /// Clears what swaps left in both replicas, and answers for each whether no swap is left to be recovered. What is to be
@@ -333,7 +361,7 @@ impl<R: Machine> Task<'_, R> {
         plan: &Plan,
         results: &[ActionResult],
         notices: &mut Vec<Notice>,
-    ) -> Result<(), PerformFault> {
+    ) -> Result<(), DiskFault> {
         let Task { rt, pair, .. } = self;
         for (action, result) in plan.actions.as_slice().iter().zip(results) {
             if let Kind::Commit { entry } = action.kind

@@ -4,14 +4,14 @@ ghost use Rattle.ts_check.specs.Checkup.{snapshot_of};
 ghost use Rattle.ts_check.specs.Verdict.{IsSafe};
 ghost use Rattle.ts_model.specs.Plans.{Valid};
 ghost use Rattle.ts_model.specs.Texts.{IsPlan};
-ghost use Rattle.ts_perform.specs.Snapshots.{checkup_of, IsPlanned, IsPrintoutOf, IsUnchecked, IsUnplanned, IsVerdict, Prints};
+ghost use Rattle.ts_perform.specs.Snapshots.{checkup_of, IsPlanned, IsPrintoutOf, IsUnchecked, IsUnplanned, Judges, Prints};
 ghost use Rattle.ts_perform.specs.Trials.{IsQuiet};
 
 use crate::acting::replica;
-use crate::answers::write_refusal;
-use crate::fault::PerformFault;
+use crate::fault::{
+    PerformFault, Subject, Why, of_build, of_check, of_plan, on_output, replica_on,
+};
 use crate::lengths::{first_too_long, too_long};
-use crate::performing::REFUSED;
 use std::alloc::Global;
 use std::thread::Threads;
 use ts_check::{Checked, check};
@@ -37,8 +37,10 @@ impl Snapshot {
         ensures planned { IfOk result (λ plan. IsPlanned (checkup_of self.now plan)) }
         ensures fault { IfErr result (IsUnplanned self.now) }
     {
-        let plan = resume(alloc, &self.archive, &self.first, &self.second, &self.holds)?;
-        Ok(plan)
+        match resume(alloc, &self.archive, &self.first, &self.second, &self.holds) {
+            Ok(plan) => Ok(plan),
+            Err(fault) => Err(of_build(fault)),
+        }
     }
 
     /// The plan with the checker's yes.
@@ -59,8 +61,10 @@ impl Snapshot {
             first,
             second,
         } = self;
-        let checked = check(rt, alloc, plan, archive, first, second, holds)?;
-        Ok(checked)
+        match check(rt, alloc, plan, archive, first, second, holds) {
+            Ok(checked) => Ok(checked),
+            Err(fault) => Err(of_check(fault)),
+        }
     }
 
     /// Prints the plan for what is there.
@@ -68,11 +72,15 @@ impl Snapshot {
         ensures { Prints (IsPrintoutOf self.now) (O.holds out.old) (O.holds out.new) result }
     {
         let plan = self.plan(alloc)?;
-        ts_plan::encode(alloc, &plan, out)?;
+        ts_plan::encode(alloc, &plan, out).map_err(|fault| of_plan(
+            fault,
+            Subject::Output,
+            Why::Unwritten,
+        ))?;
         Ok(0)
     }
 
-    /// Prints whether a plan is valid for what is there, or which rule it breaks first, and where.
+    /// Prints that a plan is valid for what is there. One that isn't is refused, by the rule that it breaks first.
     pub(crate) fn print_verdict<O: Sink>(
         &self,
         rt: &(impl Threads + Sync),
@@ -80,18 +88,12 @@ impl Snapshot {
         plan: &Plan,
         out: &mut O,
     ) -> Result<u8, PerformFault>
-        ensures { Prints (IsVerdict (checkup_of self.now plan.now)) (O.holds out.old) (O.holds out.new) result }
+        ensures { Judges (λ k. k ≡ checkup_of self.now plan.now) (O.holds out.old) (O.holds out.new) result }
     {
-        match self.check(rt, alloc, plan) {
-            Ok(_checked) => {
-                write_line(out, b"valid")?;
-                Ok(0)
-            }
-            Err(PerformFault::Broken { rule, place }) => {
-                write_refusal(alloc, rule, place, out)?;
-                Ok(REFUSED)
-            }
-            Err(fault) => Err(fault),
+        let _checked = self.check(rt, alloc, plan)?;
+        match write_line(out, b"valid") {
+            Ok(()) => Ok(0),
+            Err(fault) => Err(on_output(fault)),
         }
     }
 
@@ -108,7 +110,8 @@ impl Snapshot {
             let Some(from) = entry.reason.source() else {
                 continue;
             };
-            let root = replica(pair, from.other()).root;
+            let into = from.other();
+            let root = replica(pair, into).root;
             for print in [&self.first, &self.second] {
                 if let Some(path) = first_too_long(
                     root,
@@ -117,7 +120,7 @@ impl Snapshot {
                     print.sub(&entry.path),
                 ) {
                     return Err(match path.copy(alloc) {
-                        Ok(path) => too_long(path),
+                        Ok(path) => too_long(replica_on(into), path),
                         Err(_) => PerformFault::OutOfMemory,
                     });
                 }

@@ -1,11 +1,16 @@
--- Names as people may see them: a path's text, in which hidden characters are escaped, too.
+-- Names as people may see them: a path's text, or a name as it is, in which hidden characters are escaped.
 --     hidden_length text    how many bytes the hidden character has that the text begins with, or 0
 --     shown left text       the text with each byte of a hidden character as an escape; so many bytes of one are left at its start
-use Rattle.std.specs.Prelude.{ℕ, zero, suc, ◌-◌, ◌/◌, ◌%◌, Bool, ◌&&◌, ◌||◌, ◌==◌, nat_le, nat_lt, if◌then◌else◌, List, [], ◌∷◌, ◌++◌, slice_index_or}
+use Rattle.std.specs.Prelude.{ℕ, zero, suc, ◌-◌, ◌/◌, ◌%◌, Bool, false, ◌&&◌, ◌||◌, ◌==◌, nat_le, nat_lt, if◌then◌else◌, List, [], ◌∷◌, ◌++◌, slice_index_or}
 use Rattle.ts_name.specs.Paths.{upper_hex_digit}
 
 abbrev pub within : ℕ → ℕ → ℕ → Bool
 within low high b = nat_le low b && nat_le b high
+
+-- a control character of one byte
+abbrev pub is_short_control : List ℕ → Bool
+is_short_control [] = false
+is_short_control (b ∷ more) = nat_le b 31 || (b == 127)
 
 -- a control character, U+0080 to U+009F
 abbrev pub is_control : List ℕ → Bool
@@ -18,7 +23,7 @@ is_direction text = (slice_index_or text 0 0 == 226)
     || ((slice_index_or text 1 0 == 129) && within 166 169 (slice_index_or text 2 0)))
 
 abbrev pub hidden_length : List ℕ → ℕ
-hidden_length text = if is_control text then 2 else if is_direction text then 3 else 0
+hidden_length text = if is_short_control text then 1 else if is_control text then 2 else if is_direction text then 3 else 0
 
 abbrev pub byte_escape : ℕ → List ℕ
 byte_escape b = 37 ∷ upper_hex_digit (b / 16) ∷ upper_hex_digit (b % 16) ∷ []

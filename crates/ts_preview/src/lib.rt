@@ -13,5 +13,6 @@ mod writing;
 
 pub use change::{Change, change_between};
 pub use outlook::{Outlook, State, outlook_of, outlooks};
+pub use shown::push_shown;
 pub use totals::{Totals, best_status};
 pub use writing::{Form, write};

@@ -5,9 +5,12 @@ ghost use Rattle.ts_preview.specs.Names.{byte_escape, hidden_length, hidden_left
 
 use std::alloc::AllocError;
 
-/// Appends a path's text with each byte of a hidden character as `%` and two upper-case hex digits. The text has escapes for
-/// control characters of one byte; hidden are those of two bytes, and those that turn the direction of writing.
-pub(crate) fn push_shown(text: &[u8], line: &mut Vec<u8>) -> Result<(), AllocError>
+/// Appends a path's text, or a name as it is, with each byte of a hidden character as `%` and two upper-case hex digits. Hidden
+/// are control characters, and those that turn the direction of writing. A path's text has escapes of its own for those of one
+/// byte.
+///
+/// It fails where memory runs out.
+pub fn push_shown(text: &[u8], line: &mut Vec<u8>) -> Result<(), AllocError>
     ensures { OnOk result (line.new.items ≡ line.old.items ++ shown 0 text.now) }
 {
     let mut left = 0;
@@ -42,6 +45,7 @@ fn hidden_length(text: &[u8]) -> usize
     ensures { result ≡ hidden_length text.now }
 {
     match text {
+        [0..=0x1F | 0x7F, ..] => 1,
         [0xC2, 0x80..=0x9F, ..] => 2,
         [0xE2, 0x80, 0x8E | 0x8F | 0xAA..=0xAE, ..] => 3,
         [0xE2, 0x81, 0xA6..=0xA9, ..] => 3,

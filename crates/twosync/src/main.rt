@@ -8,7 +8,7 @@ ghost use Rattle.twosync.specs.declared.Fault.TheVariants.{Unreported};
 
 use std::alloc::AllocError;
 use std::env;
-use std::io::{self, BufWriter, ErrorKind, Input, Write};
+use std::io::{self, BufWriter, ErrorKind, Input, IsTerminal, Write};
 use std::process::ExitCode;
 use std::rt::Env;
 use ts_text::{Counted, Sink, write_all};
@@ -61,8 +61,13 @@ impl From<AllocError> for Fault {
     }
 }
 
-/// Reads the words and does what they ask for. Answers the exit status.
-fn run<R: Env + Input + Print + Machine, E: Sink>(rt: &R, err: &mut E) -> Result<u8, Fault> {
+/// Reads the words and does what they ask for. Answers the exit status. On a terminal faults are put in words even where that
+/// isn't asked for.
+fn run<R: Env + Input + Print + Machine, E: Sink>(
+    rt: &R,
+    on_terminal: bool,
+    err: &mut E,
+) -> Result<u8, Fault> {
     let words = match env::args(rt) {
         Ok(words) => words,
         Err(e) if e.kind() == ErrorKind::InvalidData => {
@@ -73,7 +78,10 @@ fn run<R: Env + Input + Print + Machine, E: Sink>(rt: &R, err: &mut E) -> Result
     };
     let words: Vec<String> = words.collect(rt.alloc())?;
     match command(rt.alloc(), words.as_slice()) {
-        Ok(command) => answer(rt, &command, err),
+        Ok(mut command) => {
+            command.explain = command.explain || on_terminal;
+            answer(rt, &command, err)
+        }
         Err(CommandFault::OutOfMemory) => Err(Fault::OutOfMemory),
         Err(CommandFault::Usage { message }) => {
             let text = format!(in rt.alloc(); "{message}")?;
@@ -119,8 +127,10 @@ fn is_run_or_sync(job: &Job<'_>) -> bool
 }
 
 fn main(rt: HostRuntime) -> ExitCode {
-    let mut err = Counted::new(rt.stderr());
-    match run(&rt, &mut err) {
+    let err = rt.stderr();
+    let on_terminal = err.is_terminal();
+    let mut err = Counted::new(err);
+    match run(&rt, on_terminal, &mut err) {
         Ok(status) => ExitCode::from(status),
         Err(fault) => {
             let number = fault.number();

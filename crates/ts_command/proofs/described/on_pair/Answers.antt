@@ -14,7 +14,9 @@ returns-clause-shape c =
     let second = rule_step c.in_ok-arg-2.ensures c.place-2.ensures.local _ _ first c.place-2.ensures.rule in
     let third = rule_step c.in_ok-arg-3.ensures c.place-3.ensures.local _ _ second c.place-3.ensures.rule in
     let fourth = rule_step c.in_ok-arg-4.ensures c.holds.ensures.local _ _ third c.holds.ensures.rule in
-    IfOk-weaker c.arg-5.result _ _ (λ r adds. rule_step adds c.workers.ensures.local _ _ fourth c.workers.ensures.rule) c.arg-5.ensures
+    let fifth = rule_step c.in_ok-arg-5.ensures c.hold_special.ensures.local _ _ fourth c.hold_special.ensures.rule in
+    let sixth = rule_step c.in_ok-arg-6.ensures c.workers.ensures.local _ _ fifth c.workers.ensures.rule in
+    IfOk-weaker c.arg-7.result _ _ (λ r adds. rule_step adds c.explain.ensures.local _ _ sixth c.explain.ensures.rule) c.arg-7.ensures
 
 pub returns-clause-local : goal.returns-clause-local
 returns-clause-local c =
@@ -23,4 +25,6 @@ returns-clause-local c =
     let second = local_step c.in_ok-arg-2.ensures c.place-2.ensures.local first in
     let third = local_step c.in_ok-arg-3.ensures c.place-3.ensures.local second in
     let fourth = local_step c.in_ok-arg-4.ensures c.holds.ensures.local third in
-    IfOk-weaker c.arg-5.result _ _ (λ r adds. local_step adds c.workers.ensures.local fourth) c.arg-5.ensures
+    let fifth = local_step c.in_ok-arg-5.ensures c.hold_special.ensures.local fourth in
+    let sixth = local_step c.in_ok-arg-6.ensures c.workers.ensures.local fifth in
+    IfOk-weaker c.arg-7.result _ _ (λ r adds. local_step adds c.explain.ensures.local sixth) c.arg-7.ensures

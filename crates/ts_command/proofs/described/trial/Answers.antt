@@ -6,12 +6,10 @@ use Rattle.ts_command.proofs.described.trial.Goals as goal
 
 pub returns-clause-shape : goal.returns-clause-shape
 returns-clause-shape c =
-    IfOk-weaker c.arg.result _ _
-    (λ r adds. rule_step adds c.workers.ensures.local _ _ (ap app_of_fields c.after_help.ensures ∙ ap app_of_fields c.about.ensures ∙ c.new.ensures.app) c.workers.ensures.rule)
-    c.arg.ensures
+    let worked = rule_step c.in_ok-arg.ensures c.workers.ensures.local _ _ (ap app_of_fields c.after_help.ensures ∙ ap app_of_fields c.about.ensures ∙ c.new.ensures.app) c.workers.ensures.rule in
+    IfOk-weaker c.arg-2.result _ _ (λ r adds. rule_step adds c.explain.ensures.local _ _ worked c.explain.ensures.rule) c.arg-2.ensures
 
 pub returns-clause-local : goal.returns-clause-local
 returns-clause-local c =
-    IfOk-weaker c.arg.result _ _
-    (λ r adds. local_step adds c.workers.ensures.local (ap (λ f. f.has_globals) c.after_help.ensures ∙ ap (λ f. f.has_globals) c.about.ensures ∙ c.new.ensures.local))
-    c.arg.ensures
+    let worked = local_step c.in_ok-arg.ensures c.workers.ensures.local (ap (λ f. f.has_globals) c.after_help.ensures ∙ ap (λ f. f.has_globals) c.about.ensures ∙ c.new.ensures.local) in
+    IfOk-weaker c.arg-2.result _ _ (λ r adds. local_step adds c.explain.ensures.local worked) c.arg-2.ensures

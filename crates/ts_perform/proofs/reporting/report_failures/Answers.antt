@@ -16,10 +16,10 @@ loop-i-preserved g c =
     let within' : i < length results = omega arith in
     let within : i < length plan.actions = omega (arith, c.requires, within') in
     let is : action ≡ get_or plan.actions i action = c.index-actions-i.is ∙ ap (λ (l : List Action). get_or l i action) c.as_slice-actions.ensures in
-    let step = failures_step plan.entries plan.actions results i action ended.Done within within' is in
-    wrote_step (g.E.Sink.holds c.args.err.now) (g.E.Sink.holds c.loop-i.err) (g.E.Sink.holds c.report_failure.new.err) (failure_lines plan.entries plan.actions results)
-    (failure_lines plan.entries (drop i plan.actions) (drop i results)) (failure_line plan.entries action (get_or results i ended.Done))
-    (failure_lines plan.entries (drop (i + 1) plan.actions) (drop (i + 1) results)) step c.loop-i.invariant c.in_ok-report_failure.ensures.told
+    let step = failures_step c.args.explain plan.entries plan.actions results i action ended.Done within within' is in
+    wrote_step (g.E.Sink.holds c.args.err.now) (g.E.Sink.holds c.loop-i.err) (g.E.Sink.holds c.report_failure.new.err) (failure_lines c.args.explain plan.entries plan.actions results)
+    (failure_lines c.args.explain plan.entries (drop i plan.actions) (drop i results)) (failure_line c.args.explain plan.entries action (get_or results i ended.Done))
+    (failure_lines c.args.explain plan.entries (drop (i + 1) plan.actions) (drop (i + 1) results)) step c.loop-i.invariant c.in_ok-report_failure.ensures.told
 
 pub returns-in_err-report_failure : goal.returns-in_err-report_failure
 returns-in_err-report_failure g c =
@@ -31,10 +31,10 @@ returns-in_err-report_failure g c =
     let within' : i < length results = omega arith in
     let within : i < length plan.actions = omega (arith, c.requires, within') in
     let is : action ≡ get_or plan.actions i action = c.index-actions-i.is ∙ ap (λ (l : List Action). get_or l i action) c.as_slice-actions.ensures in
-    let step = failures_step plan.entries plan.actions results i action ended.Done within within' is in
+    let step = failures_step c.args.explain plan.entries plan.actions results i action ended.Done within within' is in
     rw p.1
     (record {
-      told = begun_step (g.E.Sink.holds c.args.err.now) (g.E.Sink.holds c.loop-i.err) (g.E.Sink.holds c.report_failure.new.err) (failure_lines plan.entries plan.actions results)
-          (failure_lines plan.entries (drop i plan.actions) (drop i results)) (failure_line plan.entries action (get_or results i ended.Done))
-          (failure_lines plan.entries (drop (i + 1) plan.actions) (drop (i + 1) results)) step c.loop-i.invariant c.in_err-report_failure.ensures.told;
+      told = begun_step (g.E.Sink.holds c.args.err.now) (g.E.Sink.holds c.loop-i.err) (g.E.Sink.holds c.report_failure.new.err) (failure_lines c.args.explain plan.entries plan.actions results)
+          (failure_lines c.args.explain plan.entries (drop i plan.actions) (drop i results)) (failure_line c.args.explain plan.entries action (get_or results i ended.Done))
+          (failure_lines c.args.explain plan.entries (drop (i + 1) plan.actions) (drop (i + 1) results)) step c.loop-i.invariant c.in_err-report_failure.ensures.told;
     })

@@ -1,7 +1,9 @@
-use Rattle.std.proofs.Common.{◌<◌, ◌∷◌, [], length, arith, refl}
+use Rattle.std.proofs.Common.{◌<◌, length, arith, refl}
 use Rattle.std.proofs.lemmas.Result.{err_from_is_err_and}
 use Rattle.ts_disk.specs.declared.notice.Notice.{Notice}
 use Rattle.ts_tree.proofs.Writing.{begun_item, wrote_item}
+use Rattle.ts_explain.specs.Lines.{with_sentence}
+use Rattle.ts_perform.specs.Failures.{notice_text}
 use Rattle.ts_perform.specs.Runs.{notice_line, notice_lines}
 use Rattle.ts_perform.proofs.reporting.report_notices.Goals as goal
 
@@ -9,16 +11,16 @@ pub loop-i-preserved : goal.loop-i-preserved
 loop-i-preserved g c =
     let notices = c.args.notices.now in
     let within : c.loop-i.i < length notices = omega arith in
-    wrote_item (λ (notice : Notice). notice_line notice ∷ []) notice_lines (λ l more. refl) notices c.loop-i.i c.index-notices-i.result within c.index-notices-i.is
-    (g.E.Sink.holds c.args.err.now) (g.E.Sink.holds c.loop-i.err) (g.E.Sink.holds c.report_notice.new.err) (notice_lines notices) c.loop-i.invariant c.in_ok-report_notice.ensures.told
+    wrote_item (λ (notice : Notice). with_sentence c.args.explain (notice_text notice) (notice_line notice)) (notice_lines c.args.explain) (λ l more. refl) notices c.loop-i.i c.index-notices-i.result within c.index-notices-i.is
+    (g.E.Sink.holds c.args.err.now) (g.E.Sink.holds c.loop-i.err) (g.E.Sink.holds c.write_notice.new.err) (notice_lines c.args.explain notices) c.loop-i.invariant c.in_ok-write_notice.ensures
 
-pub returns-in_err-report_notice : goal.returns-in_err-report_notice
-returns-in_err-report_notice g c =
+pub returns-in_err-write_notice : goal.returns-in_err-write_notice
+returns-in_err-write_notice g c =
     let p = err_from_is_err_and c.from_residual.result c.from_residual.ensures.1 in
     let notices = c.args.notices.now in
     let within : c.loop-i.i < length notices = omega arith in
     rw p.1
     (record {
-      told = begun_item (λ (notice : Notice). notice_line notice ∷ []) notice_lines (λ l more. refl) notices c.loop-i.i c.index-notices-i.result within c.index-notices-i.is
-          (g.E.Sink.holds c.args.err.now) (g.E.Sink.holds c.loop-i.err) (g.E.Sink.holds c.report_notice.new.err) (notice_lines notices) c.loop-i.invariant c.in_err-report_notice.ensures.told;
+      told = begun_item (λ (notice : Notice). with_sentence c.args.explain (notice_text notice) (notice_line notice)) (notice_lines c.args.explain) (λ l more. refl) notices c.loop-i.i c.index-notices-i.result within c.index-notices-i.is
+          (g.E.Sink.holds c.args.err.now) (g.E.Sink.holds c.loop-i.err) (g.E.Sink.holds c.write_notice.new.err) (notice_lines c.args.explain notices) c.loop-i.invariant c.in_err-write_notice.ensures;
     })

@@ -1,4 +1,4 @@
-use Rattle.std.proofs.Common.{◌≤◌, List, ap, arith, length, ◌∙◌}
+use Rattle.std.proofs.Common.{◌≤◌, ap, arith, length, ◌∙◌}
 use Rattle.ts_model.specs.declared.plan.Plan.{Plan}
 use Rattle.ts_perform.proofs.Staged.{all_staged}
 use Rattle.ts_perform.proofs.room.staged_bytes.Goals as goal

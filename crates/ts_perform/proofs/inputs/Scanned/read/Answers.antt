@@ -1,18 +1,11 @@
-use Rattle.std.specs.Prelude.{◌≡◌, IfOk, IfSome}
-use Rattle.std.proofs.Common.{subst}
-use Rattle.ts_model.specs.Trees.{at, print_of}
+use Rattle.std.proofs.Common.{IfOk, subst, sym}
+use Rattle.ts_perform.specs.Stands.{AreScans}
+use Rattle.ts_perform.proofs.Scanning.{both_scanned}
 use Rattle.ts_perform.proofs.inputs.Scanned.read.Goals as goal
 
-pub returns-in-Ok-Ok-clause-scans : goal.returns-in-Ok-Ok-clause-scans
-returns-in-Ok-Ok-clause-scans g c = record {
-  of_first = (
-    _,
-    c.in_ok-first.ensures.at,
-    subst (λ z. IfSome (g.R.Folder.Folder.tells c.in_ok-first.first) (λ tree. IfOk z (λ print. at print ≡ print_of (at tree)))) c.in-Ok-Ok.is-0 c.scan_both-first.ensures.first.0,
-  );
-  of_second = (
-    _,
-    c.in_ok-second.ensures.at,
-    subst (λ z. IfSome (g.R.Folder.Folder.tells c.in_ok-second.second) (λ tree. IfOk z (λ print. at print ≡ print_of (at tree)))) c.in-Ok-Ok.is-1 c.scan_both-first.ensures.second.0,
-  );
-}
+pub returns-clause-scans : goal.returns-clause-scans
+returns-clause-scans g c =
+    let pair = c.args.task.now.pair.now in let is_at = g.R.Disk.is_at in let tells = g.R.Folder.Folder.tells in
+    subst (λ r. IfOk r (λ s. AreScans is_at tells pair c.args.special s.first s.second)) (sym c.of.ensures.scanned)
+    (both_scanned is_at tells pair c.args.special c.in_ok-first.first c.in_ok-second.second c.scan_both-first.result.0 c.scan_both-first.result.1
+    c.in_ok-first.ensures.at c.in_ok-second.ensures.at c.scan_both-first.ensures.first.0 c.scan_both-first.ensures.second.0)

@@ -1,5 +1,4 @@
 use Rattle.std.proofs.Common.{subst}
-use Rattle.std.proofs.lemmas.Result.{err_from_is_err_and}
 use Rattle.ts_model.specs.Texts.{text}
 use Rattle.ts_text.specs.Sources.{AppendsFront}
 use Rattle.ts_preview.specs.Outlooks.{AreOutlooks}
@@ -8,12 +7,11 @@ use Rattle.ts_perform.proofs.Printing.{preview_begun}
 use Rattle.ts_perform.proofs.snapshot.Snapshot.print_outlooks.Goals as goal
 
 -- A beginning of the preview went out.
-pub returns-in_err-write : goal.returns-in_err-write
-returns-in_err-write g c =
-    let p = err_from_is_err_and c.from_residual-in_err-write.result c.from_residual-in_err-write.ensures.1 in
+pub returns : goal.returns
+returns g c =
     let s = c.args.self.now in let plan = c.args.plan.now in let all = c.in_ok-all.all.items in
     let old = g.O.Sink.holds c.args.out.now in let new = g.O.Sink.holds c.write.new.sink in
     let each = subst (λ entries. AreOutlooks s.archive s.first s.second entries all) c.as_slice-entries.ensures c.in_ok-all.ensures in
-    let given = subst (λ l. AppendsFront old new (text (preview_lines c.form_of.result l))) c.deref.ensures.value c.in_err-write.ensures in
+    let given = subst (λ l. AppendsFront old new (text (preview_lines c.form_of.result l))) c.deref.ensures.value c.in-Err.ensures in
     let begun = subst (λ f. AppendsFront old new (text (preview_lines f all))) c.form_of.ensures given in
-    rw (p.1, p.2) (preview_begun s plan c.args.json all old new _ c.requires each begun)
+    rw c.on_output.ensures (preview_begun s plan c.args.json all old new c.in-Err.fault c.requires each begun)

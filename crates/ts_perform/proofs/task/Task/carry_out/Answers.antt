@@ -6,7 +6,7 @@ use Rattle.ts_check.specs.Verdict.{IsSafe}
 use Rattle.ts_model.specs.Plans.{Valid}
 use Rattle.ts_perform.specs.Runs.{Came, lost_by}
 use Rattle.ts_perform.specs.Snapshots.{checkup_of}
-use Rattle.ts_perform.proofs.Reported.{kept_in, quiet_right, reported, unchecked_right}
+use Rattle.ts_perform.proofs.Reported.{kept_in, reported, unchecked_right}
 use Rattle.ts_perform.proofs.task.Task.carry_out.Goals as goal
 
 pub returns-in-Ok : goal.returns-in-Ok
@@ -20,8 +20,7 @@ returns-in-Ok g c =
         record {
           checkup = same;
           carried_out = record {
-            scans = rw same c.requires.scans;
-            read = rw same c.requires.read;
+            seen = rw same c.requires.seen;
             valid = subst (λ (k : Checkup). Valid (snapshot_of k) k.plan) (sym same) c.in_ok-checked.ensures.valid;
             safe = subst (λ (k : Checkup). IsSafe (snapshot_of k) k.plan) (sym same) c.in_ok-checked.ensures.safe;
             words = words;
@@ -31,7 +30,7 @@ returns-in-Ok g c =
                 (c.keep_archive-kept.ensures.named c.args.self.now.pair.now.archive.now c.requires.named) c.keep_archive-kept.ensures.kept;
           };
         },
-        reported came (g.O.Sink.holds c.args.out.now) (g.O.Sink.holds c.report_all-told.new.out) (g.E.Sink.holds c.args.err.now) (g.E.Sink.holds c.report_all-told.new.err) c.report_all-told.result c.unwrap_or.result
+        reported c.args.self.now.command.now came (g.O.Sink.holds c.args.out.now) (g.O.Sink.holds c.report_all-told.new.out) (g.E.Sink.holds c.args.err.now) (g.E.Sink.holds c.report_all-told.new.err) c.report_all-told.result c.unwrap_or.result
             c.report_all-told.ensures.report c.report_all-told.ensures.faults c.report_all-told.ensures.status c.unwrap_or.ensures,
       );
     }

@@ -7,7 +7,7 @@ use Rattle.ts_perform.proofs.task.Task.run_claimed.Goals as goal
 
 pub returns : goal.returns
 returns g c = record {
-  ran = ran_less _ _ (g.O.Sink.holds c.args.out.now) (g.O.Sink.holds c.carry_out.new.out)
+  ran = ran_less c.args.self.now.command.now _ _ (g.O.Sink.holds c.args.out.now) (g.O.Sink.holds c.carry_out.new.out)
       (g.E.Sink.holds c.args.err.now) (g.E.Sink.holds c.carry_out.new.err) c.carry_out.result
       (λ came is. record {
         plan = subst (λ (k : Checkup). IsReadAt g.R.Disk.finds IsPlanText c.args.plan.now k.plan) (sym is.checkup) c.in_ok-snapshot.ensures.plan;

@@ -1,4 +1,4 @@
-use Rattle.std.proofs.Common.{◌≡◌, [], IsTrue, subst, sym}
+use Rattle.std.proofs.Common.{◌≡◌, [], subst, sym}
 use Rattle.ts_check.specs.Checkup.{Checkup}
 use Rattle.ts_perform.specs.Snapshots.{IsPlanned}
 use Rattle.ts_perform.proofs.Reported.{ran_less}
@@ -6,7 +6,7 @@ use Rattle.ts_perform.proofs.task.Task.sync_claimed.Goals as goal
 
 pub returns : goal.returns
 returns g c = record {
-  ran = ran_less _ _ (g.O.Sink.holds c.args.out.now) (g.O.Sink.holds c.carry_out.new.out)
+  ran = ran_less c.args.self.now.command.now _ _ (g.O.Sink.holds c.args.out.now) (g.O.Sink.holds c.carry_out.new.out)
       (g.E.Sink.holds c.args.err.now) (g.E.Sink.holds c.carry_out.new.err) c.carry_out.result
       (λ came is. record {
         planned = subst IsPlanned (sym is.checkup) c.in_ok-plan.ensures.planned;
@@ -15,8 +15,8 @@ returns g c = record {
           second = c.args.claims.now.second;
           locked_first = c.requires.first;
           locked_second = c.requires.second;
-          one = c.is_one_new.result;
-          says = c.is_one_new.ensures;
+          one = c.is_one_new-is_one_new.result;
+          says = c.is_one_new-is_one_new.ensures;
           empty = λ one. subst (λ (k : Checkup). k.archive ≡ []) (sym is.checkup) (c.in_ok-snapshot.ensures.both one);
         };
         carried_out = is.carried_out;

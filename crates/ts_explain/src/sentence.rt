@@ -1,0 +1,223 @@
+//! What a fault means, in a sentence that names what it is about.
+ghost use Rattle.std.specs.Prelude.{◌≡◌, ◌++◌, OnOk};
+ghost use Rattle.ts_explain.specs.Sentences.{about, bad_line_text, bad_rule_text, broken_text, missing_text, new_text, refusal_text, scan_text, sentence_of, unreadable_text};
+
+use crate::fault::PerformFault;
+use crate::pieces::{Piece, push_pieces};
+use crate::rules::rule_text;
+use crate::subject::Subject;
+use std::alloc::{AllocError, Global};
+use ts_command::Job;
+use ts_model::plan::PlanRule;
+use ts_scan::{Refusal, ScanFault};
+
+/// How many lines a file of hold rules has at most.
+const MOST_RULES: u64 = 4096;
+
+const MEMORY: &[u8] = b"Memory ran out.";
+
+const OWN: &[u8] = b"/.twosync can't be made or used: who owns it?";
+
+const MALFORMED: &[u8] = b" is malformed: was it cut short, or changed by hand?";
+
+const WRONG_END: &[u8] =
+    b" was cut short, or changed by hand: its last line doesn't fit those before it.";
+
+const DEVICE: &[u8] = b": its device failed, or what a stopped run left can't be finished.";
+
+const LOCKED: &[u8] = b" is in use by another run.";
+
+const PAST_LIMIT: &[u8] = b" has more entries, actions or predecessors than a plan may have.";
+
+const TOO_MANY_LINES: &[u8] = b" has more than 4,096 lines.";
+
+const TOO_MUCH: &[u8] = b"Too much differs for one plan, which has at most 1,048,576 entries.";
+
+/// Appends the sentence of a fault of this job.
+///
+/// It fails where memory runs out.
+pub fn push_sentence(
+    alloc: Global,
+    job: &Job<'_>,
+    fault: &PerformFault,
+    line: &mut Vec<u8>,
+) -> Result<(), AllocError>
+    ensures { OnOk result (line.new.items ≡ line.old.items ++ sentence_of job.now fault.now) }
+{
+    match fault {
+        PerformFault::OutOfMemory => line.extend_from_slice(MEMORY),
+        PerformFault::Failed { what, why } => push_about(alloc, job, *what, why.text(), line),
+        PerformFault::Own { what } => push_about(alloc, job, *what, OWN, line),
+        PerformFault::NotCanonical { what } => push_about(alloc, job, *what, MALFORMED, line),
+        PerformFault::WrongEnd => push_about(alloc, job, Subject::Archive, WRONG_END, line),
+        PerformFault::Device { what } => push_about(alloc, job, *what, DEVICE, line),
+        PerformFault::Locked { what } => push_about(alloc, job, *what, LOCKED, line),
+        PerformFault::NotThere { what } => push_about(alloc, job, *what, missing_text(*what), line),
+        PerformFault::New { what, paths } => push_new(alloc, job, *what, *paths, line),
+        PerformFault::BadRule { line: at } => push_bad_rule(alloc, job, *at, line),
+        PerformFault::PastLimit => push_about(alloc, job, Subject::Plan, PAST_LIMIT, line),
+        PerformFault::TooMuch => push_pieces(alloc, &[Piece::Words(TOO_MUCH)], line),
+        PerformFault::Broken { rule, place } => push_broken(alloc, job, *rule, *place, line),
+        PerformFault::Scan { what, fault } => push_scan(alloc, job, *what, fault, line),
+    }
+}
+
+/// Appends what is said of a file or a folder, after its name.
+fn push_about(
+    alloc: Global,
+    job: &Job<'_>,
+    what: Subject,
+    end: &[u8],
+    line: &mut Vec<u8>,
+) -> Result<(), AllocError>
+    ensures { OnOk result (line.new.items ≡ line.old.items ++ about job.now what end.now) }
+{
+    let pieces = [
+        Piece::Words(what.noun()),
+        Piece::Name(what.name_in(job)),
+        Piece::Words(end),
+    ];
+    push_pieces(alloc, &pieces, line)
+}
+
+/// What is said of something that isn't there.
+fn missing_text(what: Subject) -> &'static [u8]
+    ensures { result.now ≡ missing_text what }
+{
+    match what {
+        Subject::Archive => b" isn't there: `show` needs one that exists.",
+        Subject::Holds | Subject::Plan => b" isn't there.",
+        Subject::Folder | Subject::First | Subject::Second | Subject::Stream | Subject::Output => {
+            b" isn't there any more: is its disk still mounted?"
+        }
+    }
+}
+
+/// Appends what is said of a replica that never took part in a run, though the archive names so many paths.
+fn push_new(
+    alloc: Global,
+    job: &Job<'_>,
+    what: Subject,
+    paths: usize,
+    line: &mut Vec<u8>,
+) -> Result<(), AllocError>
+    ensures { OnOk result (line.new.items ≡ line.old.items ++ new_text job.now what paths) }
+{
+    let pieces = [
+        Piece::Words(what.noun()),
+        Piece::Name(what.name_in(job)),
+        Piece::Words(b" never took part in a run, but the archive "),
+        Piece::Name(Subject::Archive.name_in(job)),
+        Piece::Words(b" names "),
+        Piece::Number(paths as u64),
+        Piece::Words(b" paths: is its disk mounted?"),
+    ];
+    push_pieces(alloc, &pieces, line)
+}
+
+/// Appends what is said of the line of this number in a file of hold rules.
+fn push_bad_rule(
+    alloc: Global,
+    job: &Job<'_>,
+    at: u64,
+    line: &mut Vec<u8>,
+) -> Result<(), AllocError>
+    ensures { OnOk result (line.new.items ≡ line.old.items ++ bad_rule_text job.now at) }
+{
+    if at > MOST_RULES {
+        push_about(alloc, job, Subject::Holds, TOO_MANY_LINES, line)
+    } else {
+        push_bad_line(alloc, job, at, line)
+    }
+}
+
+/// Appends what is said of a line that is malformed.
+fn push_bad_line(
+    alloc: Global,
+    job: &Job<'_>,
+    at: u64,
+    line: &mut Vec<u8>,
+) -> Result<(), AllocError>
+    ensures { OnOk result (line.new.items ≡ line.old.items ++ bad_line_text job.now at) }
+{
+    let pieces = [
+        Piece::Words(b"Line "),
+        Piece::Number(at),
+        Piece::Words(b" of "),
+        Piece::Name(Subject::Holds.name_in(job)),
+        Piece::Words(b" is malformed: write `path /A/PATH` or `name PATTERN`, and a line feed."),
+    ];
+    push_pieces(alloc, &pieces, line)
+}
+
+/// Appends what is said of a plan that breaks this rule, and here.
+fn push_broken(
+    alloc: Global,
+    job: &Job<'_>,
+    rule: PlanRule,
+    place: u64,
+    line: &mut Vec<u8>,
+) -> Result<(), AllocError>
+    ensures { OnOk result (line.new.items ≡ line.old.items ++ broken_text job.now rule place) }
+{
+    let pieces = [
+        Piece::Words(Subject::Plan.noun()),
+        Piece::Name(Subject::Plan.name_in(job)),
+        Piece::Words(b" isn't valid for what is there: "),
+        Piece::Words(rule_text(rule)),
+        Piece::Number(place),
+        Piece::Words(b")."),
+    ];
+    push_pieces(alloc, &pieces, line)
+}
+
+/// Appends what is said of a path that can't be scanned.
+fn push_scan(
+    alloc: Global,
+    job: &Job<'_>,
+    what: Subject,
+    fault: &ScanFault,
+    line: &mut Vec<u8>,
+) -> Result<(), AllocError>
+    ensures { OnOk result (line.new.items ≡ line.old.items ++ scan_text job.now what fault.now) }
+{
+    match fault {
+        ScanFault::OutOfMemory => line.extend_from_slice(MEMORY),
+        ScanFault::At { path, fault } => {
+            let pieces = [
+                Piece::Words(what.noun()),
+                Piece::Name(what.name_in(job)),
+                Piece::Below(path),
+                Piece::Words(refusal_text(what, *fault, path.is_root())),
+            ];
+            push_pieces(alloc, &pieces, line)
+        }
+    }
+}
+
+/// What is said of something in a folder that can't be scanned, or of the folder itself.
+fn refusal_text(what: Subject, refusal: Refusal, is_root: bool) -> &'static [u8]
+    ensures { result.now ≡ refusal_text what refusal is_root }
+{
+    match refusal {
+        Refusal::TooLong => b" is too long or too deep, or something in it.",
+        Refusal::Device => b": the device failed.",
+        Refusal::NotThere if is_root => b" isn't there.",
+        Refusal::NotThere => b" isn't there any more: it went away while it was read.",
+        Refusal::Unreadable => unreadable_text(what),
+    }
+}
+
+/// What is said of a folder in which something is that can't be synchronized. Commands on a pair can leave it alone.
+fn unreadable_text(what: Subject) -> &'static [u8]
+    ensures { result.now ≡ unreadable_text what }
+{
+    match what {
+        Subject::Folder => {
+            b": something in it is neither a file nor a folder or has a name that isn't UTF-8, or it can't be read."
+        }
+        _ => {
+            b": something in it is neither a file nor a folder or has a name that isn't UTF-8, or it can't be read. It can be left alone with --hold-special."
+        }
+    }
+}

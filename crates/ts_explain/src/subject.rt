@@ -1,0 +1,114 @@
+//! What a fault is about.
+ghost use Rattle.std.specs.Prelude.{◌≡◌};
+ghost use Rattle.ts_explain.specs.Subjects.{name_in, name_of, name_of_archive, name_of_folder, noun, reason_text};
+
+use ts_command::{Job, Pair};
+
+/// A file or a folder that a command names, or what it reads or writes otherwise.
+#[derive(Clone, Copy, Debug, PartialEq, Eq, Drop)]
+pub enum Subject {
+    /// The folder that is scanned.
+    Folder,
+    First,
+    Second,
+    Archive,
+    Holds,
+    Plan,
+    /// Standard input, from which a bundle is read, or standard output.
+    Stream,
+    Output,
+}
+
+/// Why a file or a folder can't be read or written.
+#[derive(Clone, Copy, Debug, PartialEq, Eq, Drop)]
+pub enum Why {
+    /// The system doesn't allow it.
+    Denied,
+    /// It is a directory, a device or a pipe.
+    NotFile,
+    /// It can't be read, for another reason.
+    Unread,
+    /// It can't be written.
+    Unwritten,
+}
+
+impl Subject {
+    /// What stands before its name.
+    pub(crate) fn noun(self) -> &'static [u8]
+        ensures { result.now ≡ noun self }
+    {
+        match self {
+            Subject::Folder | Subject::First | Subject::Second => b"",
+            Subject::Archive => b"The archive ",
+            Subject::Holds => b"The file of hold rules ",
+            Subject::Plan => b"The plan ",
+            Subject::Stream => b"Standard input or output",
+            Subject::Output => b"Standard output",
+        }
+    }
+
+    /// Its name in a command. What the command doesn't name has none.
+    pub(crate) fn name_in<'a>(self, job: &Job<'a>) -> &'a str
+        ensures { result.now ≡ name_in job.now self }
+    {
+        match job {
+            Job::Scan { folder } => self.name_of_folder(folder),
+            Job::Show { archive } => self.name_of_archive(archive),
+            Job::Plan { pair } | Job::Preview { pair, .. } | Job::Sync { pair } => {
+                self.name_of(pair, "")
+            }
+            Job::Check { pair, plan } | Job::Run { pair, plan } => self.name_of(pair, plan),
+            Job::Tell { .. } | Job::Trial => "",
+        }
+    }
+
+    /// Its name, where this folder is all that a command names.
+    fn name_of_folder<'a>(self, folder: &'a str) -> &'a str
+        ensures { result.now ≡ name_of_folder folder.now self }
+    {
+        match self {
+            Subject::Folder => folder,
+            _ => "",
+        }
+    }
+
+    /// Its name, where this archive is all that a command names.
+    fn name_of_archive<'a>(self, archive: &'a str) -> &'a str
+        ensures { result.now ≡ name_of_archive archive.now self }
+    {
+        match self {
+            Subject::Archive => archive,
+            _ => "",
+        }
+    }
+
+    /// Its name, where a command works on this pair, with this plan.
+    fn name_of<'a>(self, pair: &Pair<'a>, plan: &'a str) -> &'a str
+        ensures { result.now ≡ name_of pair.now plan.now self }
+    {
+        match self {
+            Subject::First => pair.first,
+            Subject::Second => pair.second,
+            Subject::Archive => pair.archive,
+            Subject::Holds => pair.holds.unwrap_or(""),
+            Subject::Plan => plan,
+            Subject::Folder | Subject::Stream | Subject::Output => "",
+        }
+    }
+}
+
+impl Why {
+    /// What is said of it after the name.
+    pub(crate) fn text(self) -> &'static [u8]
+        ensures { result.now ≡ reason_text self }
+    {
+        match self {
+            Why::Denied => b" can't be opened: the system doesn't allow it.",
+            Why::NotFile => b" isn't a file.",
+            Why::Unread => b" can't be read.",
+            Why::Unwritten => {
+                b" can't be written: is its disk full or read-only, or its folder not there?"
+            }
+        }
+    }
+}

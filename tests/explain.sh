@@ -1,0 +1,216 @@
+#!/usr/bin/env bash
+# Provokes most faults that a command may be refused by, and one that a run reports, and looks at its sentence and its line on
+# standard error: both with --explain, the line alone without it, and both again on a terminal. What stands on standard output
+# and the exit status are the same each time. Then names with characters that must not reach a terminal.
+# usage: tests/explain.sh [PROGRAM]
+set -u
+cd "$(dirname "$0")/.." || exit 1
+. tests/cases.sh
+UNREAD=": something in it is neither a file nor a folder or has a name that isn't UTF-8, or it can't be read."
+ALONE=' It can be left alone with --hold-special.'
+
+# told NAME STATUS OUT SENTENCE LINE WORDS..: these words print this line on standard error, and with --explain the sentence
+# before it
+told() {
+  local name=$1 status=$2 out=$3 sentence=$4 line=$5
+  shift 5
+  expect "$name" "$status" "$out" "$line" "$@"
+  expect "$name, explained" "$status" "$out" "$sentence"$'\n'"$line" "$@" --explain
+}
+
+# ---- files that aren't there, or aren't what they should be
+fresh
+printf a >first/a
+told 'no archive to show' 3 '' "The archive notes.archive isn't there: \`show\` needs one that exists." 'twosync: fault 9' show notes.archive
+told 'no hold rules' 3 '' "The file of hold rules my.rules isn't there." 'twosync: fault 9' plan first second archive --holds my.rules
+told 'no plan' 3 '' "The plan my.plan isn't there." 'twosync: fault 9' run first second archive my.plan
+told 'no plan to check' 3 '' "The plan my.plan isn't there." 'twosync: fault 9' check first second archive my.plan
+told 'no first folder' 3 '' "sticks/one isn't there." 'twosync: fault 9' plan sticks/one second archive
+told 'no second folder' 3 '' "sticks/two isn't there." 'twosync: fault 9' plan first sticks/two archive
+told 'no folder to scan' 3 '' "sticks/two isn't there." 'twosync: fault 9' scan sticks/two
+told 'a folder as archive' 3 '' "The archive first isn't a file." 'twosync: fault 5' show first
+told 'a folder as hold rules' 3 '' "The file of hold rules second isn't a file." 'twosync: fault 5' sync first second archive --holds second
+told 'a folder as plan' 3 '' "The plan second isn't a file." 'twosync: fault 5' check first second archive second
+archive_of "f /a 1 $SA" >kept
+head -c 80 kept >cut
+MALFORMED=" is malformed: was it cut short, or changed by hand?"
+told 'a cut archive' 3 '' "The archive cut$MALFORMED" 'twosync: fault 6' sync first second cut
+sed 's/^f .a 1/f \/a 2/' kept >changed
+told 'a changed archive' 3 '' "The archive changed was cut short, or changed by hand: its last line doesn't fit those before it." \
+  'twosync: fault 7' show changed
+"$program" plan first second archive >plan
+head -c 40 plan >half
+told 'half a plan' 3 '' "The plan half$MALFORMED" 'twosync: fault 6' check first second archive half
+
+# ---- hold rules
+printf 'path /a\nname *.o\nnam x\n' >my.rules
+FORM=' is malformed: write `path /A/PATH` or `name PATTERN`, and a line feed.'
+told 'a bad rule' 3 '' "Line 3 of my.rules$FORM" 'twosync: fault 11' plan first second archive --holds my.rules
+printf 'path /a' >my.rules
+told 'a rule without its end' 3 '' "Line 1 of my.rules$FORM" 'twosync: fault 11' plan first second archive --holds my.rules
+seq -f 'path /p%.0f' 4097 >my.rules
+told 'a rule too many' 3 '' 'The file of hold rules my.rules has more than 4,096 lines.' 'twosync: fault 11' plan first second archive --holds my.rules
+
+# ---- a disk that isn't mounted
+fresh
+printf a >first/a
+mkdir first/d
+"$program" "${sync[@]}" >out
+rm -r second
+mkdir second
+told 'a replica that is new' 3 '' 'second never took part in a run, but the archive archive names 2 paths: is its disk mounted?' 'twosync: fault 9' "${sync[@]}"
+told 'the other one is new' 3 '' 'second never took part in a run, but the archive archive names 2 paths: is its disk mounted?' 'twosync: fault 9' sync second first archive
+
+# ---- plans that aren't valid; the line that refuses them stands on standard output
+fresh
+printf a >first/a
+printf b >first/b
+"$program" plan first second archive >plan
+INVALID="The plan plan isn't valid for what is there: "
+# broken NAME RULE PLACE SENTENCE: the plan in `plan` breaks this rule, for `check` and for `run`
+broken() {
+  local command
+  for command in check run; do
+    expect "$1: $command" 3 "refused $2 $3" '' "$command" first second archive plan
+    expect "$1: $command, explained" 3 "refused $2 $3" "$INVALID$4" "$command" first second archive plan --explain
+  done
+}
+expect 'a valid plan' 0 valid '' check first second archive plan --explain
+cp plan whole
+rm first/a
+broken 'nothing is to be done' 3 0 'nothing is to be done at a path, or something else (entry 0).'
+printf a >first/a
+printf c >first/c
+broken 'a path is left out' 4 2 'a path that differs is left out (before entry 2).'
+rm first/c
+
+# ---- what can't be scanned
+fresh
+mkdir first/d
+mkfifo first/d/p
+told 'a fifo' 3 '' "first/d$UNREAD$ALONE" 'twosync: fault 10 /d' "${sync[@]}"
+told 'a fifo in the other folder' 3 '' "first/d$UNREAD$ALONE" 'twosync: fault 10 /d' plan second first archive
+told 'a fifo in the folder itself' 3 '' "first/d$UNREAD$ALONE" 'twosync: fault 10' sync first/d second archive
+told 'a fifo where a folder is scanned' 3 '' "first/d$UNREAD" 'twosync: fault 10 /d' scan first
+rm first/d/p
+name=$(printf 'n%.0s' {1..250})
+(cd first && for _ in {1..17}; do mkdir "$name" && cd "$name" || exit 1; done)
+"$program" scan first >out 2>err
+holds_true 'a path that is too long is fault 4' grep -q '^twosync: fault 4' err
+"$program" scan first --explain >out 2>err
+holds_true 'a path that is too long, explained' grep -q "^first/.* is too long or too deep, or something in it\.$" err
+rm -r first
+
+# ---- another run
+fresh
+printf a >first/a
+mkdir -p first/.twosync second/.twosync
+chmod 700 first/.twosync second/.twosync
+# held FILE WORDS..: runs the program with these words while another one holds the lock on this file
+held() {
+  local file=$1
+  shift
+  flock -x "$file" "$@"
+}
+if command -v flock >/dev/null; then
+  before=(held second/.twosync/lock)
+  told 'the second folder is in use' 3 '' 'second is in use by another run.' 'twosync: fault 8' "${sync[@]}"
+  mkdir -p second/.twosync
+  mkdir -p first/.twosync && chmod 700 first/.twosync second/.twosync
+  before=(held first/.twosync/lock)
+  told 'the first folder is in use' 3 '' 'first is in use by another run.' 'twosync: fault 8' "${sync[@]}"
+  archive_of '' >archive.new
+  before=(held archive.new)
+  told 'the archive is in use' 3 '' 'The archive archive is in use by another run.' 'twosync: fault 8' "${sync[@]}"
+  before=()
+  rm archive.new
+else
+  echo 'skipped: there is no flock, so what another run holds is not tried'
+fi
+
+# ---- what lies in .twosync that no plan explains
+fresh
+mkdir -m 700 second/.twosync
+printf x >second/.twosync/old-0
+told 'what a stopped run left' 3 '' "second: its device failed, or what a stopped run left can't be finished." 'twosync: fault 8' "${sync[@]}"
+
+# ---- what must not be read or written; who may do everything runs this part as nobody
+if may_be_refused; then
+  mkdir open
+  chmod 777 open
+  cd open || exit 1
+  own() { "${as[@]}" bash -c "$1"; }
+  own 'mkdir first second closed shut && printf a >first/a && printf x >secret && chmod 000 secret && chmod 555 closed shut'
+  before=("${as[@]}")
+  told 'an archive that must not be read' 3 '' "The archive secret can't be opened: the system doesn't allow it." 'twosync: fault 5' show secret
+  told 'a plan that must not be read' 3 '' "The plan secret can't be opened: the system doesn't allow it." 'twosync: fault 5' check first second archive secret
+  told 'a folder that must not be written' 3 '' "closed/.twosync can't be made or used: who owns it?" 'twosync: fault 5 /.twosync' sync first closed archive
+  told 'it is the first one' 3 '' "closed/.twosync can't be made or used: who owns it?" 'twosync: fault 5 /.twosync' sync closed first archive
+  told 'an archive that must not be written' 3 '' \
+    "The archive shut/archive can't be written: is its disk full or read-only, or its folder not there?" 'twosync: fault 5' sync first second shut/archive
+  own 'chmod 755 shut && mkdir second/d first/d && printf a >first/d/x && chmod 555 second/d'
+  "${as[@]}" "$program" sync first second archive >../out 2>../err
+  holds_true 'a file that must not be written, by its line' test "$(cat ../err)" = 'twosync: fault 8 /d/x'
+  "${as[@]}" "$program" sync first second archive --explain >../out 2>../err
+  holds_true 'and in words' test "$(cat ../err)" = "/d/x isn't synchronized: the device failed, or nothing can be written there."$'\n''twosync: fault 8 /d/x'
+  before=()
+  cd ..
+else
+  echo 'skipped: no other user to run as, so what must not be read or written is not tried'
+fi
+
+# ---- output that can't be written
+if [ -e /dev/full ]; then
+  fresh
+  archive_of "f /a 1 $SA" >archive
+  "$program" show archive >/dev/full 2>err
+  plain=$(cat err)
+  "$program" show archive --explain >/dev/full 2>err
+  holds_true 'a full disk at standard output: its line' test "$plain" = 'twosync: fault 5'
+  holds_true 'the line is the same where it is explained' test "$(tail -n 1 err)" = 'twosync: fault 5'
+fi
+
+# ---- names that must not reach a terminal as they are
+fresh
+control=$'an\001archive\177\n'
+told 'control characters in a name' 3 '' "The archive an%01archive%7F%0A isn't there: \`show\` needs one that exists." 'twosync: fault 9' show "$control"
+direction=$'a\u202eb\u2066c\u200ed\u0085e'
+told 'marks that turn the direction of writing' 3 '' \
+  "The archive a%E2%80%AEb%E2%81%A6c%E2%80%8Ed%C2%85e isn't there: \`show\` needs one that exists." 'twosync: fault 9' show "$direction"
+mkdir "first/x"$'\u202e'"y"$'\001'
+mkfifo "first/x"$'\u202e'"y"$'\001/p'
+expect 'such a path, explained' 3 '' "first/x%E2%80%AEy%01$UNREAD$ALONE
+twosync: fault 10 /x"$'\u202e'"y%01" "${sync[@]}" --explain
+
+# ---- on a terminal, and without one
+cat >on_terminal.py <<'P'
+"""Runs a program whose standard error is a terminal, prints what it wrote there, and ends with its status."""
+import os, pty, sys
+ours, theirs = pty.openpty()
+pid = os.fork()
+if pid == 0:
+    os.dup2(theirs, 2)
+    os.close(ours)
+    os.close(theirs)
+    os.execv(sys.argv[1], sys.argv[1:])
+os.close(theirs)
+said = b""
+while True:
+    try:
+        piece = os.read(ours, 65536)
+    except OSError:
+        break
+    if not piece:
+        break
+    said += piece
+sys.stdout.buffer.write(said.replace(b"\r\n", b"\n"))
+sys.exit(os.waitstatus_to_exitcode(os.waitpid(pid, 0)[1]))
+P
+python3 on_terminal.py "$program" show notes.archive >said
+status=$?
+holds_true 'a terminal gets the sentence' test "$(cat said)" = "The archive notes.archive isn't there: \`show\` needs one that exists."$'\n''twosync: fault 9'
+holds_true 'the status is the same' test "$status" = 3
+python3 on_terminal.py "$program" show notes.archive --explain >said
+holds_true 'a terminal gets it once' test "$(wc -l <said)" = 2
+expect 'a file gets the line alone' 3 '' 'twosync: fault 9' show notes.archive
+ended explain
