@@ -25,20 +25,48 @@ const DEPTH: u32 = 60;
 const PIECE: u64 = 1_048_576;
 
 /// The prints of both replicas, and a plan for them over an empty archive.
-#[derive(Drop)]
 struct Work {
     first: ts_print::Print,
     second: ts_print::Print,
     plan: Plan,
 }
 
+/// Written out, so that a proof of what drops one stays short.
+impl Drop for Work {
+    fn drop(self) {
+        let Work {
+            first,
+            second,
+            plan,
+        } = self;
+        drop(first);
+        drop(second);
+        drop(plan);
+    }
+}
+
 /// A print that is read line by line, and a plan that grows with it.
-#[derive(Drop)]
 struct Draft {
     first: PrintReader,
     second: PrintReader,
     entries: Vec<Entry>,
     actions: Vec<Action>,
+}
+
+/// Written out, so that a proof of what drops one stays short.
+impl Drop for Draft {
+    fn drop(self) {
+        let Draft {
+            first,
+            second,
+            entries,
+            actions,
+        } = self;
+        drop(first);
+        drop(second);
+        drop(entries);
+        drop(actions);
+    }
 }
 
 impl Draft {

@@ -101,12 +101,27 @@ fn rules_of(alloc: Global, rules: u32, kind: Option<RuleKind>) -> Result<Holds> 
 }
 
 /// What a plan is made for.
-#[derive(Drop)]
 struct Case {
     archive: ts_print::Print,
     first: ts_print::Print,
     second: ts_print::Print,
     holds: Holds,
+}
+
+/// Written out, so that a proof of what drops one stays short.
+impl Drop for Case {
+    fn drop(self) {
+        let Case {
+            archive,
+            first,
+            second,
+            holds,
+        } = self;
+        drop(archive);
+        drop(first);
+        drop(second);
+        drop(holds);
+    }
 }
 
 fn case_of(alloc: Global, paths: u32, rules: u32, kind: Option<RuleKind>) -> Result<Case> {

@@ -16,9 +16,16 @@ use ts_print::{Print, PrintReader};
 use ts_tree::{Tree, TreeReader};
 
 /// Takes the lines of a bundle one after another, and gives the bundle.
-#[derive(Drop)]
 pub struct BundleReader {
     part: Part,
+}
+
+/// Written out: a proof of what drops a reader then leaves the reader's parts alone.
+impl Drop for BundleReader {
+    fn drop(self) {
+        let BundleReader { part } = self;
+        drop(part);
+    }
 }
 
 /// The part that the next line belongs to, and the parts before it.

@@ -25,7 +25,6 @@ use ts_model::plan::{Plan, Side};
 use ts_print::{Print, Staged, SubPrint};
 
 /// A plan that is valid for what it was checked against. Its answers take no memory, but for `staged`.
-#[derive(Drop)]
 pub struct Checked<'a> {
     plan: &'a Plan,
     archive: &'a Print,
@@ -38,6 +37,25 @@ pub struct Checked<'a> {
     pieces: Lists,
     /// The actions that wait for each action.
     successors: Lists,
+}
+
+/// Written out, so that a proof of what drops one stays short.
+impl Drop for Checked<'_> {
+    fn drop(self) {
+        let Checked {
+            commits,
+            pieces,
+            successors,
+            plan: _,
+            archive: _,
+            first: _,
+            second: _,
+            holds: _,
+        } = self;
+        drop(commits);
+        drop(pieces);
+        drop(successors);
+    }
 }
 
 impl<'a> Model for Checked<'a> {

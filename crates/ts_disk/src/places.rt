@@ -31,7 +31,6 @@ const NAMES_TRIED: u32 = 1_000_000;
 ///
 /// No link below the root is followed: before each call it is looked at what stands above its places. Where somebody puts a
 /// link there between the look and a rename, a look after it notices that, and what was moved goes back.
-#[derive(Drop)]
 pub struct DiskPlaces<R> {
     pub(crate) files: R,
     root: usize,
@@ -43,6 +42,28 @@ pub struct DiskPlaces<R> {
     failures: u64,
     // something couldn't be removed, and was put out of the way
     has_trash: bool,
+}
+
+/// Written out, so that a proof of what drops one stays short.
+impl<R: Drop> Drop for DiskPlaces<R> {
+    fn drop(self) {
+        let DiskPlaces {
+            files,
+            own,
+            at_target,
+            at_new,
+            at_old,
+            root: _,
+            entry: _,
+            failures: _,
+            has_trash: _,
+        } = self;
+        drop(files);
+        drop(own);
+        drop(at_target);
+        drop(at_new);
+        drop(at_old);
+    }
 }
 
 impl<R: Drop> DiskPlaces<R> {

@@ -8,12 +8,12 @@ use crate::modes::PRIVATE_FILE;
 use crate::place::{Standing, flush_dir, kind_at, make_own, own_place};
 use std::alloc::{AllocError, Global};
 use std::fs::{Files, OpenFile, OpenOptions};
-use std::io::{BufReader, BufWriter, Write};
+use std::io::{BufReader, BufWriter, Read, Write};
 use std::os::unix::fs::OpenOptionsExt;
 use std::{fs, io};
 use ts_model::plan::Plan;
 use ts_plan::PlanFault;
-use ts_text::{Counted, Lines};
+use ts_text::{Counted, Lines, Source};
 
 /// The place of the plan file in a replica.
 fn plan_place(alloc: Global, root: &str) -> Result<String, AllocError>
@@ -102,15 +102,33 @@ pub(crate) fn read_plan<R: Files>(
     alloc: Global,
     root: &str,
 ) -> Result<Option<Plan>, DiskFault> {
+    match open_plan(files, alloc, root)? {
+        Some(file) => plan_in(alloc, file),
+        None => Ok(None),
+    }
+}
+
+/// The plan file of a replica, opened to be read. None where no file has its name.
+fn open_plan<R: Files>(files: &R, alloc: Global, root: &str) -> Result<Option<R::File>, DiskFault> {
     let place = plan_place(alloc, root)?;
     match kind_at(files, place.as_str()).map_err(|_| DiskFault::Failed)? {
         Standing::File => {}
         Standing::Nothing | Standing::CutOff | Standing::Dir | Standing::Other => return Ok(None),
     }
     let file = fs::open(files, place.as_str()).map_err(|_| DiskFault::Failed)?;
+    Ok(Some(file))
+}
+
+/// The plan that a file is the text of, if it is one.
+fn plan_in<F: Read + Drop>(alloc: Global, file: F) -> Result<Option<Plan>, DiskFault> {
     let reader = BufReader::new(alloc, file).map_err(|_| DiskFault::OutOfMemory)?;
     let mut lines = Lines::new(alloc, Counted::new(reader)).map_err(|_| DiskFault::OutOfMemory)?;
-    match ts_plan::decode(alloc, &mut lines) {
+    plan_of(alloc, &mut lines)
+}
+
+/// The plan that lines spell, if they spell one.
+fn plan_of<S: Source>(alloc: Global, lines: &mut Lines<S>) -> Result<Option<Plan>, DiskFault> {
+    match ts_plan::decode(alloc, lines) {
         Ok(plan) => Ok(Some(plan)),
         Err(PlanFault::OutOfMemory) => Err(DiskFault::OutOfMemory),
         Err(PlanFault::Failed) => Err(DiskFault::Failed),

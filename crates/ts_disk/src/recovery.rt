@@ -35,15 +35,20 @@ pub fn check_leftovers<R: Files + AllocGlobal + Clone + Drop>(
     if taken.is_empty() {
         return Ok(());
     }
-    let Some(plan) = read_plan(files, alloc, root)? else {
-        return Err(DiskFault::Device);
-    };
-    for number in &taken {
-        if copied_entry(&plan, *number, None).is_none() {
-            return Err(DiskFault::Device);
+    match read_plan(files, alloc, root)? {
+        Some(plan) if are_copied(&plan, &taken) => Ok(()),
+        _ => Err(DiskFault::Device),
+    }
+}
+
+/// Whether the entries of these numbers are copied, into either replica.
+fn are_copied(plan: &Plan, numbers: &[u32]) -> bool {
+    for number in numbers {
+        if copied_entry(plan, *number, None).is_none() {
+            return false;
         }
     }
-    Ok(())
+    true
 }
 
 /// Recovers a replica from a run that was stopped: where `.twosync/plan` in its root is the text of a plan, the swap of each of
@@ -141,18 +146,25 @@ fn own_names<R: Files + AllocGlobal + Clone + Drop>(
     alloc: Global,
     root: &str,
 ) -> Result<Vec<String>, DiskFault> {
-    let mut names = Vec::new(alloc);
     let own = own_place(alloc, root)?;
     match look_at(files, own.as_str(), root.len()).map_err(|_| DiskFault::Device)? {
-        Standing::Dir => {}
+        Standing::Dir => names_in(files, alloc, own.as_str()),
         Standing::Nothing | Standing::CutOff | Standing::File | Standing::Other => {
-            return Ok(names);
+            Ok(Vec::new(alloc))
         }
     }
-    for found in fs::read_dir(files, own.as_str()).map_err(|_| DiskFault::Device)? {
+}
+
+/// The names in a directory, but for those that aren't text: none of the program's own is such a name.
+fn names_in<R: Files + AllocGlobal + Clone + Drop>(
+    files: &R,
+    alloc: Global,
+    place: &str,
+) -> Result<Vec<String>, DiskFault> {
+    let mut names = Vec::new(alloc);
+    for found in fs::read_dir(files, place).map_err(|_| DiskFault::Device)? {
         match found {
             Ok(found) => names.push(String::from_str(alloc, found.file_name())?)?,
-            // none of the program's own has a name that isn't text
             Err(e) if e.kind() == ErrorKind::InvalidFilename => {}
             Err(_) => return Err(DiskFault::Device),
         }

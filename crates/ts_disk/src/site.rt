@@ -25,7 +25,6 @@ use ts_swap::{Places, Spot, replace};
 /// A commit that the device fails at tries to leave what was there: it brings its swap to an end once more. That this
 /// succeeded, and that the disk returns what was written to it, is for its user to know. Where the device has failed
 /// 2^64 - 1 times, each commit answers out of memory.
-#[derive(Drop)]
 pub struct DiskSite<R> {
     files: R,
     root: String,
@@ -33,6 +32,24 @@ pub struct DiskSite<R> {
     path: Path,
     entry: u32,
     failures: u64,
+}
+
+/// Written out, so that a proof of what drops one stays short.
+impl<R: Drop> Drop for DiskSite<R> {
+    fn drop(self) {
+        let DiskSite {
+            files,
+            root,
+            source,
+            path,
+            entry: _,
+            failures: _,
+        } = self;
+        drop(files);
+        drop(root);
+        drop(source);
+        drop(path);
+    }
 }
 
 impl<R: Drop> DiskSite<R> {

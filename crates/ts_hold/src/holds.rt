@@ -27,7 +27,6 @@ use ts_name::Path;
 use ts_text::{Sink, TextFault, write_line};
 
 /// Hold rules in order, at most 4,096. What they name stays untouched.
-#[derive(Drop)]
 pub struct Holds {
     pub(crate) rules: Vec<Rule>,
     pub(crate) index: Index,
@@ -35,6 +34,21 @@ pub struct Holds {
     pub(crate) sizes: Sizes,
     // the numbers of the rules of one path, in the order of their paths
     pub(crate) order: Vec<u16>,
+}
+
+/// Written out, so that a proof of what drops one stays short.
+impl Drop for Holds {
+    fn drop(self) {
+        let Holds {
+            rules,
+            index,
+            order,
+            sizes: _,
+        } = self;
+        drop(rules);
+        drop(index);
+        drop(order);
+    }
 }
 
 impl Model for Holds {

@@ -16,13 +16,28 @@ use ts_model::hold::Rule;
 const MOST_RULES: usize = 4096;
 
 /// Takes hold rules line by line.
-#[derive(Drop)]
 pub struct RuleReader {
     alloc: Global,
     rules: Vec<Rule>,
     index: Index,
     sizes: Sizes,
     order: Vec<u16>,
+}
+
+/// Written out, so that a proof of what drops one stays short.
+impl Drop for RuleReader {
+    fn drop(self) {
+        let RuleReader {
+            rules,
+            index,
+            order,
+            alloc: _,
+            sizes: _,
+        } = self;
+        drop(rules);
+        drop(index);
+        drop(order);
+    }
 }
 
 impl Model for RuleReader {

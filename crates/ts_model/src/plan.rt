@@ -149,10 +149,18 @@ pub struct Action {
 }
 
 /// What is to be done about which paths, and in which order.
-#[derive(Drop)]
 pub struct Plan {
     pub entries: Items<Entry>,
     pub actions: Items<Action>,
+}
+
+/// Written out, so that a proof of what drops one stays short.
+impl Drop for Plan {
+    fn drop(self) {
+        let Plan { entries, actions } = self;
+        drop(entries);
+        drop(actions);
+    }
 }
 
 /// The rules of a valid plan, in the order in which they are looked at.

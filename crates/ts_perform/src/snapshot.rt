@@ -23,12 +23,27 @@ use ts_print::Print;
 use ts_text::{Sink, write_line};
 
 /// What a plan is made from, and checked against: the archive, the hold rules, and the prints of both replicas.
-#[derive(Drop)]
 pub(crate) struct Snapshot {
     pub archive: Print,
     pub holds: Holds,
     pub first: Print,
     pub second: Print,
+}
+
+/// Written out, so that a proof of what drops one stays short.
+impl Drop for Snapshot {
+    fn drop(self) {
+        let Snapshot {
+            archive,
+            holds,
+            first,
+            second,
+        } = self;
+        drop(archive);
+        drop(holds);
+        drop(first);
+        drop(second);
+    }
 }
 
 impl Snapshot {

@@ -23,7 +23,6 @@ pub(crate) struct OpenAction {
 }
 
 /// Reads the lines of a plan's text, one after another.
-#[derive(Drop)]
 pub struct PlanReader {
     alloc: Global,
     part: Part,
@@ -31,6 +30,23 @@ pub struct PlanReader {
     actions: Vec<Action>,
     last: Option<OpenAction>,
     pred_count: usize,
+}
+
+/// Written out, so that a proof of what drops one stays short.
+impl Drop for PlanReader {
+    fn drop(self) {
+        let PlanReader {
+            entries,
+            actions,
+            last,
+            alloc: _,
+            part: _,
+            pred_count: _,
+        } = self;
+        drop(entries);
+        drop(actions);
+        drop(last);
+    }
 }
 
 impl Model for PlanReader {

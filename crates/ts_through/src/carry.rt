@@ -24,11 +24,24 @@ use ts_site::MemSite;
 use ts_tree::Tree;
 
 /// What a plan leaves: the two replicas, and the archive.
-#[derive(Drop)]
 pub struct Carried {
     pub first: Tree,
     pub second: Tree,
     pub archive: Print,
+}
+
+/// Written out, so that a proof of what drops one stays short.
+impl Drop for Carried {
+    fn drop(self) {
+        let Carried {
+            first,
+            second,
+            archive,
+        } = self;
+        drop(first);
+        drop(second);
+        drop(archive);
+    }
 }
 
 /// What a checked plan leaves, carried out by 1 to 64 workers over these replicas: each copied entry's subtree is its

@@ -29,10 +29,18 @@ pub(crate) struct OpenFile {
 /// Takes the lines of a tree one after another, and gives the tree.
 ///
 /// No room is taken for the size that a line gives: bytes are kept as they come.
-#[derive(Drop)]
 pub struct TreeReader {
     tree: Tree,
     open: Option<OpenFile>,
+}
+
+/// Written out, so that a proof of what drops one stays short.
+impl Drop for TreeReader {
+    fn drop(self) {
+        let TreeReader { tree, open } = self;
+        drop(tree);
+        drop(open);
+    }
 }
 
 impl Model for TreeReader {

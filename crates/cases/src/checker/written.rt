@@ -41,11 +41,24 @@ fn print_of(alloc: Global, tree: &Tree) -> Result<Print> {
 }
 
 /// What a plan is made for: the archive's print and those of both replicas.
-#[derive(Drop)]
 pub struct Prints {
     pub archive: Print,
     pub first: Print,
     pub second: Print,
+}
+
+/// Written out, so that a proof of what drops one stays short.
+impl Drop for Prints {
+    fn drop(self) {
+        let Prints {
+            archive,
+            first,
+            second,
+        } = self;
+        drop(archive);
+        drop(first);
+        drop(second);
+    }
 }
 
 /// The prints of a world.

@@ -19,7 +19,6 @@ pub struct Files {
 }
 
 /// Two replicas, their prints, and the empty archive.
-#[derive(Drop)]
 pub struct World {
     pub first: Tree,
     pub second: Tree,
@@ -27,6 +26,26 @@ pub struct World {
     pub first_print: Print,
     pub second_print: Print,
     pub holds: Holds,
+}
+
+/// Written out, so that a proof of what drops one stays short.
+impl Drop for World {
+    fn drop(self) {
+        let World {
+            first,
+            second,
+            archive,
+            first_print,
+            second_print,
+            holds,
+        } = self;
+        drop(first);
+        drop(second);
+        drop(archive);
+        drop(first_print);
+        drop(second_print);
+        drop(holds);
+    }
 }
 
 /// So many directories, each with the files of a replica, of two bytes each.

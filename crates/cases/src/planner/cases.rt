@@ -61,12 +61,27 @@ fn push(alloc: Global, found: &mut Vec<Place>, parent: usize, text: String) -> R
 }
 
 /// What a plan is made for.
-#[derive(Drop)]
 pub struct Case {
     pub archive: Print,
     pub first: Print,
     pub second: Print,
     pub holds: Holds,
+}
+
+/// Written out, so that a proof of what drops one stays short.
+impl Drop for Case {
+    fn drop(self) {
+        let Case {
+            archive,
+            first,
+            second,
+            holds,
+        } = self;
+        drop(archive);
+        drop(first);
+        drop(second);
+        drop(holds);
+    }
 }
 
 impl Case {

@@ -6,6 +6,13 @@ use Rattle.ts_tree.proofs.Taken.{taken_more}
 use Rattle.ts_bundle.proofs.NoBundle.{no_bundle_ended, no_bundle_line, no_bundle_read}
 use Rattle.ts_bundle.proofs.decoding.decode.Goals as goal
 
+-- The reader has taken one line more.
+pub loop-preserved : goal.loop-preserved
+loop-preserved g c =
+    let gives = rw c.if-not-branch.false at c.in_ok-advance.ensures.answers in
+    let same = rw c.line.ensures at c.in_ok-reader.ensures.taken in
+    rw same (taken_more c.args.lines.now c.loop.lines c.advance.new.self c.loop.reader c.loop.invariant gives)
+
 -- The line reader met a fault.
 pub returns-in_err-advance-clause-refused : goal.returns-in_err-advance-clause-refused
 returns-in_err-advance-clause-refused g c =

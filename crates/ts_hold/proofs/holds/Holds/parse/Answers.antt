@@ -11,7 +11,7 @@ returns-in_default-clause-bad c = unended_line _ c.next.reader _ _ c.next.invari
 pub returns-in_default-clause-only : goal.returns-in_default-clause-only
 returns-in_default-clause-only c rules is = only_memory _ _ rules (returns-in_default-clause-bad c) is
 
-line_tells : (c : goal.After-drop-reader-inside-in_err-line-4) → TellsBadLine c.args.text.now c.in_err-line.field-0.0
+line_tells : (c : goal.After-drop-reader-in_err-line) → TellsBadLine c.args.text.now c.in_err-line.field-0.0
 line_tells c = refused_line _ c.next.reader _ _ _ _ c.next.invariant.read c.next.invariant.lawful (eqb-false _ 0 (sym c.next-test.ensures)) c.in-Some.ensures c.in_err-line.ensures.bad
 
 pub returns-in_err-line-clause-bad : goal.returns-in_err-line-clause-bad
