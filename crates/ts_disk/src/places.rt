@@ -369,13 +369,17 @@ pub(crate) fn is_taken(e: &io::Error) -> bool {
 }
 
 impl<R: Files + AllocGlobal + Clone + Drop> Places for DiskPlaces<R> {
-    ghost use Rattle.std.specs.Prelude.{None};
+    ghost use Rattle.std.specs.Prelude.{[], None};
 
     ghost spots = { λ _. None };
+
+    ghost moments = { λ _. [] };
 
     ghost failures = { λ p. p.failures };
 
     ghost hides = { λ _ _. Unit {0} };
+
+    ghost stands = { λ _. tt };
 
     fn present(&self, spot: Spot) -> Result<bool, Failed> {
         match self.look(spot) {

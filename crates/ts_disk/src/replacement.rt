@@ -318,9 +318,13 @@ impl Places for Replacement<'_> {
 
     ghost spots = { λ _. None };
 
+    ghost moments = { λ _. [] };
+
     ghost failures = { λ r. r.places.failures };
 
     ghost hides = { λ _ _. Unit {0} };
+
+    ghost stands = { λ _. tt };
 
     fn present(&self, spot: Spot) -> Result<bool, Failed> {
         self.places.present(spot)

@@ -1,2 +1,5 @@
 pub mod Counting
+pub mod Moments
 pub mod Moving
+pub mod Stopped
+pub mod Stops

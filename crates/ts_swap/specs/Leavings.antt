@@ -4,9 +4,11 @@
 --     Replaces tree old new r         what replacing leaves
 --     Recovers old new r              what recovery leaves
 --     IsInSwap original tree s        where a replacement of the original by the tree may stand, stopped or ended
-use Rattle.std.specs.Prelude.{◌≡◌, ◌≢◌, ◌⊎◌, ℕ, ◌+◌, ◌<◌, ◌≤◌, Bool, true, false, List, [], ◌∷◌, Option, Some, None, Result, MatchResult}
+--     AtEachMoment Says old before after      what a stop may have left since then, where the spots are known
+use Rattle.std.specs.Prelude.{◌≡◌, ◌≢◌, ◌⊎◌, ℕ, ◌+◌, ◌<◌, ◌≤◌, Bool, true, false, List, [], ◌∷◌, ◌++◌, Option, Some, None, IfSome, Result, MatchResult}
+use Rattle.std.specs.List.{AllByRecursion}
 use Rattle.ts_model.specs.Trees.{Listing}
-use Rattle.ts_model.specs.Swap.{Spots, Call, after_call, MayFail, recovery}
+use Rattle.ts_model.specs.Swap.{Spots, Call, Remove, after_call, MayFail, MayStop, recovery}
 use Rattle.ts_model.specs.Swap as model
 use Rattle.ts_swap.specs.declared.places.Spot.{Spot}
 use Rattle.ts_swap.specs.declared.places.Spot.TheVariants.{Target, New, Old}
@@ -93,6 +95,11 @@ after_calls s (call ∷ calls) = after_calls (after_call s call) calls
 abbrev pub Looks : Bool → Bool → Bool → Spots → Type 0
 Looks target new old s = Tells target s.target × Tells new s.new × Tells old s.old
 
+-- the call by which a spot is cleared, where something lies there
+abbrev pub removal : model.Spot → Bool → List Call
+removal at true = Remove at ∷ []
+removal at false = []
+
 -- all of these calls were made
 abbrev pub Does : List Call → Spots → Spots → Type 0
 Does calls s left = left ≡ after_calls s calls
@@ -133,3 +140,30 @@ StaysInSwap original tree s left = IsInSwap original tree s → IsInSwap origina
 -- the original or the new tree lies at the target, whole, and nothing anywhere else
 abbrev pub IsSettled : Listing (List ℕ) → Listing (List ℕ) → Spots → Type 0
 IsSettled original tree s = ((s.target ≡ original) ⊎ (s.target ≡ tree)) × (s.new ≡ []) × (s.old ≡ [])
+
+-- ---- stops
+
+-- the moments until then, and others after them, of each of which this is said
+abbrev pub Passes : (Spots → Type 0) → List Spots → List Spots → Type 0
+Passes Says before after = (added : List Spots) × (after ≡ before ++ added) × AllByRecursion Says added
+
+-- where the spots are known, this is said of them and of what a stop at each moment since then may have left
+abbrev pub AtEachMoment : (Spots → Spots → Type 0) → Option Spots → List Spots → List Spots → Type 0
+AtEachMoment Says old before after = IfSome old (λ s. Passes (Says s) before after)
+
+-- the last of these moments
+abbrev pub IsLast : Spots → List Spots → Type 0
+IsLast s moments = (earlier : List Spots) × (moments ≡ earlier ++ s ∷ [])
+
+-- what a stop may leave between two of these calls, or in one of them
+abbrev pub IsDuring : List Call → Spots → Spots → Type 0
+IsDuring [] s left = left ≡ s
+IsDuring (call ∷ calls) s left = MayStop s call left ⊎ IsDuring calls (after_call s call) left
+
+-- a replacement of these spots' target by the tree stands somewhere and, where the original lies aside, has the tree whole at the new spot
+abbrev pub IsStopped : Listing (List ℕ) → Spots → Spots → Type 0
+IsStopped tree s left = IsInSwap s.target tree left × (IsBetween s.target left → left.new ≡ tree)
+
+-- a stop may have left this: what lay there at the start, or what lay there at a moment since then
+abbrev pub MayHaveLeft : Spots → List Spots → List Spots → Spots → Type 0
+MayHaveLeft start before after s = (s ≡ start) ⊎ ((earlier later : List Spots) × (after ≡ before ++ (earlier ++ s ∷ later)))

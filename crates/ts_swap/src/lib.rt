@@ -3,8 +3,10 @@
 
 pub mod memory;
 pub mod places;
+pub mod state;
 pub mod swap;
 
 pub use memory::MemPlaces;
 pub use places::{Failed, Places, Spot};
-pub use swap::{recover, replace};
+pub use state::State;
+pub use swap::{recover, recover_stopped, replace};

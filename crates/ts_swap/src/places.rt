@@ -1,9 +1,9 @@
 //! The three spots of a swap.
 ghost use Rattle.std.specs.Prelude.{◌≡◌, ℕ, List, Option, IfOk, IfSome, IsErr, []};
-ghost use Rattle.ts_model.specs.Swap.{Call, IsThere, Spots};
+ghost use Rattle.ts_model.specs.Swap.{Call, IsThere, MayStop, Spots};
 ghost use Rattle.ts_model.specs.Swap as swap;
 ghost use Rattle.ts_model.specs.Trees.{IsSubListing};
-ghost use Rattle.ts_swap.specs.Leavings.{Counts, Leaves, Tells, spot_of};
+ghost use Rattle.ts_swap.specs.Leavings.{AtEachMoment, Counts, IsLast, Leaves, Tells, spot_of};
 ghost use Rattle.ts_swap.specs.declared.places.Spot.{Spot};
 
 use thiserror::Error;
@@ -42,6 +42,10 @@ pub trait Places {
     // What lies at the spots, where they are known.
     ghost spots: { Self → Option Spots };
 
+    // What a stop may have left, from the first moment on: what lay at the spots at each, where that is known. Each call adds
+    // those that it passes.
+    ghost moments: { Self → List Spots };
+
     // How often a call failed that changes something, up to 2^64 - 1.
     ghost failures: { Self → ℕ };
 
@@ -58,6 +62,7 @@ pub trait Places {
         requires tree { IsSubListing tree.now }
         requires empty { IfSome (spots self.old) (λ s. s.new ≡ []) }
         ensures left { Leaves (Call.Write tree.now) (spots self.old) (spots self.new) result }
+        ensures stops { AtEachMoment (λ s. MayStop s (Call.Write tree.now)) (spots self.old) (moments self.old) (moments self.new) }
         ensures counted { Counts (failures self.old) (failures self.new) result }
         ensures looks { (at : Spot) → hides self.new at → hides self.old at };
 
@@ -66,12 +71,17 @@ pub trait Places {
         requires there { IfSome (spots self.old) (λ s. IsThere s (spot_of from)) }
         requires empty { IfSome (spots self.old) (λ s. swap.spot s (spot_of to) ≡ []) }
         ensures left { Leaves (Call.Rename (spot_of from) (spot_of to)) (spots self.old) (spots self.new) result }
+        ensures stops { AtEachMoment (λ s. MayStop s (Call.Rename (spot_of from) (spot_of to))) (spots self.old) (moments self.old) (moments self.new) }
         ensures counted { Counts (failures self.old) (failures self.new) result }
         ensures looks { (at : Spot) → hides self.new at → hides self.old at };
 
     /// Clears a spot. After a failure anything may lie there.
     fn remove(&mut self, spot: Spot) -> Result<(), Failed>
         ensures left { Leaves (Call.Remove (spot_of spot)) (spots self.old) (spots self.new) result }
+        ensures stops { AtEachMoment (λ s. MayStop s (Call.Remove (spot_of spot))) (spots self.old) (moments self.old) (moments self.new) }
         ensures counted { Counts (failures self.old) (failures self.new) result }
         ensures looks { (at : Spot) → hides self.new at → hides self.old at };
+
+    // Between two calls a stop leaves what lies at the spots.
+    ghost stands: { (places : Self) → IfSome (spots places) (λ s. IsLast s (moments places)) };
 }

@@ -1,11 +1,11 @@
 //! Replacing, and recovery.
-ghost use Rattle.std.specs.Prelude.{◌≡◌, ◌⊎◌, ℕ, List, [], IfOk, IfSome, IsErr, IsOk, IsTrue, MatchResult};
+ghost use Rattle.std.specs.Prelude.{◌≡◌, ◌⊎◌, ℕ, List, [], IfOk, IfSome, IsErr, IsOk, IsTrue, MatchResult, true};
 ghost use Rattle.ts_model.specs.Swap.{recovery, with_spot};
 ghost use Rattle.ts_model.specs.Swap as model;
 ghost use Rattle.ts_model.specs.Trees.{IsSubListing};
 ghost use Rattle.ts_model.specs.declared.row.Row.{Row};
-ghost use Rattle.ts_swap.specs.Leavings.{Does, FailedAtMostOnce, Grows, HasFailed, IsBack, IsInSwap, IsPut};
-ghost use Rattle.ts_swap.specs.Leavings.{IsSetAside, IsSettled, KeepsOthers, Looks, OnSpots, Recovers, Replaces, Stumbles, Tells, KeepsOriginal, StaysInSwap};
+ghost use Rattle.ts_swap.specs.Leavings.{AtEachMoment, Does, FailedAtMostOnce, Grows, HasFailed, IsBack, IsDuring, IsInSwap, IsPut, IsStopped, MayHaveLeft};
+ghost use Rattle.ts_swap.specs.Leavings.{IsSetAside, IsSettled, KeepsOthers, Looks, OnSpots, Recovers, Replaces, Stumbles, Tells, KeepsOriginal, StaysInSwap, removal, spot_of};
 ghost use Rattle.ts_swap.specs.declared.places.Spot.{Spot};
 ghost use Rattle.ts_swap.specs.declared.places.Spot.TheVariants as spot;
 
@@ -28,6 +28,7 @@ pub fn replace<P: Places>(places: &mut P, tree: &[Row<Items<u8>>]) -> Result<(),
     ensures fault { IsErr result → (P.hides places.old spot.Target) ⊎ HasFailed (P.failures places.old) (P.failures places.new) }
     ensures once { IsErr result → FailedAtMostOnce (P.failures places.old) (P.failures places.new) → KeepsOriginal (P.spots places.old) (P.spots places.new) }
     ensures recoverable { OnSpots (λ s left. IsInSwap s.target tree.now left) (P.spots places.old) (P.spots places.new) }
+    ensures stops { AtEachMoment (IsStopped tree.now) (P.spots places.old) (P.moments places.old) (P.moments places.new) }
 {
     write_new(places, tree)?;
     let wanted = !tree.is_empty();
@@ -56,6 +57,7 @@ fn write_new<P: Places>(places: &mut P, tree: &[Row<Items<u8>>]) -> Result<(), F
     requires new { IfSome (P.spots places.old) (λ s. s.new ≡ []) }
     ensures ok { IfOk result (λ _. OnSpots (λ s left. left ≡ with_spot s model.New tree.now) (P.spots places.old) (P.spots places.new)) }
     ensures err { IsErr result → OnSpots KeepsOthers (P.spots places.old) (P.spots places.new) }
+    ensures stops { AtEachMoment KeepsOthers (P.spots places.old) (P.moments places.old) (P.moments places.new) }
     ensures counted { MatchResult result (λ _. P.failures places.new ≡ P.failures places.old) (λ _. HasFailed (P.failures places.old) (P.failures places.new)) }
     ensures looks { P.hides places.new spot.Target → P.hides places.old spot.Target }
 {
@@ -74,6 +76,7 @@ fn write_new<P: Places>(places: &mut P, tree: &[Row<Items<u8>>]) -> Result<(), F
 /// Clears the new spot, where that can be done.
 fn clear_new<P: Places>(places: &mut P)
     ensures kept { OnSpots KeepsOthers (P.spots places.old) (P.spots places.new) }
+    ensures stops { AtEachMoment KeepsOthers (P.spots places.old) (P.moments places.old) (P.moments places.new) }
     ensures counted { (P.failures places.new ≡ P.failures places.old) ⊎ Grows (P.failures places.old) (P.failures places.new) }
     ensures looks { P.hides places.new spot.Target → P.hides places.old spot.Target }
 {
@@ -86,6 +89,7 @@ fn set_aside<P: Places>(places: &mut P) -> Result<bool, Failed>
     requires { IfSome (P.spots places.old) (λ s. s.old ≡ []) }
     ensures ok { IfOk result (λ had. OnSpots (IsSetAside had) (P.spots places.old) (P.spots places.new)) }
     ensures err { IsErr result → P.spots places.new ≡ P.spots places.old }
+    ensures stops { AtEachMoment (λ s left. (left ≡ s) ⊎ IsSetAside true s left) (P.spots places.old) (P.moments places.old) (P.moments places.new) }
     ensures counted { IfOk result (λ _. P.failures places.new ≡ P.failures places.old) }
     ensures fault { IsErr result → (P.hides places.old spot.Target) ⊎ HasFailed (P.failures places.old) (P.failures places.new) }
     ensures looks { P.hides places.new spot.Target → P.hides places.old spot.Target }
@@ -108,6 +112,7 @@ fn put_in_place<P: Places>(places: &mut P, wanted: bool, had: bool) -> Result<()
     ensures err { IsErr result → IsTrue wanted }
     ensures back { IsErr result → OnSpots (λ s left. IsBack s left ⊎ (left ≡ s)) (P.spots places.old) (P.spots places.new) }
     ensures once { IsErr result → FailedAtMostOnce (P.failures places.old) (P.failures places.new) → OnSpots IsBack (P.spots places.old) (P.spots places.new) }
+    ensures stops { AtEachMoment (λ s left. (left ≡ s) ⊎ (IsPut s left ⊎ IsBack s left)) (P.spots places.old) (P.moments places.old) (P.moments places.new) }
     ensures counted { MatchResult result (λ _. P.failures places.new ≡ P.failures places.old) (λ _. HasFailed (P.failures places.old) (P.failures places.new)) }
 {
     if !wanted {
@@ -137,11 +142,34 @@ pub fn recover<P: Places>(places: &mut P) -> Result<(), Failed>
     ensures settled { IsOk result → (original tree : List (Row (List ℕ)))
         → OnSpots (λ s left. IsInSwap original tree s → IsSettled original tree left) (P.spots places.old) (P.spots places.new) }
     ensures again { (original tree : List (Row (List ℕ))) → OnSpots (StaysInSwap original tree) (P.spots places.old) (P.spots places.new) }
+    ensures stops { (original tree : List (Row (List ℕ))) → AtEachMoment (StaysInSwap original tree) (P.spots places.old) (P.moments places.old) (P.moments places.new) }
 {
     let target = places.present(Spot::Target)?;
     let new = places.present(Spot::New)?;
     let old = places.present(Spot::Old)?;
     tidy(places, target, new, old)
+}
+
+/// Replaces at some places, and recovers others. Where those stand as a stop in the replacement may have left the first, at
+/// whatever moment, recovery that ends leaves the original or the tree at their target, whole, and nothing at the other
+/// spots. Where it is stopped or fails, it leaves what it may be called on again.
+pub fn recover_stopped<P: Places, Q: Places>(
+    places: &mut P,
+    tree: &[Row<Items<u8>>],
+    stopped: &mut Q,
+) -> Result<(), Failed>
+    requires tree { IsSubListing tree.now }
+    requires new { IfSome (P.spots places.old) (λ s. s.new ≡ []) }
+    requires old { IfSome (P.spots places.old) (λ s. s.old ≡ []) }
+    ensures settled { IsOk result → IfSome (P.spots places.old)
+        (λ s. OnSpots (λ found left. MayHaveLeft s (P.moments places.old) (P.moments places.new) found → IsSettled s.target tree.now left)
+        (Q.spots stopped.old) (Q.spots stopped.new)) }
+    ensures again { IfSome (P.spots places.old)
+        (λ s. AtEachMoment (λ found left. MayHaveLeft s (P.moments places.old) (P.moments places.new) found → IsInSwap s.target tree.now left)
+        (Q.spots stopped.old) (Q.moments stopped.old) (Q.moments stopped.new)) }
+{
+    let _ = replace(places, tree);
+    recover(stopped)
 }
 
 /// Makes the calls of recovery, by what lies where.
@@ -151,16 +179,23 @@ fn tidy<P: Places>(places: &mut P, target: bool, new: bool, old: bool) -> Result
     ensures counted { MatchResult result (λ _. P.failures places.new ≡ P.failures places.old) (λ _. HasFailed (P.failures places.old) (P.failures places.new)) }
     ensures done { MatchResult result (λ _. OnSpots (Does (recovery target new old)) (P.spots places.old) (P.spots places.new))
         (λ _. OnSpots (Stumbles (recovery target new old)) (P.spots places.old) (P.spots places.new)) }
+    ensures stops { AtEachMoment (IsDuring (recovery target new old)) (P.spots places.old) (P.moments places.old) (P.moments places.new) }
 {
     if !target && new && old {
         places.rename(Spot::Old, Spot::Target)?;
         return places.remove(Spot::New);
     }
-    if new {
-        places.remove(Spot::New)?;
-    }
-    if old {
-        places.remove(Spot::Old)?;
-    }
-    Ok(())
+    clear_if(places, Spot::New, new)?;
+    clear_if(places, Spot::Old, old)
+}
+
+/// Clears a spot, if something lies there.
+#[tactic(auto, using(crate::proofs::Counting::grown))]
+fn clear_if<P: Places>(places: &mut P, spot: Spot, there: bool) -> Result<(), Failed>
+    ensures counted { MatchResult result (λ _. P.failures places.new ≡ P.failures places.old) (λ _. HasFailed (P.failures places.old) (P.failures places.new)) }
+    ensures done { MatchResult result (λ _. OnSpots (Does (removal (spot_of spot) there)) (P.spots places.old) (P.spots places.new))
+        (λ _. OnSpots (Stumbles (removal (spot_of spot) there)) (P.spots places.old) (P.spots places.new)) }
+    ensures stops { AtEachMoment (IsDuring (removal (spot_of spot) there)) (P.spots places.old) (P.moments places.old) (P.moments places.new) }
+{
+    if there { places.remove(spot) } else { Ok(()) }
 }
