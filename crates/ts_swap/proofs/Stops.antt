@@ -138,7 +138,8 @@ module _ (tree : Listing (List ℕ)) where
   setting s t x none is (inl same) = let e = same ∙ is in before tree s x (ap (λ (z : Spots). z.target) e) (ap (λ (z : Spots). z.old) e ∙ none)
   setting s t x none is (inr (away, there)) = aside tree s x (away ∙ ap (λ (z : Spots). record { target = []; new = z.new; old = z.target }) is) (subst (λ (z : Spots). z.target ≢ []) is there)
 
-  pub set : (o p : Option Spots) (k m n : List Spots) → IfSome o HasNoOld → OnSpots (HasNew tree) o p → AtEachMoment KeepsOthers o k m → AtEachMoment IsSetting p m n → AtEachMoment (IsStopped tree) o k n
+  pub set : (o p : Option Spots) (k m n : List Spots) → IfSome o HasNoOld → OnSpots (HasNew tree) o p
+      → AtEachMoment KeepsOthers o k m → AtEachMoment IsSetting p m n → AtEachMoment (IsStopped tree) o k n
   set o p k m n = then_if HasNoOld (HasNew tree) KeepsOthers IsSetting (IsStopped tree) o p k m n begun setting
 
   -- where it couldn't be set aside, and the new spot was cleared
@@ -244,7 +245,8 @@ sweep false true false some = refl
 sweep false false true some = refl
 sweep false false false some = refl
 
-pub swept_first : (target new old : Bool) (o : Option Spots) (k m : List Spots) → Sweeps target new old → AtEachMoment (IsDuring (removal New new)) o k m → AtEachMoment (IsDuring (recovery target new old)) o k m
+pub swept_first : (target new old : Bool) (o : Option Spots) (k m : List Spots) → Sweeps target new old
+    → AtEachMoment (IsDuring (removal New new)) o k m → AtEachMoment (IsDuring (recovery target new old)) o k m
 swept_first target new old o k m some first =
     subst (λ (calls : List Call). AtEachMoment (IsDuring calls) o k m) (sym (sweep target new old some)) (during_first (removal New new) (removal Old old) o k m first)
 

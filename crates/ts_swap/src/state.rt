@@ -64,7 +64,7 @@ impl State {
     }
 
     /// What lies at each of the spots: at the target, at the new and at the old one. It takes no memory.
-    pub fn into_parts(
+    pub(crate) fn into_parts(
         self,
     ) -> (
         SubTable<Items<u8>>,
