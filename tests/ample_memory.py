@@ -34,6 +34,7 @@ OF_STD = set("fill finish join lock next parse push read remove rename replace s
 
 # FILE TEST: CALLS, for methods whose name others have, too. The file is one below crates/, without `src` and `.rt`.
 SHARED = """
+text_calls/swaps each_stop_is_recovered_from: ts_swap::State::copy
 text_calls/names calls_with_ample_memory: ts_name::Path::copy ts_name::Path::join
 text_calls/texts a_source_gives_its_bytes: ts_text::Counted::read
 text_calls/texts a_sink_takes_bytes: ts_text::Counted::write

@@ -4,8 +4,8 @@ ghost use Rattle.ts_swap.specs.Memory.{spots_in};
 
 use std::alloc::Global;
 use ts_model::items::Items;
-use ts_model::row::Content;
-use ts_swap::{MemPlaces, Places, Spot, recover, replace};
+use ts_model::row::{Content, Row};
+use ts_swap::{MemPlaces, Places, Spot, State, recover, recover_stopped, replace};
 use ts_table::SubTable;
 
 /// A file of one byte, or nothing for a dot.
@@ -41,7 +41,11 @@ fn places(alloc: Global, original: u8, failing: usize, often: bool) -> Option<Me
 
 /// The byte of the file at a spot, a dot for nothing, or a question mark.
 fn shown(places: &MemPlaces, spot: Spot) -> u8 {
-    match places.rows(spot) {
+    byte_of(places.rows(spot))
+}
+
+fn byte_of(rows: &[Row<Items<u8>>]) -> u8 {
+    match rows {
         [] => b'.',
         [row] => match &row.content {
             Content::File(bytes) => bytes.as_slice().first().copied().unwrap_or(b'?'),
@@ -186,4 +190,164 @@ fn swapped_by_hand(alloc: Global) -> Option<[[u8; 3]; 4]> {
 #[test]
 fn each_call_does_its_part(rt: HostRuntime) {
     assert!(rt; swapped_by_hand(rt.alloc()) == Some([*b"on.", *b".no", *b"n.o", *b"n.."]));
+}
+
+/// What lay at the target, at the new and at the old spot.
+fn stood(state: &State) -> [u8; 3] {
+    [
+        byte_of(state.rows(Spot::Target)),
+        byte_of(state.rows(Spot::New)),
+        byte_of(state.rows(Spot::Old)),
+    ]
+}
+
+/// Places that stand as this, where a call fails.
+fn standing(alloc: Global, state: &State, failing: usize) -> Option<MemPlaces> {
+    let copy = state.copy(alloc).ok()?;
+    Some(MemPlaces::at(alloc, copy, failures(alloc, failing, false)?, false))
+}
+
+/// The places of a whole replacement.
+fn after_replacing(alloc: Global, original: u8, wanted: u8) -> Option<MemPlaces> {
+    let tree = tree(alloc, wanted)?;
+    let mut places = places(alloc, original, 99, false)?;
+    replace(&mut places, tree.rows()).ok()?;
+    Some(places)
+}
+
+/// The bytes of what lay at the spots at each moment of a whole replacement, one after another.
+fn moments(alloc: Global, original: u8, wanted: u8) -> Option<Vec<u8>> {
+    let places = after_replacing(alloc, original, wanted)?;
+    let mut moments = Vec::new(alloc);
+    for state in places.past() {
+        moments.extend_from_slice(&stood(state)).ok()?;
+    }
+    moments.extend_from_slice(&all(&places)).ok()?;
+    Some(moments)
+}
+
+#[test]
+fn replacing_stands_so_between_its_calls(rt: HostRuntime) {
+    for (original, wanted, want) in [
+        (b'o', b'n', b"o..on..non.on..".as_slice()),
+        (b'o', b'.', b"o....o...".as_slice()),
+        (b'.', b'n', b"....n.n..".as_slice()),
+        (b'.', b'.', b"...".as_slice()),
+    ] {
+        match moments(rt.alloc(), original, wanted) {
+            Some(found) => assert!(rt; found.as_slice() == want),
+            None => assert!(rt; false),
+        }
+    }
+}
+
+/// Whether recovery that isn't stopped leaves this at the target, and nothing at the other spots.
+fn settles(alloc: Global, state: &State, want: u8) -> Option<bool> {
+    let mut places = standing(alloc, state, 99)?;
+    recover(&mut places).ok()?;
+    Some(all(&places) == [want, b'.', b'.'])
+}
+
+/// Whether recovery leaves this at the target, and nothing at the other spots, where it was stopped before at whatever moment,
+/// or where this call failed.
+fn settles_at_last(alloc: Global, state: &State, failing: usize, want: u8) -> Option<bool> {
+    let mut places = standing(alloc, state, failing)?;
+    let _ = recover(&mut places);
+    for stopped in places.past() {
+        if !settles(alloc, stopped, want)? {
+            return Some(false);
+        }
+    }
+    recover(&mut places).ok()?;
+    Some(all(&places) == [want, b'.', b'.'])
+}
+
+/// What recovery leaves at the target after a stop here: the new tree where it was there, or where nothing is to come in place
+/// of the original, and else the original.
+fn end_of(state: [u8; 3]) -> u8 {
+    match state {
+        [b'.', b'.', _] => b'.',
+        [b'.', b'n', b'o'] => b'o',
+        [b'.', b'n', _] => b'.',
+        [target, _, _] => target,
+    }
+}
+
+/// Whether each stop in a replacement in which this call fails, and in each recovery after it, ends settled.
+fn all_settle(alloc: Global, original: u8, wanted: u8, failing: usize) -> Option<bool> {
+    let tree = tree(alloc, wanted)?;
+    let mut places = places(alloc, original, failing, failing == 2)?;
+    let _ = replace(&mut places, tree.rows());
+    for state in places.past() {
+        let want = end_of(stood(state));
+        for call in [0, 1, 99] {
+            let is_either = want == original || want == wanted;
+            if !is_either || !settles_at_last(alloc, state, call, want)? {
+                return Some(false);
+            }
+        }
+    }
+    let last = all(&places);
+    half_done_settles(alloc, last, end_of(last), 99)
+}
+
+#[test]
+fn each_stop_is_recovered_from(rt: HostRuntime) {
+    for original in [b'.', b'o'] {
+        for wanted in [b'.', b'n'] {
+            for failing in [0, 1, 2, 3, 4, 99] {
+                let found = all_settle(rt.alloc(), original, wanted, failing);
+                assert!(rt; found == Some(true), "call {failing}");
+            }
+        }
+    }
+}
+
+/// What is there, by its bytes.
+fn standing_so(alloc: Global, state: [u8; 3]) -> Option<State> {
+    let [target, new, old] = state;
+    Some(State::new(tree(alloc, target)?, tree(alloc, new)?, tree(alloc, old)?))
+}
+
+/// Whether recovery from here settles at last, as above.
+fn half_done_settles(alloc: Global, state: [u8; 3], want: u8, failing: usize) -> Option<bool> {
+    let state = standing_so(alloc, state)?;
+    settles_at_last(alloc, &state, failing, want)
+}
+
+#[test]
+fn what_a_stopped_call_left_half_done_is_removed(rt: HostRuntime) {
+    // a stop in writing, with something at the target and with nothing there; and in removing the old one, twice
+    for (state, want) in [
+        (b"ox.", b'o'),
+        (b".x.", b'.'),
+        (b"n.x", b'n'),
+        (b"..x", b'.'),
+    ] {
+        for failing in [0, 1, 99] {
+            let found = half_done_settles(rt.alloc(), *state, want, failing);
+            assert!(rt; found == Some(true));
+        }
+    }
+}
+
+/// What recovery leaves of each stop in a replacement, by the call that does both.
+fn recovered_by_one_call(alloc: Global) -> Option<Vec<u8>> {
+    let tree = tree(alloc, b'n')?;
+    let mut targets = Vec::new(alloc);
+    for state in after_replacing(alloc, b'o', b'n')?.past() {
+        let mut places = places(alloc, b'o', 99, false)?;
+        let mut stopped = standing(alloc, state, 99)?;
+        recover_stopped(&mut places, tree.rows(), &mut stopped).ok()?;
+        targets.push(shown(&stopped, Spot::Target)).ok()?;
+    }
+    Some(targets)
+}
+
+#[test]
+fn one_call_replaces_and_recovers(rt: HostRuntime) {
+    match recovered_by_one_call(rt.alloc()) {
+        Some(targets) => assert!(rt; targets.as_slice() == b"ooon".as_slice()),
+        None => assert!(rt; false),
+    }
 }
