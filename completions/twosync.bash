@@ -17,9 +17,10 @@ _twosync() {
       mapfile -t COMPREPLY < <(compgen -W 'trial scan show plan preview check run sync --help --version' -- "$word")
       return
       ;;
-    plan | check | run | sync) options='--holds --hold-special --workers --explain --help' ;;
-    preview) options='--json --holds --hold-special --workers --explain --help' ;;
-    trial | scan) options='--workers --explain --help' ;;
+    plan | check | run | sync) options='--holds --hold-special --workers --explain --quiet --help' ;;
+    preview) options='--json --holds --hold-special --workers --explain --quiet --help' ;;
+    trial) options='--workers --explain --help' ;;
+    scan) options='--workers --explain --quiet --help' ;;
     show) options='--explain --help' ;;
   esac
   if [[ $word == -* ]]; then

@@ -96,6 +96,9 @@ special.sh: expect 'links in three folders' 1: ts_special::HoldingFolder::new ts
 special.sh: expect 'links in three folders' 1: ts_special::HoldingFolder::open_file ts_special::HoldingFolder::fill
 special.sh: expect 'names that are not UTF-8' 1: ts_special::stand_in
 special.sh: refused 'links in three folders, without the option' '10 /both': ts_special::Specials::none
+commands.sh: expect 'first sync' 0: ts_progress::CountingFolder::list ts_progress::CountingFolder::open_file
+commands.sh: expect 'first sync' 0: ts_progress::CountingFolder::fill
+progress.sh: add_counts 'tests/progress.py ended early': ts_progress::Progress::new
 disk_edge.sh: refused 'an archive that is none, no .twosync' 6: ts_disk::Lock::withdraw ts_disk::ArchivePlace::release
 """
 File = collections.namedtuple("File", "path crates functions links")

@@ -5,6 +5,7 @@
 # usage: tests/explain.sh [PROGRAM]
 set -u
 cd "$(dirname "$0")/.." || exit 1
+top=$PWD
 . tests/cases.sh
 UNREAD=": something in it is neither a file nor a folder or has a name that isn't UTF-8, or it can't be read."
 ALONE=' It can be left alone with --hold-special.'
@@ -183,34 +184,11 @@ expect 'such a path, explained' 3 '' "first/x%E2%80%AEy%01$UNREAD$ALONE
 twosync: fault 10 /x"$'\u202e'"y%01" "${sync[@]}" --explain
 
 # ---- on a terminal, and without one
-cat >on_terminal.py <<'P'
-"""Runs a program whose standard error is a terminal, prints what it wrote there, and ends with its status."""
-import os, pty, sys
-ours, theirs = pty.openpty()
-pid = os.fork()
-if pid == 0:
-    os.dup2(theirs, 2)
-    os.close(ours)
-    os.close(theirs)
-    os.execv(sys.argv[1], sys.argv[1:])
-os.close(theirs)
-said = b""
-while True:
-    try:
-        piece = os.read(ours, 65536)
-    except OSError:
-        break
-    if not piece:
-        break
-    said += piece
-sys.stdout.buffer.write(said.replace(b"\r\n", b"\n"))
-sys.exit(os.waitstatus_to_exitcode(os.waitpid(pid, 0)[1]))
-P
-python3 on_terminal.py "$program" show notes.archive >said
+python3 "$top/tests/terminal.py" "$program" show notes.archive >said
 status=$?
 holds_true 'a terminal gets the sentence' test "$(cat said)" = "The archive notes.archive isn't there: \`show\` needs one that exists."$'\n''twosync: fault 9'
 holds_true 'the status is the same' test "$status" = 3
-python3 on_terminal.py "$program" show notes.archive --explain >said
+python3 "$top/tests/terminal.py" "$program" show notes.archive --explain >said
 holds_true 'a terminal gets it once' test "$(wc -l <said)" = 2
 expect 'a file gets the line alone' 3 '' 'twosync: fault 9' show notes.archive
 ended explain

@@ -35,6 +35,9 @@ hold_special_rule = flag_rule (codes "hold-special")
 abbrev pub explain_rule : Rule
 explain_rule = flag_rule (codes "explain")
 
+abbrev pub quiet_rule : Rule
+quiet_rule = flag_rule (codes "quiet")
+
 -- the command has no argument that its subcommands share
 abbrev pub IsLocal : Command → Type 0
 IsLocal c = (out-Command c).has_globals ≡ false
@@ -45,22 +48,22 @@ taking name rules = record (new_shape name) { rules = rules }
 
 abbrev pub pair_rules : List Rule
 pair_rules = place_rule (codes "FIRST") ∷ place_rule (codes "SECOND") ∷ place_rule (codes "ARCHIVE") ∷ holds_rule ∷ hold_special_rule ∷ workers_rule
-    ∷ explain_rule ∷ []
+    ∷ explain_rule ∷ quiet_rule ∷ []
 
 abbrev pub planned_pair_rules : List Rule
 planned_pair_rules = place_rule (codes "FIRST") ∷ place_rule (codes "SECOND") ∷ place_rule (codes "ARCHIVE") ∷ holds_rule ∷ hold_special_rule ∷ workers_rule
-    ∷ explain_rule ∷ place_rule (codes "PLAN") ∷ []
+    ∷ explain_rule ∷ quiet_rule ∷ place_rule (codes "PLAN") ∷ []
 
 abbrev pub previewed_pair_rules : List Rule
 previewed_pair_rules = place_rule (codes "FIRST") ∷ place_rule (codes "SECOND") ∷ place_rule (codes "ARCHIVE") ∷ holds_rule ∷ hold_special_rule ∷ workers_rule
-    ∷ explain_rule ∷ json_rule ∷ []
+    ∷ explain_rule ∷ quiet_rule ∷ json_rule ∷ []
 
 -- the subcommands that work on no pair
 abbrev pub trial_shape : Shape
 trial_shape = taking (codes "trial") (workers_rule ∷ explain_rule ∷ [])
 
 abbrev pub scan_shape : Shape
-scan_shape = taking (codes "scan") (place_rule (codes "DIR") ∷ workers_rule ∷ explain_rule ∷ [])
+scan_shape = taking (codes "scan") (place_rule (codes "DIR") ∷ workers_rule ∷ explain_rule ∷ quiet_rule ∷ [])
 
 abbrev pub show_shape : Shape
 show_shape = taking (codes "show") (place_rule (codes "ARCHIVE") ∷ explain_rule ∷ [])
@@ -104,7 +107,7 @@ command_line = record {
     disable_help_subcommand = true;
   };
   subs = taking (codes "trial") (workers_rule ∷ explain_rule ∷ [])
-      ∷ taking (codes "scan") (place_rule (codes "DIR") ∷ workers_rule ∷ explain_rule ∷ [])
+      ∷ taking (codes "scan") (place_rule (codes "DIR") ∷ workers_rule ∷ explain_rule ∷ quiet_rule ∷ [])
       ∷ taking (codes "show") (place_rule (codes "ARCHIVE") ∷ explain_rule ∷ [])
       ∷ taking (codes "plan") pair_rules
       ∷ taking (codes "check") planned_pair_rules

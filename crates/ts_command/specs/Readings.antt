@@ -55,6 +55,7 @@ abbrev pub Gives : Option (Text × List Row) → Command → Type 0
 Gives None command = ⊥
 Gives (Some (name, rows)) command =
     IsJob name rows command.job × HasWorkers rows command.workers × (IsTrue command.explain ↔ IsFlagged (codes "explain") rows)
+    × (IsTrue command.quiet ↔ IsFlagged (codes "quiet") rows)
 
 abbrev pub reading_of_words : List Text → Option (Text × List Row)
 reading_of_words words = subcommand_of command_line words

@@ -2,7 +2,7 @@
 ghost use Rattle.std.specs.Prelude.{◌≡◌, [], false, IfOk};
 ghost use Rattle.clap.specs.Words.{app_of, rule_of};
 ghost use Rattle.ts_command.specs.CommandLine.{IsLocal, command_line, explain_rule, flag_rule, hold_special_rule, holds_rule};
-ghost use Rattle.ts_command.specs.CommandLine.{json_rule, line_head, pair_rules, place_rule};
+ghost use Rattle.ts_command.specs.CommandLine.{json_rule, line_head, pair_rules, place_rule, quiet_rule};
 ghost use Rattle.ts_command.specs.CommandLine.{planned_pair_rules, planning_line, previewed_pair_rules, previewing_line};
 ghost use Rattle.ts_command.specs.CommandLine.{scan_shape, show_shape, single_line, taking, trial_shape, workers_rule};
 
@@ -129,8 +129,16 @@ fn explain<'a>(alloc: Global) -> Arg<'a>
     flag(alloc, "explain", help)
 }
 
-/// The subcommand of this name, with FIRST, SECOND, ARCHIVE, `--holds`, `--hold-special`, `--workers` and `--explain`, and an
-/// example of it.
+/// `--quiet`.
+fn quiet<'a>(alloc: Global) -> Arg<'a>
+    ensures rule { rule_of result ≡ quiet_rule }
+    ensures local { result.global ≡ false }
+{
+    flag(alloc, "quiet", "Draws no progress line on a terminal")
+}
+
+/// The subcommand of this name, with FIRST, SECOND, ARCHIVE, `--holds`, `--hold-special`, `--workers`, `--explain` and
+/// `--quiet`, and an example of it.
 fn on_pair<'a>(
     alloc: Global,
     name: &'a str,
@@ -149,7 +157,8 @@ fn on_pair<'a>(
         .arg(holds(alloc))?
         .arg(hold_special(alloc))?
         .arg(workers(alloc))?
-        .arg(explain(alloc))
+        .arg(explain(alloc))?
+        .arg(quiet(alloc))
 }
 
 /// The same, with PLAN.
@@ -200,7 +209,8 @@ fn scan<'a>(alloc: Global) -> Result<Command<'a>, AllocError>
         .after_help("Example:\n  twosync scan ~/notes > notes.archive")
         .arg(place(alloc, "DIR", "A folder"))?
         .arg(workers(alloc))?
-        .arg(explain(alloc))
+        .arg(explain(alloc))?
+        .arg(quiet(alloc))
 }
 
 /// The subcommand that prints what an archive has.

@@ -37,12 +37,13 @@ pub enum Job<'a> {
     Sync { pair: Pair<'a> },
 }
 
-/// A job, by how many threads it is done, 1 to 64, and whether faults are put in words, too.
+/// A job, by how many threads it is done, 1 to 64, whether faults are put in words, too, and whether no progress line is drawn.
 #[derive(Drop)]
 pub struct Command<'a> {
     pub job: Job<'a>,
     pub workers: u32,
     pub explain: bool,
+    pub quiet: bool,
     pub ghost some: { 1 ≤ workers },
     pub ghost few: { workers ≤ 64 },
 }

@@ -70,6 +70,7 @@ fn tell<'a>(message: clap::Error) -> Result<Command<'a>, CommandFault>
             job: Job::Tell { text: message },
             workers: USUAL_WORKERS,
             explain: false,
+            quiet: false,
         }),
         _ => Err(CommandFault::Usage { message }),
     }
@@ -84,10 +85,12 @@ fn read_command<'a>(matches: &ArgMatches<'a>) -> Option<Command<'a>>
     let job = read_job(name, inner)?;
     let workers = read_workers(inner)?;
     let explain = is_flagged(inner, "explain");
+    let quiet = is_flagged(inner, "quiet");
     Some(Command {
         job,
         workers,
         explain,
+        quiet,
     })
 }
 

@@ -9,4 +9,5 @@ mod Printing
 mod Putting
 mod Staged
 mod Adding
+mod Counted
 mod Scanning

@@ -11,6 +11,7 @@ ghost use Rattle.ts_perform.specs.Runs.{HasKept};
 ghost use Rattle.ts_perform.specs.Stands.{AreAtStands, IsRunOf, source_root, target_root};
 ghost use Rattle.ts_perform.specs.Trials.{IsQuiet};
 
+use crate::counting::{Folders, run_counted};
 use crate::disk::{Disk, Machine};
 use crate::fault::{PerformFault, Subject, of_disk, replica_on};
 use crate::room::{largest_commit, workers_with_room};
@@ -19,7 +20,7 @@ use std::alloc::Global;
 use ts_check::Checked;
 use ts_command::Pair;
 use ts_disk::Replica;
-use ts_exec::{ActionResult, OpenGate, Outcome, RunFault, run};
+use ts_exec::{ActionResult, Outcome};
 use ts_model::plan::{Action, Entry, Kind, Plan, Reason, Side};
 use ts_name::Path;
 use ts_special::Specials;
@@ -41,6 +42,7 @@ pub(crate) fn act<R: Machine>(
         rt,
         pair,
         workers,
+        progress,
         ..
     } = task;
     let alloc = rt.alloc();
@@ -48,12 +50,11 @@ pub(crate) fn act<R: Machine>(
     let sites = sites(*rt, *pair, checked)?;
     let first = rt.folder(alloc, pair.first, Specials::none(alloc))?;
     let second = rt.folder(alloc, pair.second, Specials::none(alloc))?;
-    match run(
-        *rt, alloc, &*checked, &first, &second, sites, workers, &OpenGate,
-    ) {
-        Ok(outcome) => Ok(outcome),
-        Err((_sites, RunFault::OutOfMemory)) => Err(PerformFault::OutOfMemory),
-    }
+    let folders = Folders {
+        first: &first,
+        second: &second,
+    };
+    run_counted(*rt, progress, checked, &folders, sites, workers)
 }
 
 /// The places of a plan's commits, in the order of the actions: each in the replica that its entry is copied to.

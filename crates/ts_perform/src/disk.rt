@@ -11,11 +11,13 @@ use std::alloc::Global;
 use std::fs;
 use std::fs::{File, Files};
 use std::io::{ErrorKind, Read};
+use std::rt::Clock;
 use std::thread::Threads;
 use ts_disk::{ArchivePlace, DiskFault, DiskSite, Lock, claim_archive, flush_above, take_lock};
 use ts_folder::Folder;
 use ts_name::Path;
 use ts_print::Print;
+use ts_progress::Screen;
 use ts_scan::ScanFault;
 use ts_site::Site;
 use ts_special::{HoldingFolder, Specials, search};
@@ -146,10 +148,12 @@ pub trait Disk {
         requires { IsSync T.row };
 }
 
-/// What commands ask of a machine: its file system, its memory, and that threads may share both.
-pub trait Machine: Disk + Files + AllocGlobal + Threads + Clone + Drop + Sync {}
+/// What commands ask of a machine: its file system, its memory, a screen and a clock for what is drawn while they work, and that
+/// threads may share all of it.
+pub trait Machine: Disk + Files + AllocGlobal + Threads + Screen + Clock + Clone + Drop + Sync {}
 
-impl<R: Disk + Files + AllocGlobal + Threads + Clone + Drop + Sync> Machine for R {}
+impl<R: Disk + Files + AllocGlobal + Threads + Screen + Clock + Clone + Drop + Sync> Machine
+    for R {}
 
 impl Disk for HostRuntime {
     ghost use Rattle.std.specs.Prelude.{◌≡◌, ⊤};

@@ -7,6 +7,7 @@ ghost use Rattle.ts_perform.specs.Specials.{AreSpecials};
 ghost use Rattle.ts_perform.specs.Stands.{AreScans, IsScanOf};
 ghost use Rattle.ts_perform.specs.Trials.{IsQuiet};
 
+use crate::counting::{Folders, scan_both_counted, scan_counted};
 use crate::disk::{Disk, Machine};
 use crate::fault::{PerformFault, Subject, Why, of_archive, of_hold, of_open, of_plan, of_text};
 use crate::lengths::fault_below;
@@ -19,7 +20,8 @@ use ts_command::Pair;
 use ts_hold::{Holds, RuleReader};
 use ts_model::plan::Plan;
 use ts_print::Print;
-use ts_scan::{ScanFault, scan, scan_both};
+use ts_progress::Progress;
+use ts_scan::ScanFault;
 use ts_special::Specials;
 use ts_text::{Counted, Lines, Source, TextFault};
 
@@ -113,6 +115,7 @@ fn read_plan<R: Disk + AllocGlobal>(rt: &R, name: &str) -> Result<Plan, PerformF
 /// The print of a folder.
 pub(crate) fn scan_folder<R: Machine>(
     rt: &R,
+    progress: &Progress<'_, R>,
     root: &str,
     workers: u32,
 ) -> Result<Print, PerformFault>
@@ -123,7 +126,7 @@ pub(crate) fn scan_folder<R: Machine>(
 {
     let alloc = rt.alloc();
     let folder = rt.folder(alloc, root, Specials::none(alloc))?;
-    match scan(rt, alloc, &folder, workers) {
+    match scan_counted(rt, progress, &folder, workers) {
         Ok(print) => Ok(print),
         Err(fault) => Err(fault_below(root, Subject::Folder, fault)),
     }
@@ -189,7 +192,11 @@ impl Scanned {
         let SpecialPaths { first, second } = special;
         let first = rt.folder(alloc, pair.first, first)?;
         let second = rt.folder(alloc, pair.second, second)?;
-        let (first, second) = scan_both(rt, alloc, &first, &second, task.workers);
+        let folders = Folders {
+            first: &first,
+            second: &second,
+        };
+        let (first, second) = scan_both_counted(rt, &task.progress, &folders, task.workers);
         Scanned::of(pair, first, second)
     }
 

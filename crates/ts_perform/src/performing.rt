@@ -22,6 +22,7 @@ use std::thread::Threads;
 use ts_command::{Command, Job};
 use ts_explain::{write_fault, write_sentence};
 use ts_print::{Print, PrintFault};
+use ts_progress::Progress;
 use ts_text::{Lines, Sink, Source, write_all};
 use ts_trial::trial;
 
@@ -122,7 +123,10 @@ fn answer<R: Machine, I: Source + Drop, O: Sink, E: Sink>(
     match &command.job {
         Job::Tell { text } => tell(rt.alloc(), text, out),
         Job::Trial => answer_bundle(rt, input, out, workers),
-        Job::Scan { folder } => print_scan(rt, folder, workers, out),
+        Job::Scan { folder } => {
+            let progress = Progress::new(rt, rt.alloc(), command.quiet);
+            print_scan(rt, &progress, folder, workers, out)
+        }
         Job::Show { archive } => show(rt, archive, out),
         Job::Plan { pair } => print_plan(&Task::new(rt, command, pair), out),
         Job::Preview { pair, json } => preview(&Task::new(rt, command, pair), *json, out),
@@ -167,6 +171,7 @@ fn answer_bundle<R: AllocGlobal + Threads + Sync, I: Source + Drop, O: Sink>(
 /// Prints the archive that a folder would give.
 fn print_scan<R: Machine, O: Sink>(
     rt: &R,
+    progress: &Progress<'_, R>,
     folder: &str,
     workers: u32,
     out: &mut O,
@@ -175,7 +180,7 @@ fn print_scan<R: Machine, O: Sink>(
     requires few { workers ≤ 64 }
     ensures { Prints (IsScanText R.is_at R.Folder.tells folder.now) (O.holds out.old) (O.holds out.new) result }
 {
-    let print = scan_folder(rt, folder, workers)?;
+    let print = scan_folder(rt, progress, folder, workers)?;
     ts_archive::encode(rt.alloc(), &print, out).map_err(|fault| of_archive(
         fault,
         Subject::Output,
@@ -229,5 +234,5 @@ fn check_plan<R: Machine, O: Sink>(
         (O.holds out.old) (O.holds out.new) result }
 {
     let (snapshot, plan) = Snapshot::read_for(task, plan)?;
-    snapshot.print_verdict(task.rt, task.rt.alloc(), &plan, out)
+    snapshot.print_verdict(task.rt, task.rt.alloc(), &task.progress, &plan, out)
 }

@@ -289,7 +289,7 @@ impl<R: Machine> Task<'_, R> {
             (O.holds out.old) (O.holds out.new) (E.holds err.old) (E.holds err.new) result }
     {
         let alloc = self.rt.alloc();
-        let checked = snapshot.check(self.rt, alloc, plan)?;
+        let checked = snapshot.check_drawn(self.rt, alloc, &self.progress, plan)?;
         snapshot.look_at_lengths(alloc, self.pair, plan)?;
         self.save(alloc, plan, &*claims)?;
         match act(self, &checked) {

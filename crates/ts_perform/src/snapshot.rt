@@ -13,6 +13,7 @@ use crate::fault::{
 };
 use crate::lengths::{first_too_long, too_long};
 use std::alloc::Global;
+use std::rt::Clock;
 use std::thread::Threads;
 use ts_check::{Checked, check};
 use ts_command::Pair;
@@ -20,6 +21,7 @@ use ts_hold::Holds;
 use ts_model::plan::Plan;
 use ts_plan_build::resume;
 use ts_print::Print;
+use ts_progress::{Amount, Phase, Progress, Screen};
 use ts_text::{Sink, write_line};
 
 /// What a plan is made from, and checked against: the archive, the hold rules, and the prints of both replicas.
@@ -59,7 +61,7 @@ impl Snapshot {
     }
 
     /// The plan with the checker's yes.
-    pub(crate) fn check<'a>(
+    fn check<'a>(
         &'a self,
         rt: &(impl Threads + Sync),
         alloc: Global,
@@ -82,6 +84,25 @@ impl Snapshot {
         }
     }
 
+    /// The same, and the line says meanwhile that the plan is checked.
+    pub(crate) fn check_drawn<'a, S: Screen + Clock>(
+        &'a self,
+        rt: &(impl Threads + Sync),
+        alloc: Global,
+        progress: &Progress<'_, S>,
+        plan: &'a Plan,
+    ) -> Result<Checked<'a>, PerformFault>
+        ensures checked { IfOk result (λ checked. checked ≡ checkup_of self.entry.now plan.entry.now) }
+        ensures valid { OnOk result (Valid (snapshot_of (checkup_of self.entry.now plan.entry.now)) plan.entry.now) }
+        ensures safe { OnOk result (IsSafe (snapshot_of (checkup_of self.entry.now plan.entry.now)) plan.entry.now) }
+        ensures refused { IfErr result (IsUnchecked (checkup_of self.entry.now plan.entry.now)) }
+    {
+        let meter = progress.begin(Phase::Checking, Amount::none());
+        let checked = self.check(rt, alloc, plan);
+        meter.end();
+        checked
+    }
+
     /// Prints the plan for what is there.
     pub(crate) fn print_plan<O: Sink>(&self, alloc: Global, out: &mut O) -> Result<u8, PerformFault>
         ensures { Prints (IsPrintoutOf self.now) (O.holds out.old) (O.holds out.new) result }
@@ -96,16 +117,17 @@ impl Snapshot {
     }
 
     /// Prints that a plan is valid for what is there. One that isn't is refused, by the rule that it breaks first.
-    pub(crate) fn print_verdict<O: Sink>(
+    pub(crate) fn print_verdict<S: Screen + Clock, O: Sink>(
         &self,
         rt: &(impl Threads + Sync),
         alloc: Global,
+        progress: &Progress<'_, S>,
         plan: &Plan,
         out: &mut O,
     ) -> Result<u8, PerformFault>
         ensures { Judges (λ k. k ≡ checkup_of self.now plan.now) (O.holds out.old) (O.holds out.new) result }
     {
-        let _checked = self.check(rt, alloc, plan)?;
+        let _checked = self.check_drawn(rt, alloc, progress, plan)?;
         match write_line(out, b"valid") {
             Ok(()) => Ok(0),
             Err(fault) => Err(on_output(fault)),

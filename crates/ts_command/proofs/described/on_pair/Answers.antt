@@ -16,7 +16,8 @@ returns-clause-shape c =
     let fourth = rule_step c.in_ok-arg-4.ensures c.holds.ensures.local _ _ third c.holds.ensures.rule in
     let fifth = rule_step c.in_ok-arg-5.ensures c.hold_special.ensures.local _ _ fourth c.hold_special.ensures.rule in
     let sixth = rule_step c.in_ok-arg-6.ensures c.workers.ensures.local _ _ fifth c.workers.ensures.rule in
-    IfOk-weaker c.arg-7.result _ _ (λ r adds. rule_step adds c.explain.ensures.local _ _ sixth c.explain.ensures.rule) c.arg-7.ensures
+    let seventh = rule_step c.in_ok-arg-7.ensures c.explain.ensures.local _ _ sixth c.explain.ensures.rule in
+    IfOk-weaker c.arg-8.result _ _ (λ r adds. rule_step adds c.quiet.ensures.local _ _ seventh c.quiet.ensures.rule) c.arg-8.ensures
 
 pub returns-clause-local : goal.returns-clause-local
 returns-clause-local c =
@@ -27,4 +28,5 @@ returns-clause-local c =
     let fourth = local_step c.in_ok-arg-4.ensures c.holds.ensures.local third in
     let fifth = local_step c.in_ok-arg-5.ensures c.hold_special.ensures.local fourth in
     let sixth = local_step c.in_ok-arg-6.ensures c.workers.ensures.local fifth in
-    IfOk-weaker c.arg-7.result _ _ (λ r adds. local_step adds c.explain.ensures.local sixth) c.arg-7.ensures
+    let seventh = local_step c.in_ok-arg-7.ensures c.explain.ensures.local sixth in
+    IfOk-weaker c.arg-8.result _ _ (λ r adds. local_step adds c.quiet.ensures.local seventh) c.arg-8.ensures
