@@ -4,7 +4,7 @@ ghost use Rattle.ts_model.specs.Swap.{recovery, with_spot};
 ghost use Rattle.ts_model.specs.Swap as model;
 ghost use Rattle.ts_model.specs.Trees.{IsSubListing};
 ghost use Rattle.ts_model.specs.declared.row.Row.{Row};
-ghost use Rattle.ts_swap.specs.Leavings.{AtEachMoment, Does, FailedAtMostOnce, Grows, HasFailed, IsBack, IsDuring, IsInSwap, IsPut, IsStopped, MayHaveLeft};
+ghost use Rattle.ts_swap.specs.Leavings.{AtEachMoment, Does, FailedAtMostOnce, Grows, HasFailed, IsBack, IsDuring, IsInSwap, IsPut, IsReplaced, IsStopped, MayHaveLeft};
 ghost use Rattle.ts_swap.specs.Leavings.{IsSetAside, IsSettled, KeepsOthers, Looks, OnSpots, Recovers, Replaces, Stumbles, Tells, KeepsOriginal, StaysInSwap, removal, spot_of};
 ghost use Rattle.ts_swap.specs.declared.places.Spot.{Spot};
 ghost use Rattle.ts_swap.specs.declared.places.Spot.TheVariants as spot;
@@ -150,9 +150,10 @@ pub fn recover<P: Places>(places: &mut P) -> Result<(), Failed>
     tidy(places, target, new, old)
 }
 
-/// Replaces at some places, and recovers others. Where those stand as a stop in the replacement may have left the first, at
-/// whatever moment, recovery that ends leaves the original or the tree at their target, whole, and nothing at the other
-/// spots. Where it is stopped or fails, it leaves what it may be called on again.
+/// Replaces at some places, and recovers others. The new tree is put in place at the first, or a look at their target or a
+/// call failed there. Where the others stand as a stop in the replacement may have left the first, at whatever moment,
+/// recovery that ends leaves the original or the tree at their target, whole, and nothing at the other spots. It fails only
+/// where a look or a call at the others failed. Where it is stopped or fails, it leaves what it may be called on again.
 pub fn recover_stopped<P: Places, Q: Places>(
     places: &mut P,
     tree: &[Row<Items<u8>>],
@@ -161,6 +162,9 @@ pub fn recover_stopped<P: Places, Q: Places>(
     requires tree { IsSubListing tree.now }
     requires new { IfSome (P.spots places.old) (λ s. s.new ≡ []) }
     requires old { IfSome (P.spots places.old) (λ s. s.old ≡ []) }
+    ensures fault { IsErr result → ((at : Spot) × Q.hides stopped.old at) ⊎ HasFailed (Q.failures stopped.old) (Q.failures stopped.new) }
+    ensures replaced { OnSpots (λ _ left. IsReplaced tree.now left) (P.spots places.old) (P.spots places.new)
+        ⊎ ((P.hides places.old spot.Target) ⊎ HasFailed (P.failures places.old) (P.failures places.new)) }
     ensures settled { IsOk result → IfSome (P.spots places.old)
         (λ s. OnSpots (λ found left. MayHaveLeft s (P.moments places.old) (P.moments places.new) found → IsSettled s.target tree.now left)
         (Q.spots stopped.old) (Q.spots stopped.new)) }
