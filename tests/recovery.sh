@@ -7,15 +7,17 @@ cd "$(dirname "$0")/.." || exit 1
 
 one='total 1 done 1 skipped 0 failed 0 blocked 0'
 
-# ---- recovery: a run was stopped between the two renames of a swap; a plan carried by hand recovers, too
-for words in 'sync first second archive' 'run first second archive plan'; do
-  fresh
-  printf a >second/a
-  mkdir first/a
-  printf b >first/a/b
-  archive_of "f /a 1 $SA" >archive
-  mkdir first/.twosync second/.twosync
-  tee first/.twosync/plan plan >second/.twosync/plan <<'P'
+# ---- recovery: a run was stopped between the two renames of a swap, or when the old file was on its way back: then it has
+# both names; a plan carried by hand recovers, too
+for when in 'between the renames' 'on the way back'; do
+  for words in 'sync first second archive' 'run first second archive plan'; do
+    fresh
+    printf a >second/a
+    mkdir first/a
+    printf b >first/a/b
+    archive_of "f /a 1 $SA" >archive
+    mkdir first/.twosync second/.twosync
+    tee first/.twosync/plan plan >second/.twosync/plan <<'P'
 twosync-plan 1
 entry first /a
 piece 0 0 1 /a/b
@@ -25,12 +27,17 @@ mark 0
 p 1
 end 1 3
 P
-  mv second/a second/.twosync/old-0
-  mkdir second/.twosync/new-0
-  # shellcheck disable=SC2086
-  expect "recovery: $words" 0 $'done first /a\n'"$one" '' $words
-  alike "recovery: $words"
-  holds_true "recovery: $words: the change" test "$(cat second/a/b)" = b
+    ln second/a second/.twosync/old-0
+    [ "$when" = 'on the way back' ] || rm second/a
+    mkdir second/.twosync/new-0
+    # shellcheck disable=SC2086
+    expect "recovery, $when: $words" 0 $'done first /a\n'"$one" '' $words
+    alike "recovery, $when: $words"
+    holds_true "recovery, $when: $words: the change" test "$(cat second/a/b)" = b
+    archive_of "d /a
+f /a/b 1 $SB" >wanted
+    holds_true "recovery, $when: $words: the archive" cmp -s archive wanted
+  done
 done
 
 # ---- a spot has its entry's number, which isn't that of its commit where an entry before it has none

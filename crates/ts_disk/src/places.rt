@@ -331,8 +331,11 @@ impl<R: Files + AllocGlobal + Clone + Drop> DiskPlaces<R> {
                 Standing::Nothing | Standing::CutOff => return Ok(false),
             }
         }
-        // a stop between the two steps by which a file is put in place leaves it under both names
-        Ok(!are_one(&self.files, self.place(Spot::Target), self.place(Spot::New))?)
+        // a stop between the two steps by which a file is put in place, or back there, leaves it under both names
+        let target = self.place(Spot::Target);
+        let is_new = are_one(&self.files, target, self.place(Spot::New))?;
+        let is_old = are_one(&self.files, target, self.place(Spot::Old))?;
+        Ok(!is_new && !is_old)
     }
 }
 
