@@ -213,13 +213,21 @@ def outcome(child):
     return child.returncode, said
 
 
-def run(program, before=(), words=()):
+def run(program, before=(), words=(), command=WORDS):
     """Runs the program on the copy of a pair; answers its status, none where it came to no end, and what it said. `before`
-    stands before the program."""
+    stands before the program, and `words` after the command."""
     pipe = subprocess.PIPE
-    every = [*before, program, *WORDS, *words]
+    every = [*before, program, *command, *words]
     with subprocess.Popen(every, cwd="try", stdout=pipe, stderr=pipe, text=True, start_new_session=True) as child:
         return outcome(child)
+
+
+def run_to_stop(program, call, number, command=WORDS):
+    """Runs the program, and kills it before this call. Answers whether it came to that."""
+    stop = "inject=%s:signal=KILL:when=%d" % (call, number)
+    strace = ["strace", "-qq", "-f", "-o", "/dev/null", "-e", "trace=" + call, "-e", stop]
+    status, _ = run(program, strace, command=command)
+    return status in (-9, 137)
 
 
 def calls(log):
@@ -240,22 +248,29 @@ def changes(call, rest):
     return call not in WRITING or os.path.realpath("try") in rest
 
 
-def points(case, program, matters=changes, words=(), again=NOTHING, more=()):
-    """The calls of a whole run that matter: each one's name, and which one of that name it is. `more` names those that are
-    looked at beside those that open or change something."""
-    case.fresh()
+def traced(name, program, matters=changes, words=(), more=(), command=WORDS):
+    """Runs the program to its end on the copy of a pair as it stands. Answers its status, what it said, and its calls that
+    matter: each one's name, and which one of that name it is. `more` names those that are looked at beside those that open
+    or change something."""
     every = ",".join([*OPENS, *WRITING, *OTHERS, *more])
     strace = ["strace", "-qq", "-f", "-y", "-s", "1", "-e", "signal=none", "-o", "../log", "-e", "trace=" + every]
-    status, said = run(program, strace, words)
-    hold("%s, undisturbed" % case.name, case.problem_at_end(status, said))
-    status, said = run(program, words=words)
-    hold("%s, undisturbed, and once more" % case.name, said != (again, "") and " ".join(said))
+    status, said = run(program, strace, words, command)
     found, threads = [], set()
     for thread, call, number, rest in calls("log"):
         threads.add(thread)
         if matters(call, rest):
             found.append((call, number))
-    hold("%s: one thread does all" % case.name, len(threads) != 1 and "%d threads" % len(threads))
+    hold("%s: one thread does all" % name, len(threads) != 1 and "%d threads" % len(threads))
+    return status, said, found
+
+
+def points(case, program, matters=changes, words=(), again=NOTHING, more=(), command=WORDS):
+    """The calls that matter of a whole run on a fresh copy of a pair, as `traced` answers them."""
+    case.fresh()
+    status, said, found = traced(case.name, program, matters, words, more, command)
+    hold("%s, undisturbed" % case.name, case.problem_at_end(status, said))
+    status, said = run(program, words=words)
+    hold("%s, undisturbed, and once more" % case.name, said != (again, "") and " ".join(said))
     return found
 
 
