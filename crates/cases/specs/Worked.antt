@@ -1,9 +1,11 @@
 -- The plans of the cases, and what a pass does in them.
 --     worked p           a piece of one byte, the commit of its file, and the mark; p is the path of the file
 --     removal            the commit of a file that is deleted, and its mark
+--     nested p q         the mark of a new directory, and what worked has for each of two files in it, whose paths are p and q
 --     act_steps i w      what a pass does to carry an action out
 --     put_steps c k w    what it does to carry out a commit of one piece
 --     HasFile plan b     actions b, b + 1 and b + 2 are the one piece of a file, of one byte, its commit and its mark
+--     HasDirectory plan  action 0 is the mark of a new directory, for which actions 3 and 6 wait
 --     IsTask plan t      the plan has the actions of this task
 use Rattle.std.specs.Prelude.{◌≡◌, ◌<◌, ◌+◌, ℕ, List, [], ◌∷◌, length}
 use Rattle.ts_name.specs.Paths.{Path}
@@ -22,6 +24,15 @@ worked p = record { kind = Piece 0 0 1 p; preds = [] } ∷ record { kind = Commi
 
 unfoldable pub removal : List Action
 removal = record { kind = Commit 0; preds = [] } ∷ record { kind = Mark 0; preds = 0 ∷ [] } ∷ []
+
+unfoldable pub nested : Path → Path → List Action
+nested p q =
+    record { kind = Mark 0; preds = [] }
+    ∷ record { kind = Piece 1 0 1 p; preds = [] } ∷ record { kind = Commit 1; preds = 1 ∷ [] } ∷ record { kind = Mark 1; preds = 0 ∷ 2 ∷ [] }
+    ∷ record { kind = Piece 2 0 1 q; preds = [] } ∷ record { kind = Commit 2; preds = 4 ∷ [] } ∷ record { kind = Mark 2; preds = 0 ∷ 5 ∷ [] } ∷ []
+
+abbrev pub IsNested : List Action → Type 0
+IsNested actions = (p q : Path) × (actions ≡ nested p q)
 
 abbrev pub IsWorked : List Action → Type 0
 IsWorked actions = (p : Path) × (actions ≡ worked p)
@@ -48,8 +59,14 @@ pub record HasRemoval (plan : Plan) : Type 0 where
   pub none : (k : ℕ) → ¬ IsPieceOf plan 0 k
   pub mark_waits : Waits plan 1 0
 
+pub record HasDirectory (plan : Plan) : Type 0 where
+  pub mark : (e : ℕ) × KindIs plan 0 (Mark e)
+  pub first_waits : Waits plan 3 0
+  pub second_waits : Waits plan 6 0
+
 abbrev pub IsTask : Plan → Task → Type 0
 IsTask plan task.Removal = HasRemoval plan × (1 < length plan.actions)
+IsTask plan task.Directory = HasDirectory plan × (6 < length plan.actions)
 IsTask plan (task.Piece b) = HasFile plan b × (b + 2 < length plan.actions) × (b < 100)
 IsTask plan (task.Commit b) = HasFile plan b × (b + 2 < length plan.actions) × (b < 100)
 IsTask plan (task.Mark b) = HasFile plan b × (b + 2 < length plan.actions) × (b < 100)

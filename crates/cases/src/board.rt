@@ -1,18 +1,21 @@
 //! Plans on a board, each action of which two passes on two threads try to claim. A new file is copied over memory, over a
 //! device that fails at the commit, over a target that was changed, and with a staged byte that doesn't fit; a file is
-//! deleted. Says the words step by step, and what is left of the archive and at the site.
+//! deleted. Says the words step by step, and what is left of the archive and at the site. The actions for a new directory with
+//! two files are carried out in order, with a checkpoint of the archive after each.
 
 ghost use Rattle.std.specs.Prelude.{◌≡◌, length};
-ghost use Rattle.cases.specs.Worked.{IsWorked, removal};
+ghost use Rattle.cases.specs.Worked.{IsNested, IsWorked, removal};
 
 mod desk;
 mod flow;
 mod plan;
 mod race;
+mod steps;
 mod task;
 
 use crate::board::flow::{End, removal_case, worked_case};
-use crate::board::plan::{print_of, removal_plan, worked_plan};
+use crate::board::plan::{nested_plan, print_of, removal_plan, text_of, worked_plan};
+use crate::board::steps::nested_case;
 use crate::board::task::Seen;
 use anyhow::{Result, bail};
 use std::alloc::Global;
@@ -22,13 +25,18 @@ use ts_check::{Checked, check};
 use ts_hold::Holds;
 use ts_model::row::Content;
 use ts_name::Path;
-use ts_print::encode;
 use ts_site::{FaultySite, MemSite, Site};
-use ts_text::Counted;
 use ts_tree::SubTree;
 
 /// The print of a replica whose one file `/a` has the byte `a`.
 const FILE: &str = "f /a 1 ca978112ca1bbdcafac231b39a23dc4da786eff8147c4e72b9807785afee48bb";
+
+/// The prints of two replicas with a directory `/d`, and in it the file `/d/x` with the byte `a`, or `/d/y` with `b`.
+const WITH_X: &str =
+    "d /d\nf /d/x 1 ca978112ca1bbdcafac231b39a23dc4da786eff8147c4e72b9807785afee48bb";
+
+const WITH_Y: &str =
+    "d /d\nf /d/y 1 3e23e8160039594a33894f6564e1b1348bbd7a0088d42c4acb73eeaed59c009d";
 
 /// The words after a new file was copied over memory: a piece that is taken, and a commit and a mark that are done.
 const COPIED: &[u64] = &[47_244_640_256, 12_884_901_888, 12_884_901_888];
@@ -57,9 +65,7 @@ fn tell_end<S: Drop>(rt: &impl Print, alloc: Global, end: &End<S>) -> Result<()>
         is_again,
         ..
     } = end;
-    let mut sink = Counted::new(Vec::new(alloc));
-    encode(alloc, archive, &mut sink)?;
-    let text = String::from_utf8_lossy(alloc, &sink.into_inner())?;
+    let text = text_of(alloc, archive)?;
     println!(rt; "words: {words:?}\narchive: {text:?}\nsite taken twice: {is_again}")?;
     Ok(())
 }
@@ -221,11 +227,41 @@ fn tell_removal<R: Threads + Print + Sync>(rt: &R, alloc: Global) -> Result<()> 
     removed(rt, &checked, sites, alloc)
 }
 
+/// The case of a new directory in both replicas, over the sites of the two files in it.
+fn stepped<R: Print>(
+    rt: &R,
+    checked: &Checked<'_>,
+    sites: Vec<MemSite>,
+    alloc: Global,
+) -> Result<()>
+    requires actions { IsNested checked.now.plan.actions }
+    requires two { length sites.items ≡ 2 }
+{
+    println!(rt; "-- a new directory with two files, a checkpoint after each action")?;
+    let end = nested_case(rt, alloc, checked, sites)?;
+    tell_end(rt, alloc, &end)
+}
+
+fn tell_steps<R: Threads + Print + Sync>(rt: &R, alloc: Global) -> Result<()> {
+    let nothing = ts_print::Print::empty(alloc);
+    let first = print_of(alloc, WITH_X)?;
+    let second = print_of(alloc, WITH_Y)?;
+    let holds = Holds::none(alloc);
+    let plan = nested_plan(alloc)?;
+    let checked = check(rt, alloc, &plan, &nothing, &first, &second, &holds)?;
+    let sites = vec![in alloc;
+        MemSite::new(SubTree::absent(alloc)),
+        MemSite::new(SubTree::absent(alloc)),
+    ]?;
+    stepped(rt, &checked, sites, alloc)
+}
+
 /// Carries the plans out, and says what came of them.
 pub fn try_cases<R: Threads + Print + AllocGlobal + Sync>(rt: &R) -> Result<()> {
     let alloc = rt.alloc();
     tell_copies(rt, alloc)?;
     tell_removal(rt, alloc)?;
+    tell_steps(rt, alloc)?;
     let open = OpenFault::OutOfMemory.number();
     println!(rt; "out of memory: {open}")?;
     Ok(())

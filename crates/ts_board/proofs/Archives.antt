@@ -1,5 +1,5 @@
--- What the marks that are done leave of the archive: what the run that did them left.
-use Rattle.std.proofs.Common.{◌≡◌, ◌≢◌, ℕ, suc, ◌+◌, ◌<◌, Bool, true, false, List, [], ◌∷◌, ◌++◌, length, sym, refl, ap, ◌∙◌, subst, inl, inr, append-nil, arith}
+-- What the marks of a closed part leave of the archive, put in the entries' order: the part's archive. For a closed board that is the one after the run.
+use Rattle.std.proofs.Common.{◌≡◌, ◌≢◌, ◌⊎◌, ℕ, suc, ◌+◌, ◌<◌, Bool, true, false, List, [], ◌∷◌, ◌++◌, length, Option, Some, None, slice_get, sym, refl, ap, ◌∙◌, subst, inl, inr, append-nil, arith}
 use Rattle.std.specs.Prelude.{slice_index, slice_index_or, Result, Ok, Err, IfOk}
 use Rattle.std.specs.List.{AllByRecursion, list_any}
 use Rattle.std.specs.Int.{bit_at}
@@ -7,8 +7,9 @@ use Rattle.std.proofs.lemmas.Bool.{true≢false, cases_eq}
 use Rattle.std.proofs.lemmas.Option.{slice_get_within}
 use Rattle.ts_name.specs.Paths.{Name, Path, IsBefore}
 use Rattle.ts_model.specs.Trees.{Listing, Tree, Print, IsListing, at}
-use Rattle.ts_model.specs.Sync.{Snapshot, IsSnapshot, AreBothDirs, IsSkipped, treatment}
+use Rattle.ts_model.specs.Sync.{Snapshot, AreBothDirs, HasReason, IsSkipped, treatment}
 use Rattle.ts_model.specs.Plans.{ActionIs, EntryIs, KindIs, Valid}
+use Rattle.ts_model.specs.Resume.{IsClosedPart, archive_of_part}
 use Rattle.ts_model.specs.Runs.{Run, Legal, Has, acts, finishes, graft, marked, after, start, word_after, marked_by}
 use Rattle.ts_model.specs.declared.row.Content.TheVariants.{Absent, Dir}
 use Rattle.ts_model.specs.declared.row.Stamp.{Stamp}
@@ -20,19 +21,21 @@ use Rattle.ts_model.specs.declared.plan.Treatment.TheVariants.{Copied, Agreed, N
 use Rattle.ts_model.proofs.Reasons.{skipped_from_left}
 use Rattle.ts_model.specs.declared.plan.Entry.{Entry}
 use Rattle.ts_model.specs.declared.plan.Action.{Action}
-use Rattle.ts_model.specs.declared.plan.Kind.TheVariants.{Mark}
+use Rattle.ts_model.specs.declared.plan.Kind.{Kind}
+use Rattle.ts_model.specs.declared.plan.Kind.TheVariants.{Piece, Commit, Mark}
 use Rattle.ts_model.specs.declared.plan.Plan.{Plan}
 use Rattle.ts_table.specs.Tables.{IsPlace}
 use Rattle.ts_laws.proofs.Settings.{Setting}
 use Rattle.ts_name.proofs.Order.{before_itself, before_trans, before_below}
 use Rattle.ts_laws.proofs.Grafts.{graft_at}
-use Rattle.ts_laws.proofs.Reasons.{still_not_Dir, new_dir_reason}
-use Rattle.ts_laws.proofs.Steps.{same_entry, mark_is_marked}
-use Rattle.ts_laws.proofs.Plans.{in_order, mark_exists, mark_waits_for_dir}
+use Rattle.ts_laws.proofs.Reasons.{Dir-dirs, IsEdge, IsWhole-from_snapshot, by_places, still_not_Dir, new_dir_reason}
+use Rattle.ts_laws.proofs.Steps.{same_entry, mark_is_marked, reason_holds}
+use Rattle.ts_laws.proofs.Plans.{in_order, mark_exists, mark_waits_for_dir, one_mark}
 use Rattle.ts_laws.proofs.Entries.{reason_has_entry, parent_is_nearest}
 use Rattle.ts_laws.proofs.Runs.{IsRun, IsRun-from_legal, waited_for}
 use Rattle.ts_laws.specs.Laws.{IsEntryOf}
-use Rattle.ts_laws.proofs.Marks.{mark_kept, mark_over_mark, archive_from_marks}
+use Rattle.ts_laws.proofs.Marks.{mark_kept, mark_or_none, mark_over_mark, unmarked_under, IsMarkedAt, archive_from_marks}
+use Rattle.ts_laws.proofs.Parts.{part_marked, part_untouched}
 use Rattle.ts_laws.proofs.Places.{over_old_dir, not_root, parent_dirs, dir_before, ascends_to, apart_from}
 use Rattle.ts_laws.proofs.Carried.{AreFrom, first_from, rest_from}
 use Rattle.ts_board.specs.Edits.{marks, left_by, with_put, ComesFirst, MayFollow, marks_by}
@@ -41,15 +44,16 @@ use Rattle.ts_check.specs.Checkup.{Checkup, snapshot_of}
 use Rattle.ts_board.specs.declared.law.Terms.{Terms}
 use Rattle.ts_board.specs.Checks.{IsFromCheck}
 use Rattle.ts_board.specs.Kept.{HasLeft}
-use Rattle.ts_board.specs.Archives.{AreMarked, picked}
+use Rattle.ts_board.specs.Archives.{AreMarked, AreOfPart, flagged, is_flagged, picked}
+use Rattle.ts_board.proofs.Checks.{legal_for}
 use Rattle.ts_board.proofs.Words.{done_word, few_open, true_from_bit}
 use Rattle.ts_board.specs.Runs.{bit}
 use Rattle.ts_laws.proofs.Listings.{listed_lawful}
 use Rattle.ts_model.proofs.Deciding.{same_stamp_at}
 
--- the mark of the entry at this place has acted
-abbrev pub IsMarkedIn : Plan → Run → ℕ → Type 0
-IsMarkedIn plan r e = (i : ℕ) × KindIs plan i (Mark e) × Has r (acts i)
+-- the part has the mark of the entry at this place
+abbrev pub IsMarkedIn : Plan → (ℕ → Bool) → ℕ → Type 0
+IsMarkedIn plan part e = (i : ℕ) × KindIs plan i (Mark e) × (part i ≡ true)
 
 -- what holds of all entries holds of those that are picked
 picked_all : (P : Entry → Type 0) (xs : List Entry) (flags : List Bool) → AllByRecursion P xs → AllByRecursion P (picked xs flags)
@@ -69,16 +73,21 @@ put_mark s t p r h = go (treatment r) refl
     go NewDirectory e = refl
     go Skipped e = absurd (h (skipped_from_left r e))
 
+-- no mark at an edge is of a new directory
+pub root_alone : (given : Setting) (p rest : Path) → IsEdge given.s p ⊎ (AreBothDirs given.s.first given.s.second p × (rest ≡ [])) → (part : ℕ → Bool) (found : IsMarkedAt given.plan part p)
+    → found.entry.reason ≡ reason.Dir → rest ≡ []
+root_alone given p rest (inr dirs) part found new = dirs.1
+root_alone given p rest (inl edge) part found new =
+    let holds = reason_holds given.s given.plan given.valid found.place found.entry found.is in
+    absurd (edge.no_dirs (Dir-dirs given.s p (subst (λ z. ¬ (¬ HasReason given.s p z)) new (subst (λ z. ¬ (¬ HasReason given.s z found.entry.reason)) found.at holds))))
+
 -- ---- marks in the entries' order
 
-module _ (given : Setting) (r : Run) (legal : Legal given.s given.plan r) where
-  open given use {s, plan, valid, lawful, a, b}
-
-  run : IsRun plan r
-  run = IsRun-from_legal s plan valid (start s a b) r legal
+module _ (given : Setting) (r : Run) (part : ℕ → Bool) (closed : IsClosedPart given.plan r part) where
+  open given use {s, plan, valid, lawful}
 
   abbrev Chosen : ℕ → Type 0
-  Chosen e = IsMarkedIn plan r e
+  Chosen e = IsMarkedIn plan part e
 
   -- its entry isn't skipped
   markable : (e : ℕ) (x : Entry) → EntryIs plan e x → Chosen e → ¬ IsSkipped x.reason
@@ -86,7 +95,7 @@ module _ (given : Setting) (r : Run) (legal : Legal given.s given.plan r) where
       let found = mark_is_marked s plan valid chosen.0 e chosen.1 in
       subst (λ z. ¬ IsSkipped z.reason) (same_entry plan e found.0 x found.1 is) found.2
 
-  -- t is the archive with the marks that acted of the entries before place k
+  -- t is the archive with the part's marks of the entries before place k
   pub record IsMarkedTo (k : ℕ) (t : Print) : Type 0 where
     pub kept : (q : Path) → ((e : ℕ) (x : Entry) → e < k → EntryIs plan e x → Chosen e → (more : Path) → q ≡ x.path ++ more → (x.reason ≡ reason.Dir) × (more ≢ [])) → t q ≡ s.archive q
     pub written : (e : ℕ) (x : Entry) (rest : Path) → e < k → EntryIs plan e x → Chosen e → (x.reason ≡ reason.Dir → rest ≡ []) → t (x.path ++ rest) ≡ marked s x.reason x.path rest
@@ -95,7 +104,7 @@ module _ (given : Setting) (r : Run) (legal : Legal given.s given.plan r) where
   pub marked_start : IsMarkedTo 0 s.archive
   marked_start = record { kept = λ q off. refl; written = λ e x rest less is chosen only. absurd (omega arith) }
 
-  -- after an entry whose mark hasn't acted
+  -- after an entry whose mark isn't in the part
   unmarked_next : (k : ℕ) (t : Print) → ¬ Chosen k → IsMarkedTo k t → IsMarkedTo (suc k) t
   unmarked_next k t none before = record {
     kept = λ q off. before.kept q (λ e x less is chosen more at. off e x (omega arith) is chosen more at);
@@ -105,7 +114,7 @@ module _ (given : Setting) (r : Run) (legal : Legal given.s given.plan r) where
     ];
   }
 
-  -- after an entry whose mark has
+  -- after an entry whose mark is
   marked_next : (k : ℕ) (t : Print) (x : Entry) → EntryIs plan k x → Chosen k → IsMarkedTo k t → IsMarkedTo (suc k) (graft t x.path (marked s x.reason x.path))
   marked_next k t x is chosen before = record {
     kept = λ q off. mark_kept given q t k x is (λ more at. off k x (omega arith) is chosen more at)
@@ -124,7 +133,7 @@ module _ (given : Setting) (r : Run) (legal : Legal given.s given.plan r) where
   -- ---- where a marked entry stands
 
   module _ (k : ℕ) (x : Entry) (is : EntryIs plan k x) (chosen : Chosen k) where
-    -- the mark of the new directory that it is in has acted, so there is a directory by then
+    -- the mark of the new directory that it is in is in the part too, so there is a directory by then
     stands : (t : Print) → IsMarkedTo k t → IsPlace t x.path
     stands t before = record { not_root = not_root given k x is; parent = at_parent }
       where
@@ -143,9 +152,9 @@ module _ (given : Setting) (r : Run) (legal : Legal given.s given.plan r) where
                 let near = parent_is_nearest plan k found.0 x dir name is found.2 found.4 (at ∙ ap (λ z. z ++ name ∷ []) (sym found.3)) in
                 let mark = mark_exists s plan valid found.0 dir found.2 (λ skip. still_not_Dir dir.reason skip found.4) in
                 let waits = mark_waits_for_dir s plan valid chosen.0 k found.0 mark.0 chosen.1 near mark.1 in
-                let acted = waited_for plan r chosen.0 mark.0 run (run.ordered.acted chosen.0 chosen.2) waits in
+                let taken = closed.closed chosen.0 mark.0 found.0 chosen.2 waits mark.1 in
                 ap t (sym found.3 ∙ sym (append-nil dir.path))
-                ∙ before.written found.0 dir [] (dir_before given k x is parent name at found.0 dir found.2 found.3) found.2 (mark.0, mark.1, acted) (λ _. refl)
+                ∙ before.written found.0 dir [] (dir_before given k x is parent name at found.0 dir found.2 found.3) found.2 (mark.0, mark.1, taken) (λ _. refl)
                 ∙ ap (λ z. marked s z dir.path []) found.4
 
     comes_first : (xs : List Entry) (flags : List Bool) → AreFrom plan (suc k) xs → ComesFirst x.path (marks s.first s.second x.reason x.path) (picked xs flags)
@@ -155,7 +164,7 @@ module _ (given : Setting) (r : Run) (legal : Legal given.s given.plan r) where
 
   -- ---- all marked entries
 
-  -- the flags of the entries from place k on say whose marks have acted
+  -- the flags of the entries from place k on say whose marks the part has
   abbrev pub FlagsAre : ℕ → List Entry → List Bool → Type 0
   FlagsAre k [] flags = Unit {0}
   FlagsAre k (x ∷ xs) [] = ⊥
@@ -194,41 +203,110 @@ module _ (given : Setting) (r : Run) (legal : Legal given.s given.plan r) where
       subst (λ n. IsMarkedTo n (left_by (marks s.first s.second) t (picked xs flags))) same
       (ends_marked t (suc k) xs flags (rest_from plan k x xs from) are.1 (unmarked_next k t (λ c. true≢false (sym (are.0.1 c))) before))
 
-  -- ---- that is the archive after the run
+  -- ---- that is the archive of the part
 
-  pub archive_is : (t : Print) → IsMarkedTo (length plan.entries) t → t ≡ (after s plan (start s a b) r).archive
-  archive_is t before = archive_from_marks given r legal t
-      (λ q none. before.kept q (λ e x less is chosen more at. none.each chosen.0 e x chosen.2 chosen.1 is more at))
-      (λ p rest found only. subst (λ z. t (z ++ rest) ≡ marked s found.entry.reason z rest) found.at
-      (before.written found.place found.entry rest (slice_get_within plan.entries found.place found.entry found.is) found.is (found.mark, found.kind, found.chosen) only))
+  pub archive_is : (t : Print) → IsMarkedTo (length plan.entries) t → t ≡ archive_of_part s plan part (length plan.actions)
+  archive_is t before = by_places s (IsWhole-from_snapshot s lawful) t (archive_of_part s plan part (length plan.actions)) (λ p rest kind_of_p. elim (mark_or_none given part p) [
+    | inl others ↦ (let none = unmarked_under given part p rest kind_of_p others in
+        before.kept (p ++ rest) (λ e x less is chosen more at. none.each chosen.0 e x chosen.2 chosen.1 is more at) ∙ sym (part_untouched given r part closed (p ++ rest) none))
+    | inr found ↦ (let only = root_alone given p rest kind_of_p part found in
+        subst (λ z. t (z ++ rest) ≡ marked s found.entry.reason z rest) found.at
+        (before.written found.place found.entry rest (slice_get_within plan.entries found.place found.entry found.is) found.is (found.mark, found.kind, found.chosen) only)
+        ∙ sym (part_marked given r part closed p rest found only))
+  ])
 
--- ---- what is left
+-- ---- what flags leave
 
-flags_from : (given : Setting) (r : Run) (legal : Legal given.s given.plan r) (k : ℕ) (xs : List Entry) (flags : List Bool) → length flags ≡ length xs
-    → ((j : ℕ) → j < length xs → (slice_index_or flags j false ≡ true → IsMarkedIn given.plan r (k + j)) × (IsMarkedIn given.plan r (k + j) → slice_index_or flags j false ≡ true)) → FlagsAre given r legal k xs flags
-flags_from given r legal k [] flags long each = tt
-flags_from given r legal k (x ∷ xs) [] long each = absurd (omega (arith, long))
-flags_from given r legal k (x ∷ xs) (flag ∷ flags) long each = (
-  (let here = each 0 (omega arith) in let same : k + 0 ≡ k = omega arith in ((λ h. subst (λ z. IsMarkedIn given.plan r z) same (here.0 h)), λ h. here.1 (subst (λ z. IsMarkedIn given.plan r z) (sym same) h))),
-  flags_from given r legal (suc k) xs flags (omega (arith, long)) (λ j less.
+flags_from : (given : Setting) (r : Run) (part : ℕ → Bool) (closed : IsClosedPart given.plan r part) (k : ℕ) (xs : List Entry) (flags : List Bool) → length flags ≡ length xs
+    → ((j : ℕ) → j < length xs → (slice_index_or flags j false ≡ true → IsMarkedIn given.plan part (k + j)) × (IsMarkedIn given.plan part (k + j) → slice_index_or flags j false ≡ true))
+    → FlagsAre given r part closed k xs flags
+flags_from given r part closed k [] flags long each = tt
+flags_from given r part closed k (x ∷ xs) [] long each = absurd (omega (arith, long))
+flags_from given r part closed k (x ∷ xs) (flag ∷ flags) long each = (
+  (let here = each 0 (omega arith) in let same : k + 0 ≡ k = omega arith in ((λ h. subst (λ z. IsMarkedIn given.plan part z) same (here.0 h)), λ h. here.1 (subst (λ z. IsMarkedIn given.plan part z) (sym same) h))),
+  flags_from given r part closed (suc k) xs flags (omega (arith, long)) (λ j less.
       let there = each (suc j) (omega (arith, less)) in
       let same : k + suc j ≡ suc k + j = omega arith in
-      ((λ h. subst (λ z. IsMarkedIn given.plan r z) same (there.0 h)), λ h. there.1 (subst (λ z. IsMarkedIn given.plan r z) (sym same) h))),
+      ((λ h. subst (λ z. IsMarkedIn given.plan part z) same (there.0 h)), λ h. there.1 (subst (λ z. IsMarkedIn given.plan part z) (sym same) h))),
 )
+
+-- the mark of an entry is in the part just where the entry is flagged
+pub flag_of : (plan : Plan) (flags : List Bool) (i e : ℕ) → KindIs plan i (Mark e) → flagged plan flags i ≡ slice_index_or flags e false
+flag_of plan flags i e kind = ap (λ o. elim o [ None ↦ false | Some action ↦ is_flagged flags action.kind ]) kind.1 ∙ ap (λ z. is_flagged flags z) kind.2
+
+-- and the part has only marks
+pub flagged_mark : (plan : Plan) (flags : List Bool) (i : ℕ) → flagged plan flags i ≡ true → (e : ℕ) × KindIs plan i (Mark e) × (slice_index_or flags e false ≡ true)
+flagged_mark plan flags i h = go (slice_get plan.actions i) refl h
+  where
+    go : (o : Option Action) → slice_get plan.actions i ≡ o → elim o [ None ↦ false | Some action ↦ is_flagged flags action.kind ] ≡ true
+        → (e : ℕ) × KindIs plan i (Mark e) × (slice_index_or flags e false ≡ true)
+    go None is g = cc
+    go (Some action) is g = by_kind action.kind refl g
+      where
+        by_kind : (kind : Kind) → action.kind ≡ kind → is_flagged flags kind ≡ true → (e : ℕ) × KindIs plan i (Mark e) × (slice_index_or flags e false ≡ true)
+        by_kind (Mark e) at set = (e, (action, is, at), set)
+        by_kind (Commit e) at set = cc
+        by_kind (Piece e offset size p) at set = cc
 
 nowhere : Tree
 nowhere p = Absent
 
+module _ (k : Checkup) (flags : List Bool) (archive : IsListing k.archive) (first : IsListing k.first) (second : IsListing k.second) (valid : Valid (snapshot_of k) k.plan)
+    (run : Run) (of : AreOfPart k.plan run flags) where
+  abbrev setting : Setting
+  setting = record { s = snapshot_of k; plan = k.plan; valid = valid; lawful = listed_lawful k.archive k.first k.second k.rules archive first second; a = nowhere; b = nowhere }
+
+  abbrev part : ℕ → Bool
+  part = flagged k.plan flags
+
+  flags_are : (e : ℕ) → (slice_index_or flags e false ≡ true → IsMarkedIn k.plan part e) × (IsMarkedIn k.plan part e → slice_index_or flags e false ≡ true)
+  flags_are e = (
+    (λ set. let mark = of.marked e set in (mark.0, mark.1, flag_of k.plan flags mark.0 e mark.1 ∙ set)),
+    λ (i, kind, taken). sym (flag_of k.plan flags i e kind) ∙ taken,
+  )
+
+  flags_right : FlagsAre setting run part of.closed 0 k.plan.entries flags
+  flags_right = flags_from setting run part of.closed 0 k.plan.entries flags of.count (λ j less.
+      let there = flags_are j in
+      let same : j ≡ 0 + j = omega arith in
+      ((λ h. subst (λ z. IsMarkedIn k.plan part z) same (there.0 h)), λ h. there.1 (subst (λ z. IsMarkedIn k.plan part z) (sym same) h)))
+
+  all_from : AreFrom k.plan 0 k.plan.entries
+  all_from j x is = let same : j ≡ 0 + j = omega arith in subst (λ z. EntryIs k.plan z x) same is
+
+  -- the flagged marks may be put into the archive
+  marks_follow : MayFollow (marks (at k.first) (at k.second)) (at k.archive) (picked k.plan.entries flags)
+  marks_follow = follows setting run part of.closed (at k.archive) 0 k.plan.entries flags all_from flags_right (marked_start setting run part of.closed)
+
+  -- and leave the part's archive
+  part_left : left_by (marks (at k.first) (at k.second)) (at k.archive) (picked k.plan.entries flags) ≡ archive_of_part (snapshot_of k) k.plan part (length k.plan.actions)
+  part_left =
+      let same : 0 + length k.plan.entries ≡ length k.plan.entries = omega arith in
+      let ended = ends_marked setting run part of.closed (at k.archive) 0 k.plan.entries flags all_from flags_right (marked_start setting run part of.closed) in
+      archive_is setting run part of.closed (left_by (marks (at k.first) (at k.second)) (at k.archive) (picked k.plan.entries flags))
+      (subst (λ n. IsMarkedTo setting run part of.closed n (left_by (marks (at k.first) (at k.second)) (at k.archive) (picked k.plan.entries flags))) same ended)
+
+  -- the same, of values that are these
+  pub follow_from : (arc fst snd : Listing Stamp) (entries : List Entry) → arc ≡ k.archive → fst ≡ k.first → snd ≡ k.second → entries ≡ k.plan.entries
+      → MayFollow (marks (at fst) (at snd)) (at arc) (picked entries flags)
+  follow_from arc fst snd entries arc_is fst_is snd_is entries_are =
+      subst (λ (x : Listing Stamp × Listing Stamp × Listing Stamp × List Entry). MayFollow (marks (at x.1) (at x.2)) (at x.0) (picked x.3 flags))
+      (λ i. (sym arc_is i, sym fst_is i, sym snd_is i, sym entries_are i)) marks_follow
+
+  pub leave_from : (arc fst snd : Listing Stamp) (entries : List Entry) → arc ≡ k.archive → fst ≡ k.first → snd ≡ k.second → entries ≡ k.plan.entries
+      → left_by (marks (at fst) (at snd)) (at arc) (picked entries flags) ≡ archive_of_part (snapshot_of k) k.plan part (length k.plan.actions)
+  leave_from arc fst snd entries arc_is fst_is snd_is entries_are =
+      (λ i. left_by (marks (at (fst_is i)) (at (snd_is i))) (at (arc_is i)) (picked (entries_are i) flags)) ∙ part_left
+
+-- ---- what a closed board leaves
+
 module _ (k : Checkup) (words : List ℕ) (flags : List Bool) (archive : IsListing k.archive) (first : IsListing k.first) (second : IsListing k.second) (valid : Valid (snapshot_of k) k.plan)
     (long : length flags ≡ length k.plan.entries) (marked : AreMarked k.plan words flags) (t : Terms) (run : Run) (from : IsFromCheck t k) (left : HasLeft t words run) where
-  lawful : IsSnapshot (snapshot_of k)
-  lawful = listed_lawful k.archive k.first k.second k.rules archive first second
-
-  abbrev setting : Tree → Tree → Setting
-  setting a b = record { s = snapshot_of k; plan = k.plan; valid = valid; lawful = lawful; a = a; b = b }
+  abbrev setting_at : Tree → Tree → Setting
+  setting_at a b = record { s = snapshot_of k; plan = k.plan; valid = valid; lawful = listed_lawful k.archive k.first k.second k.rules archive first second; a = a; b = b }
 
   legal_run : Legal (snapshot_of k) k.plan run
-  legal_run = subst (λ p. Legal (snapshot_of k) p run) from.0 (left.legal (snapshot_of k) (sym (ap at from.1), sym (ap at from.2)))
+  legal_run = legal_for t k from run left.legal
 
   ran : IsRun k.plan run
   ran = IsRun-from_legal (snapshot_of k) k.plan valid (start (snapshot_of k) nowhere nowhere) run legal_run
@@ -240,48 +318,49 @@ module _ (k : Checkup) (words : List ℕ) (flags : List Bool) (archive : IsListi
       let size_is : length t.plan.actions ≡ length k.plan.actions = ap (λ p. length p.actions) from.0 in
       ap (λ n. bit_at n 33) (left.words_are i (omega arith) ∙ ap (λ p. word_after p run i) from.0) ∙ done_word k.plan run i (few_open (snapshot_of k) k.plan valid run i)
 
-  flags_are : (e : ℕ) → e < length k.plan.entries → (slice_index_or flags e false ≡ true → IsMarkedIn k.plan run e) × (IsMarkedIn k.plan run e → slice_index_or flags e false ≡ true)
-  flags_are e within = (
-    (λ set. let found = marked.only e set in (
-      found.0,
-      found.1,
-      ran.ordered.finished found.0 (true_from_bit (list_any (finishes found.0) run) (sym (word_is found.0 found.1.0 found.1.1) ∙ found.2)),
-    )),
-    λ (i, kind, acted). marked.all i e (slice_get_within k.plan.actions i kind.0 kind.1) kind (word_is i kind.0 kind.1 ∙ ap bit (left.settled i acted)) within,
-  )
+  -- an entry is flagged just where its mark has acted
+  flag_acted : (i e : ℕ) → KindIs k.plan i (Mark e) → slice_index_or flags e false ≡ true → Has run (acts i)
+  flag_acted i e kind set =
+      let found = marked.only e set in
+      let one = one_mark (snapshot_of k) k.plan valid found.0 i e found.1 kind in
+      subst (λ z. Has run (acts z)) one
+      (ran.ordered.finished found.0 (true_from_bit (list_any (finishes found.0) run) (sym (word_is found.0 found.1.0 found.1.1) ∙ found.2)))
 
-  flags_right : (a b : Tree) → FlagsAre (setting a b) run legal_run 0 k.plan.entries flags
-  flags_right a b = flags_from (setting a b) run legal_run 0 k.plan.entries flags long (λ j less.
-      let there = flags_are j less in
-      let same : j ≡ 0 + j = omega arith in
-      ((λ h. subst (λ z. IsMarkedIn k.plan run z) same (there.0 h)), λ h. there.1 (subst (λ z. IsMarkedIn k.plan run z) (sym same) h)))
+  acted_flag : (i e : ℕ) → KindIs k.plan i (Mark e) → Has run (acts i) → slice_index_or flags e false ≡ true
+  acted_flag i e kind acted =
+      let entry = mark_is_marked (snapshot_of k) k.plan valid i e kind in
+      marked.all i e (slice_get_within k.plan.actions i kind.0 kind.1) kind (word_is i kind.0 kind.1 ∙ ap bit (left.settled i acted)) (slice_get_within k.plan.entries e entry.0 entry.1)
 
-  all_from : AreFrom k.plan 0 k.plan.entries
-  all_from j x is = let same : j ≡ 0 + j = omega arith in subst (λ z. EntryIs k.plan z x) same is
+  -- the flagged marks are those that have acted
+  pub of_part : AreOfPart k.plan run flags
+  of_part = record { count = long; marked = λ e set. (let found = marked.only e set in (found.0, found.1)); closed = closed }
+    where
+      closed : IsClosedPart k.plan run (flagged k.plan flags)
+      closed = record {
+        marks = λ i taken. (let mark = flagged_mark k.plan flags i taken in (mark.0, mark.1));
+        acted = λ i taken. (let mark = flagged_mark k.plan flags i taken in flag_acted i mark.0 mark.1 mark.2);
+        closed = λ i j e taken waits kind. (let mark = flagged_mark k.plan flags i taken in
+            flag_of k.plan flags j e kind ∙ acted_flag j e kind (waited_for k.plan run i j ran (ran.ordered.acted i (flag_acted i mark.0 mark.1 mark.2)) waits));
+      }
 
-  -- the flagged marks may be put into the archive
-  pub marks_follow : MayFollow (marks (at k.first) (at k.second)) (at k.archive) (picked k.plan.entries flags)
-  marks_follow = follows (setting nowhere nowhere) run legal_run (at k.archive) 0 k.plan.entries flags all_from (flags_right nowhere nowhere) (marked_start (setting nowhere nowhere) run legal_run)
+  -- so the part's archive is the one after the run
+  pub part_is : (a b : Tree) → archive_of_part (snapshot_of k) k.plan (flagged k.plan flags) (length k.plan.actions) ≡ (after (snapshot_of k) k.plan (start (snapshot_of k) a b) run).archive
+  part_is a b = archive_from_marks (setting_at a b) run legal_run (archive_of_part (snapshot_of k) k.plan (flagged k.plan flags) (length k.plan.actions))
+      (λ q none. part_untouched (setting_at a b) run (flagged k.plan flags) of_part.closed q (record { each = λ i e x taken. none.each i e x (of_part.closed.acted i taken) }))
+      (λ p rest found only. part_marked (setting_at a b) run (flagged k.plan flags) of_part.closed p rest (record {
+        mark = found.mark;
+        place = found.place;
+        entry = found.entry;
+        kind = found.kind;
+        is = found.is;
+        markable = found.markable;
+        at = found.at;
+        chosen = flag_of k.plan flags found.mark found.place found.kind ∙ acted_flag found.mark found.place found.kind found.chosen;
+      }) only)
 
-  -- and leave the archive after the run
+  -- the flagged marks leave the archive after the run
   pub marks_leave : (a b : Tree) → left_by (marks (at k.first) (at k.second)) (at k.archive) (picked k.plan.entries flags) ≡ (after (snapshot_of k) k.plan (start (snapshot_of k) a b) run).archive
-  marks_leave a b =
-      let same : 0 + length k.plan.entries ≡ length k.plan.entries = omega arith in
-      let ended = ends_marked (setting a b) run legal_run (at k.archive) 0 k.plan.entries flags all_from (flags_right a b) (marked_start (setting a b) run legal_run) in
-      archive_is (setting a b) run legal_run (left_by (marks (at k.first) (at k.second)) (at k.archive) (picked k.plan.entries flags))
-      (subst (λ n. IsMarkedTo (setting a b) run legal_run n (left_by (marks (at k.first) (at k.second)) (at k.archive) (picked k.plan.entries flags))) same ended)
-
-  -- the same, of values that are these
-  pub follow_from : (arc fst snd : Listing Stamp) (entries : List Entry) (fs : List Bool) → arc ≡ k.archive → fst ≡ k.first → snd ≡ k.second → entries ≡ k.plan.entries → fs ≡ flags
-      → MayFollow (marks (at fst) (at snd)) (at arc) (picked entries fs)
-  follow_from arc fst snd entries fs arc_is fst_is snd_is entries_are fs_are =
-      subst (λ (x : Listing Stamp × Listing Stamp × Listing Stamp × List Entry × List Bool). MayFollow (marks (at x.1) (at x.2)) (at x.0) (picked x.3 x.4))
-      (λ i. (sym arc_is i, sym fst_is i, sym snd_is i, sym entries_are i, sym fs_are i)) marks_follow
-
-  pub leave_from : (arc fst snd : Listing Stamp) (entries : List Entry) (fs : List Bool) → arc ≡ k.archive → fst ≡ k.first → snd ≡ k.second → entries ≡ k.plan.entries → fs ≡ flags
-      → (a b : Tree) → left_by (marks (at fst) (at snd)) (at arc) (picked entries fs) ≡ (after (snapshot_of k) k.plan (start (snapshot_of k) a b) run).archive
-  leave_from arc fst snd entries fs arc_is fst_is snd_is entries_are fs_are a b =
-      (λ i. left_by (marks (at (fst_is i)) (at (snd_is i))) (at (arc_is i)) (picked (entries_are i) (fs_are i))) ∙ marks_leave a b
+  marks_leave a b = part_left k flags archive first second valid run of_part ∙ part_is a b
 
 pub if_ok : {A E : Type 0} (P Q : A → Type 0) (r : Result A E) → ((x : A) → P x → Q x) → IfOk r P → IfOk r Q
 if_ok P Q (Ok x) f h = f x h

@@ -21,7 +21,7 @@ use Rattle.ts_board.specs.Archives.{IsDone, picked}
 -- ---- flags
 
 -- the entry of a mark
-abbrev marked_entry : Kind → ℕ
+abbrev pub marked_entry : Kind → ℕ
 marked_entry (Mark e) = e
 marked_entry (Commit e) = 0
 marked_entry (Piece e offset size p) = 0
@@ -84,7 +84,7 @@ is_not_done word none one = let e : 0 ≡ 1 * 8589934592 = sym none ∙ and_pow 
 
 -- ---- the loop over actions
 
-unset : (n e : ℕ) → get_or (replicate n false) e false ≡ false
+pub unset : (n e : ℕ) → get_or (replicate n false) e false ≡ false
 unset zero e = refl
 unset (suc n) zero = refl
 unset (suc n) (suc e) = unset n e

@@ -8,7 +8,9 @@ pub mod Orderly
 pub mod Fitting
 pub mod Words
 pub mod Edits
+pub mod Checks
 pub mod Archives
+pub mod Checkpoints
 pub mod Flags
 pub mod Acting
 pub mod Crossing

@@ -4,14 +4,20 @@
 --     IsDone word                 the word says that its action is done
 --     AreMarked plan words flags  the flag of an entry is set where its mark is done
 --     picked xs flags             the entries at which the flag is set
-use Rattle.std.specs.Prelude.{◌≡◌, ℕ, ◌<◌, Bool, true, false, cond, List, [], ◌∷◌, length, slice_index, slice_index_or}
+-- What flags of entries say of the archive, whatever set them.
+--     flagged plan flags          the marks of the entries at which the flag is set
+--     AreOfPart plan run flags    these marks are a closed part of the run
+--     ArchiveOf k flags rows      the archive of this part
+use Rattle.std.specs.Prelude.{◌≡◌, ℕ, ◌<◌, Bool, true, false, cond, List, [], ◌∷◌, length, Some, None, slice_get, slice_index, slice_index_or}
 use Rattle.std.specs.Int.{bit_at}
 use Rattle.ts_model.specs.Trees.{Tree, Listing, at}
 use Rattle.ts_model.specs.Plans.{KindIs}
+use Rattle.ts_model.specs.Resume.{IsClosedPart, archive_of_part}
 use Rattle.ts_model.specs.Runs.{Run, after, start}
 use Rattle.ts_model.specs.declared.row.Stamp.{Stamp}
 use Rattle.ts_model.specs.declared.plan.Entry.{Entry}
-use Rattle.ts_model.specs.declared.plan.Kind.TheVariants.{Mark}
+use Rattle.ts_model.specs.declared.plan.Kind.{Kind}
+use Rattle.ts_model.specs.declared.plan.Kind.TheVariants.{Piece, Commit, Mark}
 use Rattle.ts_model.specs.declared.plan.Plan.{Plan}
 use Rattle.ts_check.specs.Checkup.{Checkup, snapshot_of}
 use Rattle.ts_board.specs.declared.law.Terms.{Terms}
@@ -43,3 +49,24 @@ abbrev pub picked : List Entry → List Bool → List Entry
 picked [] flags = []
 picked (x ∷ xs) [] = []
 picked (x ∷ xs) (flag ∷ flags) = cond flag (x ∷ picked xs flags) (picked xs flags)
+
+-- ---- flags
+
+abbrev pub is_flagged : List Bool → Kind → Bool
+is_flagged flags (Mark e) = slice_index_or flags e false
+is_flagged flags (Commit e) = false
+is_flagged flags (Piece e offset size p) = false
+
+-- action i is the mark of an entry at which the flag is set
+abbrev pub flagged : Plan → List Bool → ℕ → Bool
+flagged plan flags i = elim (slice_get plan.actions i) [ None ↦ false | Some action ↦ is_flagged flags action.kind ]
+
+-- there is a flag for each entry. Those that are set are of entries with marks, and these marks are a closed part of the run
+pub record AreOfPart (plan : Plan) (run : Run) (flags : List Bool) : Type 0 where
+  pub count : length flags ≡ length plan.entries
+  pub marked : (e : ℕ) → slice_index_or flags e false ≡ true → (i : ℕ) × KindIs plan i (Mark e)
+  pub closed : IsClosedPart plan run (flagged plan flags)
+
+-- the archive of this part
+abbrev pub ArchiveOf : Checkup → List Bool → Listing Stamp → Type 0
+ArchiveOf k flags rows = at rows ≡ archive_of_part (snapshot_of k) k.plan (flagged k.plan flags) (length k.plan.actions)

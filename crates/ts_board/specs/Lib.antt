@@ -5,4 +5,5 @@ pub mod Kept
 pub mod Calls
 pub mod Checks
 pub mod Archives
+pub mod Checkpoints
 pub mod Edits

@@ -1,8 +1,9 @@
-//! The archive that a closed board leaves.
+//! The archive that a closed board leaves, and what flags of entries put into an archive.
 ghost use Rattle.std.specs.Prelude.{ℕ, List, ◌≡◌, ◌<◌, ◌≤◌, IfOk, IfSome, IfNone, length, slice_index};
 ghost use Rattle.std.specs.Mem.Slots.{slots_items, slots_len};
-ghost use Rattle.ts_board.specs.Archives.{AreMarked, HasEnded, IsDone, LeftArchive, picked};
+ghost use Rattle.ts_board.specs.Archives.{AreMarked, AreOfPart, ArchiveOf, HasEnded, IsDone, LeftArchive, picked};
 ghost use Rattle.ts_board.specs.Edits.{AreEdits, MayFollow, left_by, marks};
+ghost use Rattle.ts_model.specs.Runs.{Run};
 ghost use Rattle.ts_model.specs.Trees.{at};
 ghost use Rattle.ts_model.specs.declared.plan.Kind.TheVariants.{Mark};
 
@@ -30,14 +31,11 @@ impl<S: Site> Closed<S> {
         ensures { IfOk result (λ print. LeftArchive checked.now (slots_items self.now.row.words) print) }
     {
         let plan = checked.plan();
+        let _archive = checked.archive().rows();
+        let _first = checked.first().rows();
+        let _second = checked.second().rows();
         let marked = self.marked_entries(alloc, plan)?;
-        let archive = checked.archive();
-        let (first, second) = (checked.first(), checked.second());
-        let _archive = archive.rows();
-        let _first = first.rows();
-        let _second = second.rows();
-        let entries = plan.entries.as_slice();
-        with_marks(alloc, entries, marked.as_slice(), archive, first, second)
+        flagged_archive(alloc, checked, marked.as_slice())
     }
 
     /// For each entry, whether its mark is done.
@@ -69,6 +67,30 @@ impl<S: Site> Closed<S> {
             _ => None,
         }
     }
+}
+
+/// The archive that the plan was checked against, with the marks of the entries that are flagged, which are a closed part of
+/// some run.
+///
+/// # Errors
+///
+/// `AllocError` where memory ran out.
+pub(crate) fn flagged_archive(
+    alloc: Global,
+    checked: &Checked<'_>,
+    flags: &[bool],
+) -> Result<Print, AllocError>
+    requires { (run : Run) × AreOfPart checked.now.plan run flags.now }
+    ensures { IfOk result (ArchiveOf checked.now flags.now) }
+{
+    let plan = checked.plan();
+    let archive = checked.archive();
+    let (first, second) = (checked.first(), checked.second());
+    let _archive = archive.rows();
+    let _first = first.rows();
+    let _second = second.rows();
+    let entries = plan.entries.as_slice();
+    with_marks(alloc, entries, flags, archive, first, second)
 }
 
 /// The archive with the marks of the entries that are flagged, in one pass.

@@ -4,6 +4,7 @@
 mod archive;
 pub mod board;
 pub mod calls;
+mod checkpoint;
 pub mod fault;
 pub mod law;
 mod marks;

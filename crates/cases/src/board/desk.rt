@@ -1,6 +1,6 @@
 //! The actions of the plans, each carried out on its board.
 ghost use Rattle.std.specs.Prelude.{◌≡◌, ◌<◌, ◌+◌, ◌++◌, ℕ, [], ◌∷◌, true, length, IfNone, IfSome};
-ghost use Rattle.cases.specs.Worked.{HasFile, HasRemoval, act_steps};
+ghost use Rattle.cases.specs.Worked.{HasDirectory, HasFile, HasRemoval, act_steps};
 ghost use Rattle.ts_board.specs.Calls.{IsFresh, IsPassOf, mine, plan_of, terms_of};
 ghost use Rattle.ts_board.specs.Terms.{is_place};
 ghost use Rattle.ts_check.specs.Checkup.{IsCommit, IsSourcePart};
@@ -229,6 +229,25 @@ impl<'a, 'b, S: Site> Desk<'a, 'b, S> {
             taken: None,
             fault: None,
             freed: None,
+        })
+    }
+
+    /// Claims and makes the mark of a new directory, and releases those of its two files, where nobody has claimed it.
+    pub fn mark_directory(&self, pass: &mut Pass<S>) -> Option<Seen>
+        requires pass { IsPassOf S.content self.now.board.now pass.old }
+        requires fresh { mine pass.old ≡ [] }
+        requires directory { HasDirectory self.now.checked.now.plan }
+        requires inside { 6 < length self.now.checked.now.plan.actions }
+        ensures pass { IsPassOf S.content self.now.board.now pass.new }
+    {
+        let turn = self.mark(pass, 0)?;
+        let _first = self.free(pass, 0, 3);
+        let second = self.free(pass, 0, 6);
+        Some(Seen {
+            turn,
+            taken: None,
+            fault: None,
+            freed: Some(second),
         })
     }
 }

@@ -28,7 +28,7 @@ pub struct End<S: Drop> {
 }
 
 /// A board for a plan, and its one pass.
-fn opened<S: Site>(
+pub fn opened<S: Site>(
     alloc: Global,
     checked: &Checked<'_>,
     sites: Vec<S>,
@@ -44,7 +44,7 @@ fn opened<S: Site>(
 }
 
 /// Closes the board, and says what it leaves, at the site of commit `c` too.
-fn ended<S: Site>(
+pub fn ended<S: Site>(
     alloc: Global,
     checked: &Checked<'_>,
     board: Board<S>,

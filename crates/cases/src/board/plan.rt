@@ -1,6 +1,6 @@
 //! The plans, and the prints that they are made for.
 ghost use Rattle.std.specs.Prelude.{◌≡◌, IfOk};
-ghost use Rattle.cases.specs.Worked.{IsWorked, removal, worked};
+ghost use Rattle.cases.specs.Worked.{IsNested, IsWorked, nested, removal, worked};
 ghost use Rattle.ts_model.specs.declared.plan.Kind.TheVariants as kind;
 
 use anyhow::Result;
@@ -8,7 +8,8 @@ use std::alloc::{AllocError, Global};
 use ts_model::items::Items;
 use ts_model::plan::{Action, Entry, Kind, Plan, Reason};
 use ts_name::Path;
-use ts_print::{Print, PrintReader};
+use ts_print::{Print, PrintReader, encode};
+use ts_text::Counted;
 
 /// The print that these lines spell.
 pub fn print_of(alloc: Global, lines: &str) -> Result<Print> {
@@ -17,6 +18,13 @@ pub fn print_of(alloc: Global, lines: &str) -> Result<Print> {
         reader.line(alloc, line.as_bytes())?;
     }
     Ok(reader.finish()?)
+}
+
+/// The lines that spell a print.
+pub fn text_of(alloc: Global, print: &Print) -> Result<String> {
+    let mut sink = Counted::new(Vec::new(alloc));
+    encode(alloc, print, &mut sink)?;
+    Ok(String::from_utf8_lossy(alloc, &sink.into_inner())?)
 }
 
 fn path(alloc: Global, text: &str) -> Result<Path> {
@@ -100,6 +108,65 @@ pub fn removal_plan(alloc: Global) -> Result<Plan>
 {
     let entries = vec![in alloc; entry(alloc, "/a", Reason::First)?]?;
     let actions = removal_actions(alloc)?;
+    Ok(Plan {
+        entries: Items::new(entries),
+        actions: Items::new(actions),
+    })
+}
+
+/// The actions that make a new directory known, and copy a file of one byte in it in either direction.
+#[tactic(auto, unfolding(crate::specs::Worked::nested))]
+fn nested_actions(alloc: Global, p: Path, q: Path) -> Result<Vec<Action>, AllocError>
+    ensures { IfOk result (λ actions. actions.items ≡ nested p q) }
+{
+    let first = piece(1, p);
+    let second = piece(2, q);
+    let first_commit_waits = vec![in alloc; 1]?;
+    let first_mark_waits = vec![in alloc; 0, 2]?;
+    let second_commit_waits = vec![in alloc; 4]?;
+    let second_mark_waits = vec![in alloc; 0, 5]?;
+    Ok(vec![in alloc;
+        Action {
+            kind: Kind::Mark { entry: 0 },
+            preds: Items::new(Vec::new(alloc))
+        },
+        Action {
+            kind: first,
+            preds: Items::new(Vec::new(alloc))
+        },
+        Action {
+            kind: Kind::Commit { entry: 1 },
+            preds: Items::new(first_commit_waits)
+        },
+        Action {
+            kind: Kind::Mark { entry: 1 },
+            preds: Items::new(first_mark_waits)
+        },
+        Action {
+            kind: second,
+            preds: Items::new(Vec::new(alloc))
+        },
+        Action {
+            kind: Kind::Commit { entry: 2 },
+            preds: Items::new(second_commit_waits)
+        },
+        Action {
+            kind: Kind::Mark { entry: 2 },
+            preds: Items::new(second_mark_waits)
+        },
+    ]?)
+}
+
+/// The plan for a new directory in both replicas, each with a new file in it.
+pub fn nested_plan(alloc: Global) -> Result<Plan>
+    ensures { IfOk result (λ plan. IsNested plan.actions) }
+{
+    let entries = vec![in alloc;
+        entry(alloc, "/d", Reason::Dir)?,
+        entry(alloc, "/d/x", Reason::First)?,
+        entry(alloc, "/d/y", Reason::Second)?,
+    ]?;
+    let actions = nested_actions(alloc, path(alloc, "/d/x")?, path(alloc, "/d/y")?)?;
     Ok(Plan {
         entries: Items::new(entries),
         actions: Items::new(actions),

@@ -12,7 +12,7 @@ use ts_site::Site;
 
 impl<'a, 'b, S: Site> Desk<'a, 'b, S> {
     /// Tries an action once. None where it wasn't claimed.
-    fn attempt(&self, mut pass: Pass<S>, task: Task) -> (Pass<S>, Option<Seen>)
+    pub fn attempt(&self, mut pass: Pass<S>, task: Task) -> (Pass<S>, Option<Seen>)
         requires pass { IsPassOf S.content self.now.board.now pass }
         requires fresh { mine pass ≡ [] }
         requires task { IsTask self.now.checked.now.plan task }
@@ -20,6 +20,7 @@ impl<'a, 'b, S: Site> Desk<'a, 'b, S> {
     {
         let seen = match task {
             Task::Removal => self.remove(&mut pass),
+            Task::Directory => self.mark_directory(&mut pass),
             Task::Piece(b) => self.stage_byte(&mut pass, b),
             Task::Commit(b) => self.commit(&mut pass, b),
             Task::Mark(b) => self.mark_file(&mut pass, b),

@@ -7,6 +7,8 @@ use ts_site::SiteFault;
 pub enum Task {
     /// The commit of a file that is deleted, the first action, for which its mark waits.
     Removal,
+    /// The mark of a new directory, the first action, for which those of two files wait, actions 3 and 6.
+    Directory,
     Piece(u32),
     Commit(u32),
     Mark(u32),
