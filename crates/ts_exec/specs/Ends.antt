@@ -11,6 +11,7 @@ ending_of None = ending.Left
 ending_of (Some action.Done) = ending.Done
 ending_of (Some (action.Failed fault)) = ending.Failed
 ending_of (Some (action.Blocked before)) = ending.Left
+ending_of (Some action.Left) = ending.Left
 
 abbrev pub ending_at : List ActionResult → ℕ → Ending
 ending_at results i = ending_of (slice_get results i)

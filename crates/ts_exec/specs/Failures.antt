@@ -1,6 +1,7 @@
 -- Why an action may fail.
 --     Setting             what folders and sites tell, and may fail with
 --     setting_for ..      that of a run, by the sites of its commits at the start
+--     setting_until ..    the same of a run that may be stopped
 --     TellsTree x from    the folder of this side tells a tree, of the print that the plan was checked with
 --     AreRead x r         in these steps, what pieces staged is what their folders tell
 --     AreTold x r own     and what commits put in place, where pieces did so in the steps r
@@ -34,17 +35,19 @@ use Rattle.ts_folder.specs.declared.folder.Call.{Call}
 use Rattle.ts_folder.specs.declared.folder.Call.TheVariants.{Read}
 use Rattle.ts_folder.specs.declared.fault.Trouble.{Trouble}
 use Rattle.ts_folder.specs.declared.fault.Trouble.TheVariants as trouble
+use Rattle.ts_exec.specs.declared.stop.Stop as stopping
 use Rattle.ts_exec.specs.declared.fault.ActFault.{ActFault}
 use Rattle.ts_exec.specs.declared.fault.ActFault.TheVariants as fault
 
 -- the checked plan; which tree the folder of a side tells, and how its reads may fail; what each site told at the start;
--- and that a site's device may fail at all
+-- that a site's device may fail at all; and that the run may be stopped
 pub record Setting : Type 1 where
   pub checkup : Checkup
   pub tells : Side → Option (Listing (List ℕ))
   pub lets : Side → Path → Trouble → Type 0
   pub told : List (Option (Option (Listing (List ℕ))))
   pub breaks : Type 0
+  pub stops : Type 0
 
 -- of each side its own
 abbrev pub of_side : {A : Type 0} → A → A → Side → A
@@ -63,12 +66,20 @@ setting_with failures tells lets checkup first second told = record {
   lets = λ from p t. lets (of_side first second from) Read p t;
   told = told;
   breaks = MayBreak failures;
+  stops = ⊥;
 }
 
 -- a run of this checked plan, over folders and sites as they are at its start: the sites are those of the commits, in order
 abbrev pub setting_for : {S F File : Type 0} → sites.Ghosts S → folders.Ghosts F File → Checkup → F → F → List S → Setting
 setting_for site folder k first second starts =
     setting_with site.failures folder.tells folder.lets k first second (terms_for site.content k starts).told
+
+-- the same, where it may be stopped
+abbrev pub or_stopped : Type 0 → Setting → Setting
+or_stopped may x = record x { stops = may }
+
+abbrev pub setting_until : {S F File T : Type 0} → sites.Ghosts S → folders.Ghosts F File → stopping.Ghosts T → Checkup → F → F → List S → T → Setting
+setting_until site folder stopped k first second starts stop = or_stopped (stopped.stops stop) (setting_for site folder k first second starts)
 
 -- the entry is copied
 abbrev pub IsCopied : Plan → ℕ → Type 0

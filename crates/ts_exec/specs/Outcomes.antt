@@ -1,5 +1,7 @@
 -- What comes of a plan.
---     IsEnd plan r words faults       the words and faults after a run in which everything was tried
+--     HasWords plan r words           the words are those after the run
+--     IsEnd plan r words faults       the words and faults after a run in which what was claimed is ended
+--     IsReady plan r i                all that action i waits for is done
 --     ResultIs plan r faults i res    what came of action i in the run r, by these faults
 --     AreResults plan r faults res    what came of each action
 --     ResultFits x r i res            what came of action i in the run r
@@ -34,14 +36,17 @@ use Rattle.ts_exec.specs.declared.fault.ActFault.{ActFault}
 use Rattle.ts_exec.specs.declared.fault.ActFault.TheVariants.{OutOfMemory, Misfit}
 use Rattle.ts_exec.specs.declared.outcome.Outcome.{Outcome}
 use Rattle.ts_exec.specs.declared.outcome.ActionResult.{ActionResult}
-use Rattle.ts_exec.specs.declared.outcome.ActionResult.TheVariants.{Done, Failed, Blocked}
+use Rattle.ts_exec.specs.declared.outcome.ActionResult.TheVariants.{Done, Failed, Blocked, Left}
+
+-- the words are those after the run
+pub record HasWords (plan : Plan) (r : Run) (words : List ℕ) : Type 0 where
+  pub words_are : (i : ℕ) → i < length plan.actions → slice_index words i ≡ word_after plan r i
+  pub small : (i : ℕ) → open_count plan r i < 4294967296
 
 pub record IsEnd (plan : Plan) (r : Run) (words : List ℕ) (faults : List (Option ActFault)) : Type 0 where
-  pub words_are : (i : ℕ) → i < length plan.actions → slice_index words i ≡ word_after plan r i
+  pub has : HasWords plan r words
   pub tidy : IsTidy plan r
-  pub small : (i : ℕ) → open_count plan r i < 4294967296
   pub noted : (i : ℕ) → Has r (fails i) → (f : ActFault) × (slice_get faults i ≡ Some (Some f))
-  pub blocked : (i : ℕ) → i < length plan.actions → HasNot r (claims i) → (k : ℕ) × Waits plan i k × HasNot r (finishes k)
 
 -- the action waits for k, the least of those that aren't done
 pub record IsLeastOpen (plan : Plan) (r : Run) (i k : ℕ) : Type 0 where
@@ -49,18 +54,24 @@ pub record IsLeastOpen (plan : Plan) (r : Run) (i k : ℕ) : Type 0 where
   pub not_done : HasNot r (finishes k)
   pub least : (j : ℕ) → Waits plan i j → j < k → Has r (finishes j)
 
+abbrev pub IsReady : Plan → Run → ℕ → Type 0
+IsReady plan r i = (k : ℕ) → Waits plan i k → Has r (finishes k)
+
 abbrev pub ResultIs : Plan → Run → List (Option ActFault) → ℕ → ActionResult → Type 0
 ResultIs plan r faults i Done = Has r (finishes i)
 ResultIs plan r faults i (Failed f) = Has r (fails i) × (slice_get faults i ≡ Some (Some f))
 ResultIs plan r faults i (Blocked k) = HasNot r (claims i) × IsLeastOpen plan r i k
+ResultIs plan r faults i Left = HasNot r (claims i) × IsReady plan r i
 
 abbrev pub AreResults : Plan → Run → List (Option ActFault) → List ActionResult → Type 0
 AreResults plan r faults results = (i : ℕ) (result : ActionResult) → slice_get results i ≡ Some result → ResultIs plan r faults i result
 
+-- what could have been claimed and wasn't is left to a run that was stopped
 abbrev pub ResultFits : Setting → Run → ℕ → ActionResult → Type 0
 ResultFits x r i Done = Has r (finishes i)
 ResultFits x r i (Failed f) = Has r (fails i) × MayFail x r i f
 ResultFits x r i (Blocked k) = HasNot r (claims i) × IsLeastOpen x.checkup.plan r i k
+ResultFits x r i Left = HasNot r (claims i) × IsReady x.checkup.plan r i × x.stops
 
 -- each commit has put in place just what its source's folder tells at the entry's path and below, where that is a tree of the checked print
 abbrev pub PutWhatIsTold : Setting → Run → Type 0

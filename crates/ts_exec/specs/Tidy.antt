@@ -8,6 +8,7 @@
 --     Listed, Noted            why each action failed is known, and what acts did is what folders tell
 --     StayNoted, AreNoted      what the list of a worker adds to the faults that are noted
 --     Swept                    the actions below this number were tried in order
+--     IsSwept x own seen       all actions were tried in order, or the run may be stopped
 --     KeepsList, KeepsNotes    a pass of this board is tidy, and Listed or Noted
 use Rattle.std.specs.Prelude.{◌≡◌, ◌≢◌, ◌⊎◌, ℕ, ◌<◌, ◌*◌, ◌^◌, All, length, List, [], ◌∷◌, ◌++◌, Option, Some, IsSome, slice_get}
 use Rattle.atomic_table.specs.Seated.{TableId}
@@ -112,3 +113,6 @@ WasTried plan own seen j =
 
 abbrev pub Swept : Plan → ℕ → Run → Run → Type 0
 Swept plan n own seen = (j : ℕ) → j < n → WasTried plan own seen j
+
+abbrev pub IsSwept : Setting → Run → Run → Type 0
+IsSwept x own seen = Swept x.checkup.plan (length x.checkup.plan.actions) own seen ⊎ x.stops

@@ -17,6 +17,7 @@ ghost use Rattle.ts_print.specs.Assemblies.{HasSoFar};
 use crate::fault::ActFault;
 use crate::gate::Gate;
 use crate::shared::Shared;
+use crate::stop::Stop;
 use std::alloc::Global;
 use ts_board::{Held, Pass};
 use ts_folder::Folder;
@@ -25,7 +26,7 @@ use ts_name::Path;
 use ts_print::Staged;
 use ts_site::Site;
 
-impl<'a, 'b, S: Site, F: Folder + Sync, G: Gate + Sync> Shared<'a, 'b, S, F, G> {
+impl<'a, 'b, S: Site, F: Folder + Sync, G: Gate + Stop + Sync> Shared<'a, 'b, S, F, G> {
     /// Makes the act of a claimed action, of which nothing was taken yet. After a fault it has not acted.
     pub fn act(&self, pass: &mut Pass<S>, held: &mut Held<S>) -> Result<(), ActFault>
         requires pass { IsPassOf S.content self.now.board.now pass.old }
@@ -39,9 +40,9 @@ impl<'a, 'b, S: Site, F: Folder + Sync, G: Gate + Sync> Shared<'a, 'b, S, F, G> 
         ensures steps { (more : Run) × (mine pass.new ≡ mine pass.old ++ more) × AreTakes self.now.checked.now.plan held.old.action more }
         ensures action { held.new.action ≡ held.old.action }
         ensures ok { OnOk result (HasActed S.content (terms_of S.content self.now.board.now) (mine pass.new) held.new) }
-        ensures told { OnOk result (IsTold (setting_of S.Site F.Folder self.now) (seen pass.new) held.old.action (work_of held.new)) }
+        ensures told { OnOk result (IsTold (setting_of S.Site F.Folder G.Stop self.now) (seen pass.new) held.old.action (work_of held.new)) }
         ensures err { OnErr result (MayGoOn S.content (terms_of S.content self.now.board.now) (mine pass.new) held.new) }
-        ensures fault { IfErr result (MayFail (setting_of S.Site F.Folder self.now) (seen pass.new) held.old.action) }
+        ensures fault { IfErr result (MayFail (setting_of S.Site F.Folder G.Stop self.now) (seen pass.new) held.old.action) }
     {
         match self.kind(held.action()) {
             Kind::Piece {
@@ -72,9 +73,9 @@ impl<'a, 'b, S: Site, F: Folder + Sync, G: Gate + Sync> Shared<'a, 'b, S, F, G> 
         requires site { IsSited self.now.checked.now.plan held.old.action held.old.slot }
         ensures action { held.new.action ≡ held.old.action }
         ensures ok { OnOk result (IsActed S.content (terms_of S.content self.now.board.now) held.new) }
-        ensures read { OnOk result (HasRead (setting_of S.Site F.Folder self.now) (Piece entry offset length path.now) (work_of held.new)) }
+        ensures read { OnOk result (HasRead (setting_of S.Site F.Folder G.Stop self.now) (Piece entry offset length path.now) (work_of held.new)) }
         ensures err { OnErr result (held.new ≡ held.old) }
-        ensures fault { IfErr result (λ f. (r : Run) → MayFail (setting_of S.Site F.Folder self.now) r held.old.action f) }
+        ensures fault { IfErr result (λ f. (r : Run) → MayFail (setting_of S.Site F.Folder G.Stop self.now) r held.old.action f) }
     {
         let bytes = self
             .source(entry)
@@ -99,9 +100,9 @@ impl<'a, 'b, S: Site, F: Folder + Sync, G: Gate + Sync> Shared<'a, 'b, S, F, G> 
         ensures steps { (more : Run) × (mine pass.new ≡ mine pass.old ++ more) × AreTakes self.now.checked.now.plan held.old.action more }
         ensures action { held.new.action ≡ held.old.action }
         ensures ok { OnOk result (HasActed S.content (terms_of S.content self.now.board.now) (mine pass.new) held.new) }
-        ensures told { OnOk result (IsTold (setting_of S.Site F.Folder self.now) (seen pass.new) held.old.action (work_of held.new)) }
+        ensures told { OnOk result (IsTold (setting_of S.Site F.Folder G.Stop self.now) (seen pass.new) held.old.action (work_of held.new)) }
         ensures err { OnErr result (MayGoOn S.content (terms_of S.content self.now.board.now) (mine pass.new) held.new) }
-        ensures fault { IfErr result (MayFail (setting_of S.Site F.Folder self.now) (seen pass.new) held.old.action) }
+        ensures fault { IfErr result (MayFail (setting_of S.Site F.Folder G.Stop self.now) (seen pass.new) held.old.action) }
     {
         let Ok(mut staged) = self.checked.staged(self.alloc, held.action()) else {
             return Err(ActFault::OutOfMemory);
@@ -127,7 +128,7 @@ impl<'a, 'b, S: Site, F: Folder + Sync, G: Gate + Sync> Shared<'a, 'b, S, F, G> 
         ensures held { held.new ≡ held.old }
         ensures wanted { staged.new.wanted ≡ staged.old.wanted }
         ensures all { OnOk result (HasAll self.now.checked.now.plan held.old.action (mine pass.new)) }
-        ensures whole { OnOk result (IsMadeWhole (setting_of S.Site F.Folder self.now) (seen pass.new) held.old.action staged.old staged.new) }
+        ensures whole { OnOk result (IsMadeWhole (setting_of S.Site F.Folder G.Stop self.now) (seen pass.new) held.old.action staged.old staged.new) }
         ensures fault { IfErr result (λ e. e ≡ ActFault.OutOfMemory) }
     {
         let pieces = self.checked.pieces(held.action());

@@ -1,5 +1,5 @@
 //! All workers at once.
-ghost use Rattle.std.specs.Prelude.{ℕ, ◌≡◌, ◌<◌, Some, length, slice_get};
+ghost use Rattle.std.specs.Prelude.{ℕ, ◌≡◌, ◌⊎◌, ◌<◌, false, IsTrue, Some, length, slice_get};
 ghost use Rattle.std.specs.Thread.{IsSend, IsSync};
 ghost use Rattle.ts_board.specs.Calls.{HasBothParts, IsPassOf, IsSamePart, mine, seen};
 ghost use Rattle.ts_exec.specs.Tidy.{AreFresh, AreNoted, IsSameShare, IsTidy, Noted, StayNoted};
@@ -10,20 +10,30 @@ use crate::crew::{Failure, Member, Queues};
 use crate::fault::ActFault;
 use crate::gate::Gate;
 use crate::shared::Shared;
+use crate::stop::Stop;
 use crate::workers::Worked;
 use std::thread::{Threads, join};
 use ts_board::Pass;
 use ts_folder::Folder;
 use ts_site::Site;
 
-impl<'a, 'b, S: Site, F: Folder + Sync, G: Gate + Sync> Shared<'a, 'b, S, F, G> {
+/// What all workers end with.
+pub struct AllWorked<S> {
+    pub pass: Pass<S>,
+    /// Why each action failed.
+    pub faults: Vec<Option<ActFault>>,
+    /// One of them was stopped.
+    pub is_stopped: bool,
+}
+
+impl<'a, 'b, S: Site, F: Folder + Sync, G: Gate + Stop + Sync> Shared<'a, 'b, S, F, G> {
     /// Notes why actions failed.
     pub fn note(&self, faults: &mut Vec<Option<ActFault>>, failures: &[Failure])
         requires room { length faults.old.items ≡ length self.now.checked.now.plan.actions }
         requires within { (m : ℕ) (e : Failure) → slice_get failures.now m ≡ Some e → e.action < length self.now.checked.now.plan.actions }
         ensures room { length faults.new.items ≡ length faults.old.items }
-        ensures kept { StayNoted (setting_of S.Site F.Folder self.now) failures.now faults.old.items faults.new.items }
-        ensures noted { AreNoted (setting_of S.Site F.Folder self.now) failures.now faults.new.items }
+        ensures kept { StayNoted (setting_of S.Site F.Folder G.Stop self.now) failures.now faults.old.items faults.new.items }
+        ensures noted { AreNoted (setting_of S.Site F.Folder G.Stop self.now) failures.now faults.new.items }
     {
         for failure in failures {
             faults[failure.action as usize] = Some(failure.fault);
@@ -31,89 +41,112 @@ impl<'a, 'b, S: Site, F: Folder + Sync, G: Gate + Sync> Shared<'a, 'b, S, F, G> 
     }
 
     /// Puts together what a worker leaves behind and what the others do.
-    fn put_together(
-        &self,
-        pass: Pass<S>,
-        mut faults: Vec<Option<ActFault>>,
-        worked: Worked<S>,
-    ) -> (Pass<S>, Vec<Option<ActFault>>)
-        requires notes { HasNotes S.Site F.Folder self.now pass faults.items }
-        requires list { HasList S.Site F.Folder self.now worked.pass worked.failures.items }
-        ensures notes { HasNotes S.Site F.Folder self.now result.0 result.1.items }
-        ensures part { HasBothParts pass worked.pass result.0 }
+    fn put_together(&self, all: AllWorked<S>, worked: Worked<S>) -> AllWorked<S>
+        requires notes { HasNotes S.Site F.Folder G.Stop self.now all.pass all.faults.items }
+        requires list { HasList S.Site F.Folder G.Stop self.now worked.pass worked.failures.items }
+        ensures notes { HasNotes S.Site F.Folder G.Stop self.now result.pass result.faults.items }
+        ensures part { HasBothParts all.pass worked.pass result.pass }
+        ensures stopped { IsTrue result.is_stopped → IsTrue all.is_stopped ⊎ IsTrue worked.is_stopped }
     {
+        let AllWorked {
+            pass,
+            mut faults,
+            is_stopped: others_are_stopped,
+        } = all;
         let Worked {
             pass: theirs,
             failures,
+            is_stopped,
         } = worked;
         self.note(&mut faults, failures.as_slice());
-        (self.board.join(pass, theirs), faults)
+        AllWorked {
+            pass: self.board.join(pass, theirs),
+            faults,
+            is_stopped: others_are_stopped || is_stopped,
+        }
     }
 }
 
 /// Lets all members work at once, each but the last in a thread of its own. A thread that can't start is done without.
-pub fn work_at_once<R: Threads + Sync, S: Site, F: Folder + Sync, G: Gate + Sync>(
+pub fn work_at_once<R: Threads + Sync, S: Site, F: Folder + Sync, G: Gate + Stop + Sync>(
     rt: &R,
     shared: &Shared<'_, '_, S, F, G>,
     queues: &[Queues],
     members: Vec<Member>,
     pass: Pass<S>,
     faults: Vec<Option<ActFault>>,
-) -> (Pass<S>, Vec<Option<ActFault>>)
+) -> AllWorked<S>
 where
     F::File: Send,
     requires pass { IsPassOf S.content shared.now.board.now pass }
     requires tidy { IsTidy shared.now.checked.now.plan (mine pass) }
     requires room { length faults.items ≡ length shared.now.checked.now.plan.actions }
-    requires noted { Noted (setting_of S.Site F.Folder shared.now) (mine pass) (seen pass) faults.items }
+    requires noted { Noted (setting_of S.Site F.Folder G.Stop shared.now) (mine pass) (seen pass) faults.items }
     requires fresh { AreFresh members.items }
-    ensures pass { IsPassOf S.content shared.now.board.now result.0 × IsSameShare pass result.0 }
-    ensures tidy { IsTidy shared.now.checked.now.plan (mine result.0) }
-    ensures room { length result.1.items ≡ length shared.now.checked.now.plan.actions }
-    ensures noted { Noted (setting_of S.Site F.Folder shared.now) (mine result.0) (seen result.0) result.1.items }
+    ensures pass { IsPassOf S.content shared.now.board.now result.pass × IsSameShare pass result.pass }
+    ensures tidy { IsTidy shared.now.checked.now.plan (mine result.pass) }
+    ensures room { length result.faults.items ≡ length shared.now.checked.now.plan.actions }
+    ensures noted { Noted (setting_of S.Site F.Folder G.Stop shared.now) (mine result.pass) (seen result.pass) result.faults.items }
+    ensures stopped { IsTrue result.is_stopped → G.stops shared.now.gate.now }
 {
     work_in_halves(rt, shared, queues, members, pass, faults)
 }
 
 /// The last member works with one half of the pass, the others with the other half.
 #[cycle(halves)]
-fn work_in_halves<R: Threads + Sync, S: Site, F: Folder + Sync, G: Gate + Sync>(
+fn work_in_halves<R: Threads + Sync, S: Site, F: Folder + Sync, G: Gate + Stop + Sync>(
     rt: &R,
     shared: &Shared<'_, '_, S, F, G>,
     queues: &[Queues],
     mut members: Vec<Member>,
     pass: Pass<S>,
     faults: Vec<Option<ActFault>>,
-) -> (Pass<S>, Vec<Option<ActFault>>)
+) -> AllWorked<S>
 where
     F::File: Send,
-    requires notes { HasNotes S.Site F.Folder shared.now pass faults.items }
+    requires notes { HasNotes S.Site F.Folder G.Stop shared.now pass faults.items }
     requires fresh { AreFresh members.items }
-    ensures notes { HasNotes S.Site F.Folder shared.now result.0 result.1.items }
-    ensures share { IsSameShare pass result.0 }
+    ensures notes { HasNotes S.Site F.Folder G.Stop shared.now result.pass result.faults.items }
+    ensures share { IsSameShare pass result.pass }
+    ensures stopped { IsTrue result.is_stopped → G.stops shared.now.gate.now }
 {
     let Some(member) = members.pop() else {
-        return (pass, faults);
+        return none_worked(pass, faults);
     };
     let (ours, theirs) = match shared.board.split(pass) {
         Ok(halves) => halves,
-        Err(pass) => return (pass, faults),
+        Err(pass) => return none_worked(pass, faults),
     };
     if members.is_empty() {
         let worked = shared.work(queues, member, theirs);
-        return shared.put_together(ours, faults, worked);
+        return shared.put_together(none_worked(ours, faults), worked);
     }
     let one = move || -> Worked<S>
-        requires { IsSync F.row × IsSync G.row × HasList S.Site F.Folder shared.now theirs member.failures.items }
-        ensures list { HasList S.Site F.Folder shared.entry.now result.pass result.failures.items }
+        requires { IsSync F.row × IsSync G.row × HasList S.Site F.Folder G.Stop shared.now theirs member.failures.items }
+        ensures list { HasList S.Site F.Folder G.Stop shared.entry.now result.pass result.failures.items }
         ensures part { IsSamePart theirs result.pass }
+        ensures stopped { IsTrue result.is_stopped → G.stops shared.entry.now.gate.now }
     { shared.work(queues, member, theirs) };
-    let others = move || -> (Pass<S>, Vec<Option<ActFault>>)
-        requires { IsSync R.row × IsSync F.row × IsSync G.row × IsSend F.File.row × HasBegun S.Site F.Folder shared.now ours faults.items members.items }
-        ensures notes { HasNotes S.Site F.Folder shared.entry.now result.0 result.1.items }
-        ensures share { IsSameShare ours result.0 }
+    let others = move || -> AllWorked<S>
+        requires threads { IsSync R.row × IsSync F.row × IsSync G.row × IsSend F.File.row }
+        requires begun { HasBegun S.Site F.Folder G.Stop shared.now ours faults.items members.items }
+        ensures notes { HasNotes S.Site F.Folder G.Stop shared.entry.now result.pass result.faults.items }
+        ensures share { IsSameShare ours result.pass }
+        ensures stopped { IsTrue result.is_stopped → G.stops shared.entry.now.gate.now }
     { work_in_halves(rt, shared, queues, members, ours, faults) };
     let (worked, rest) = join(rt, one, others);
-    let (ours, faults) = rest;
-    shared.put_together(ours, faults, worked)
+    shared.put_together(rest, worked)
+}
+
+/// What no worker has changed.
+fn none_worked<S>(pass: Pass<S>, faults: Vec<Option<ActFault>>) -> AllWorked<S>
+    ensures pass { result.pass ≡ pass }
+    ensures faults { result.faults.items ≡ faults.items }
+    ensures stopped { result.is_stopped ≡ false }
+{
+    AllWorked {
+        pass,
+        faults,
+        is_stopped: false,
+    }
 }

@@ -9,10 +9,12 @@ mod gate;
 mod outcome;
 mod running;
 mod shared;
+mod stop;
 mod sweep;
 mod workers;
 
 pub use fault::{ActFault, RunFault};
 pub use gate::{Gate, OpenGate};
 pub use outcome::{ActionResult, Outcome, commit_count};
-pub use running::run;
+pub use running::{run, run_until};
+pub use stop::Stop;

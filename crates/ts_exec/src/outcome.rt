@@ -1,12 +1,12 @@
 //! What came of a plan.
-ghost use Rattle.std.specs.Prelude.{◌≡◌, ◌<◌, ◌≤◌, [], Some, length, slice_get, slice_index_or, slice_set, vec_capacity, IfOk};
+ghost use Rattle.std.specs.Prelude.{◌≡◌, ◌<◌, ◌≤◌, [], Some, length, slice_get, slice_index_or, slice_set, vec_capacity, IfNone, IfOk, IfSome};
 ghost use Rattle.std.specs.Mem.Slots.{slots_len};
 ghost use Rattle.ts_board.specs.Archives.{HasEnded, LeftArchive};
 ghost use Rattle.ts_board.specs.Terms.{commit_count, site_in};
 ghost use Rattle.ts_board.specs.declared.law.Slot.TheVariants.{Empty};
-ghost use Rattle.ts_exec.specs.Outcomes.{AreResults, IsEnd, IsLeastOpen, ResultIs};
+ghost use Rattle.ts_exec.specs.Outcomes.{AreResults, HasWords, IsEnd, IsLeastOpen, IsReady, ResultIs};
 ghost use Rattle.ts_board.specs.Calls.{IsAsWide, slots_of, words_of};
-ghost use Rattle.ts_model.specs.Runs.{HasNot, Run, claims};
+ghost use Rattle.ts_model.specs.Runs.{Run};
 
 use crate::fault::ActFault;
 use std::alloc::{AllocError, Global};
@@ -27,6 +27,8 @@ pub enum ActionResult {
     Failed(ActFault),
     /// It was never claimed, since it waits for this action, the least of those that aren't done.
     Blocked(u32),
+    /// It was never claimed, though all that it waits for is done: the run was stopped.
+    Left,
 }
 
 /// What came of a plan: the result of each action, and the sites of its commits.
@@ -99,7 +101,7 @@ impl<S: Site> Results for Outcome<S> {
         match self.results[action as usize] {
             ActionResult::Done => Ending::Done,
             ActionResult::Failed(_) => Ending::Failed,
-            ActionResult::Blocked(_) => Ending::Left,
+            ActionResult::Blocked(_) | ActionResult::Left => Ending::Left,
         }
     }
 }
@@ -154,7 +156,10 @@ fn result_of<S: Site>(
         return ActionResult::Done;
     }
     if word & FAILED == 0 {
-        return ActionResult::Blocked(least_not_done(checked, closed, faults, i));
+        return match least_not_done(checked, closed, i) {
+            Some(k) => ActionResult::Blocked(k),
+            None => ActionResult::Left,
+        };
     }
     match fault_at(faults, i) {
         Some(fault) => ActionResult::Failed(fault),
@@ -170,23 +175,18 @@ fn fault_at(faults: &[Option<ActFault>], i: u32) -> Option<ActFault>
     faults[i as usize]
 }
 
-/// The least action that isn't done of those that an unclaimed action waits for.
-fn least_not_done<S: Site>(
-    checked: &Checked<'_>,
-    closed: &Closed<S>,
-    faults: &[Option<ActFault>],
-    i: u32,
-) -> u32
+/// The least action that isn't done of those that an action waits for.
+fn least_not_done<S: Site>(checked: &Checked<'_>, closed: &Closed<S>, i: u32) -> Option<u32>
     requires action { i < length checked.now.plan.actions }
     requires words { length checked.now.plan.actions ≤ slots_len closed.now.row.words }
-    requires end { (run : Run) × IsEnd checked.now.plan run (words_of closed.now) faults.now × HasNot run (claims i) }
-    ensures { (run : Run) → IsEnd checked.now.plan run (words_of closed.now) faults.now → IsLeastOpen checked.now.plan run i result }
+    ensures some { (run : Run) → HasWords checked.now.plan run (words_of closed.now) → IfSome result (IsLeastOpen checked.now.plan run i) }
+    ensures none { (run : Run) → HasWords checked.now.plan run (words_of closed.now) → IfNone result (IsReady checked.now.plan run i) }
 {
     let preds = checked.preds(i);
     for k in preds {
         if closed.word(*k) & DONE == 0 {
-            return *k;
+            return Some(*k);
         }
     }
-    unreachable!()
+    None
 }

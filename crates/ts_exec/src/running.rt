@@ -3,17 +3,18 @@ ghost use Rattle.std.specs.Prelude.{◌≡◌, ◌≤◌, [], IfErr, IfOk, lengt
 ghost use Rattle.ts_board.specs.Archives.{HasEnded};
 ghost use Rattle.ts_board.specs.Calls.{HasPlaces, IsPassOf, IsWhole, mine, seen, words_of};
 ghost use Rattle.ts_board.specs.Terms.{commit_count};
-ghost use Rattle.ts_exec.specs.Failures.{setting_for};
+ghost use Rattle.ts_exec.specs.Failures.{setting_for, setting_until};
 ghost use Rattle.ts_exec.specs.Outcomes.{IsOutcomeOf, IsSteady, MisfitsAreUntold, OnlyMemoryRanOut};
-ghost use Rattle.ts_exec.specs.Tidy.{AreFresh, IsTidy, Noted, Swept};
+ghost use Rattle.ts_exec.specs.Tidy.{AreFresh, IsSwept, IsTidy, Noted};
 ghost use Rattle.ts_exec.specs.Sharing.{setting_of};
 
 use crate::crew::{Crew, Member, Queues};
-use crate::crowd::work_at_once;
+use crate::crowd::{AllWorked, work_at_once};
 use crate::fault::{ActFault, RunFault};
 use crate::gate::Gate;
 use crate::outcome::{Outcome, results_of};
 use crate::shared::Shared;
+use crate::stop::{Stop, Stoppable, Unstopped};
 use crossbeam_deque::Worker;
 use std::alloc::Global;
 use std::thread::Threads;
@@ -22,8 +23,8 @@ use ts_check::Checked;
 use ts_folder::Folder;
 use ts_site::Site;
 
-/// Lets all members work, and then tries what is still open, in order.
-fn work_and_sweep<R: Threads + Sync, S: Site, F: Folder + Sync, G: Gate + Sync>(
+/// Lets all members work, and then tries what is still open, in order. Where a member was stopped that is left out.
+fn work_and_sweep<R: Threads + Sync, S: Site, F: Folder + Sync, G: Gate + Stop + Sync>(
     rt: &R,
     shared: &Shared<'_, '_, S, F, G>,
     queues: &[Queues],
@@ -40,11 +41,18 @@ where
     requires fresh { AreFresh members.items }
     ensures pass { IsPassOf S.content shared.now.board.now result.0 × IsWhole result.0 }
     ensures tidy { IsTidy shared.now.checked.now.plan (mine result.0) }
-    ensures noted { Noted (setting_of S.Site F.Folder shared.now) (mine result.0) (seen result.0) result.1.items }
+    ensures noted { Noted (setting_of S.Site F.Folder G.Stop shared.now) (mine result.0) (seen result.0) result.1.items }
     ensures room { length result.1.items ≡ length shared.now.checked.now.plan.actions }
-    ensures swept { Swept shared.now.checked.now.plan (length shared.now.checked.now.plan.actions) (mine result.0) (seen result.0) }
+    ensures swept { IsSwept (setting_of S.Site F.Folder G.Stop shared.now) (mine result.0) (seen result.0) }
 {
-    let (mut pass, mut faults) = work_at_once(rt, shared, queues, members, pass, faults);
+    let AllWorked {
+        mut pass,
+        mut faults,
+        is_stopped,
+    } = work_at_once(rt, shared, queues, members, pass, faults);
+    if is_stopped {
+        return (pass, faults);
+    }
     shared.sweep(&mut pass, &mut unread, &mut faults);
     (pass, faults)
 }
@@ -55,7 +63,7 @@ where
 ///
 /// Where both folders tell trees of the prints that the plan was checked with, nothing misfits, and each commit that is done has
 /// put in place just what its source's folder tells. Where sites, too, told what was checked, and nothing of theirs fails,
-/// actions fail only where memory runs out.
+/// actions fail only where memory runs out. Nothing is `Left`.
 ///
 /// # Errors
 ///
@@ -75,6 +83,65 @@ where
     requires few { workers ≤ 64 }
     requires sites { length sites.items ≡ commit_count checked.now.plan.actions }
     ensures outcome { IfOk result (λ o. IsOutcomeOf (setting_for S.Site F.Folder checked.now first.now second.now sites.items) o) }
+    ensures misfits { IfOk result (λ o. MisfitsAreUntold (setting_for S.Site F.Folder checked.now first.now second.now sites.items) o.results.items) }
+    ensures steady { IfOk result (λ o. IsSteady (setting_for S.Site F.Folder checked.now first.now second.now sites.items) → OnlyMemoryRanOut o.results.items) }
+    ensures ended { IfOk result (λ o. HasEnded checked.now (words_of o.closed)) }
+    ensures wide { IfOk result (λ o. HasPlaces o.closed (length checked.now.plan.actions)) }
+    ensures back { IfErr result (λ refused. refused.0.items ≡ sites.items) }
+{
+    let gate = Unstopped { gate };
+    carry_out(rt, alloc, checked, first, second, sites, workers, &gate)
+}
+
+/// Carries out a checked plan as `run` does, until it is stopped. The stop is asked before each try of a claim; a worker that
+/// is to stop tries no further one, and what others have claimed ends. An action that could have been claimed then is `Left`,
+/// and what waits for it is `Blocked`. The rest of `run`'s promises stands, of one run.
+///
+/// # Errors
+///
+/// Out of memory, before anything was done, and the sites come back as they were.
+pub fn run_until<'a, R: Threads + Sync, S: Site, F: Folder + Sync, G: Gate + Sync, T: Stop + Sync>(
+    rt: &R,
+    alloc: Global,
+    checked: &'a Checked<'a>,
+    first: &'a F,
+    second: &'a F,
+    sites: Vec<S>,
+    workers: u32,
+    gate: &'a G,
+    stop: &'a T,
+) -> Result<Outcome<S>, (Vec<S>, RunFault)>
+where
+    F::File: Send,
+    requires few { workers ≤ 64 }
+    requires sites { length sites.items ≡ commit_count checked.now.plan.actions }
+    ensures outcome { IfOk result (λ o. IsOutcomeOf (setting_until S.Site F.Folder T.Stop checked.now first.now second.now sites.items stop.now) o) }
+    ensures misfits { IfOk result (λ o. MisfitsAreUntold (setting_for S.Site F.Folder checked.now first.now second.now sites.items) o.results.items) }
+    ensures steady { IfOk result (λ o. IsSteady (setting_for S.Site F.Folder checked.now first.now second.now sites.items) → OnlyMemoryRanOut o.results.items) }
+    ensures ended { IfOk result (λ o. HasEnded checked.now (words_of o.closed)) }
+    ensures wide { IfOk result (λ o. HasPlaces o.closed (length checked.now.plan.actions)) }
+    ensures back { IfErr result (λ refused. refused.0.items ≡ sites.items) }
+{
+    let gate = Stoppable { gate, stop };
+    carry_out(rt, alloc, checked, first, second, sites, workers, &gate)
+}
+
+/// Carries out a checked plan, until its gate says to stop.
+fn carry_out<'a, 'b, R: Threads + Sync, S: Site, F: Folder + Sync, G: Gate + Stop + Sync>(
+    rt: &R,
+    alloc: Global,
+    checked: &'a Checked<'a>,
+    first: &'a F,
+    second: &'a F,
+    sites: Vec<S>,
+    workers: u32,
+    gate: &'b G,
+) -> Result<Outcome<S>, (Vec<S>, RunFault)>
+where
+    F::File: Send,
+    requires few { workers ≤ 64 }
+    requires sites { length sites.items ≡ commit_count checked.now.plan.actions }
+    ensures outcome { IfOk result (λ o. IsOutcomeOf (setting_until S.Site F.Folder G.Stop checked.now first.now second.now sites.items gate.now) o) }
     ensures misfits { IfOk result (λ o. MisfitsAreUntold (setting_for S.Site F.Folder checked.now first.now second.now sites.items) o.results.items) }
     ensures steady { IfOk result (λ o. IsSteady (setting_for S.Site F.Folder checked.now first.now second.now sites.items) → OnlyMemoryRanOut o.results.items) }
     ensures ended { IfOk result (λ o. HasEnded checked.now (words_of o.closed)) }

@@ -11,7 +11,7 @@ use ts_check::Checked;
 use ts_model::plan::{Kind, Side};
 use ts_site::Site;
 
-/// What all workers share: the checked plan, its board, the folders that pieces are read from, and the gate.
+/// What all workers share: the checked plan, its board, the folders that pieces are read from, and the gate, which may stop them.
 #[derive(Drop)]
 pub struct Shared<'a, 'b, S: Site, F, G> {
     pub alloc: Global,
@@ -19,7 +19,7 @@ pub struct Shared<'a, 'b, S: Site, F, G> {
     pub board: &'b Board<S>,
     pub first: &'a F,
     pub second: &'a F,
-    pub gate: &'a G,
+    pub gate: &'b G,
     pub ghost plan: { plan_of board.now ≡ checked.now.plan },
     pub ghost first_print: { board.now.table.shared.key.first.value ≡ checked.now.first },
     pub ghost valid: { Valid (snapshot_of checked.now) checked.now.plan },

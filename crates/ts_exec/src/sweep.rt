@@ -2,20 +2,21 @@
 ghost use Rattle.std.specs.Prelude.{◌≡◌, ◌≢◌, ◌⊎◌, ◌<◌, ◌++◌, length};
 ghost use Rattle.ts_board.specs.Calls.{IsPassOf, IsSamePart, mine, seen};
 ghost use Rattle.ts_board.specs.Runs.{StartsWith};
-ghost use Rattle.ts_exec.specs.Tidy.{IsTidy, Noted, Swept, EndsOnly};
+ghost use Rattle.ts_exec.specs.Tidy.{IsSwept, IsTidy, Noted, EndsOnly};
 ghost use Rattle.ts_exec.specs.Sharing.{setting_of};
 ghost use Rattle.ts_model.specs.Runs.{Has, Run, claims, word_after};
 
 use crate::fault::ActFault;
 use crate::gate::Gate;
 use crate::shared::Shared;
+use crate::stop::Stop;
 use crossbeam_deque::Worker;
 use ts_board::Pass;
 use ts_folder::Folder;
 use ts_site::Site;
 
-impl<'a, 'b, S: Site, F: Folder + Sync, G: Gate + Sync> Shared<'a, 'b, S, F, G> {
-    /// Tries each action once, in order, and notes why it failed.
+impl<'a, 'b, S: Site, F: Folder + Sync, G: Gate + Stop + Sync> Shared<'a, 'b, S, F, G> {
+    /// Tries each action once, in order, until it is stopped, and notes why it failed.
     pub fn sweep(
         &self,
         pass: &mut Pass<S>,
@@ -25,14 +26,17 @@ impl<'a, 'b, S: Site, F: Folder + Sync, G: Gate + Sync> Shared<'a, 'b, S, F, G> 
         requires pass { IsPassOf S.content self.now.board.now pass.old }
         requires tidy { IsTidy self.now.checked.now.plan (mine pass.old) }
         requires room { length faults.old.items ≡ length self.now.checked.now.plan.actions }
-        requires noted { Noted (setting_of S.Site F.Folder self.now) (mine pass.old) (seen pass.old) faults.old.items }
+        requires noted { Noted (setting_of S.Site F.Folder G.Stop self.now) (mine pass.old) (seen pass.old) faults.old.items }
         ensures pass { IsPassOf S.content self.now.board.now pass.new × IsSamePart pass.old pass.new }
         ensures tidy { IsTidy self.now.checked.now.plan (mine pass.new) }
-        ensures noted { Noted (setting_of S.Site F.Folder self.now) (mine pass.new) (seen pass.new) faults.new.items }
+        ensures noted { Noted (setting_of S.Site F.Folder G.Stop self.now) (mine pass.new) (seen pass.new) faults.new.items }
         ensures room { length faults.new.items ≡ length self.now.checked.now.plan.actions }
-        ensures swept { Swept self.now.checked.now.plan (length self.now.checked.now.plan.actions) (mine pass.new) (seen pass.new) }
+        ensures swept { IsSwept (setting_of S.Site F.Folder G.Stop self.now) (mine pass.new) (seen pass.new) }
     {
         for i in 0..self.checked.action_count() {
+            if self.gate.now() {
+                return;
+            }
             self.sweep_one(pass, i, unread, faults);
         }
     }
@@ -49,12 +53,12 @@ impl<'a, 'b, S: Site, F: Folder + Sync, G: Gate + Sync> Shared<'a, 'b, S, F, G> 
         requires action { i < length self.now.checked.now.plan.actions }
         requires tidy { IsTidy self.now.checked.now.plan (mine pass.old) }
         requires room { length faults.old.items ≡ length self.now.checked.now.plan.actions }
-        requires noted { Noted (setting_of S.Site F.Folder self.now) (mine pass.old) (seen pass.old) faults.old.items }
+        requires noted { Noted (setting_of S.Site F.Folder G.Stop self.now) (mine pass.old) (seen pass.old) faults.old.items }
         ensures pass { IsPassOf S.content self.now.board.now pass.new × IsSamePart pass.old pass.new }
         ensures seen { StartsWith (seen pass.new) (seen pass.old) }
         ensures steps { (block : Run) × (mine pass.new ≡ mine pass.old ++ block) × IsTidy self.now.checked.now.plan block × EndsOnly i block }
         ensures tried { Has (mine pass.new) (claims i) ⊎ ((mine pass.new ≡ mine pass.old) × (word_after self.now.checked.now.plan (seen pass.new) i ≢ 0)) }
-        ensures noted { Noted (setting_of S.Site F.Folder self.now) (mine pass.new) (seen pass.new) faults.new.items }
+        ensures noted { Noted (setting_of S.Site F.Folder G.Stop self.now) (mine pass.new) (seen pass.new) faults.new.items }
         ensures room { length faults.new.items ≡ length self.now.checked.now.plan.actions }
     {
         if let Some(fault) = self.attempt(pass, i, unread) {

@@ -1,5 +1,5 @@
 //! Workers claim actions, act, and release what waited for them.
-ghost use Rattle.std.specs.Prelude.{ℕ, ◌≡◌, ◌≢◌, ◌⊎◌, ◌<◌, ◌++◌, length, IfSome, vec_len, vec_capacity};
+ghost use Rattle.std.specs.Prelude.{ℕ, ◌≡◌, ◌≢◌, ◌⊎◌, ◌<◌, ◌++◌, length, IfSome, IsTrue, vec_len, vec_capacity};
 ghost use Rattle.ts_board.specs.Calls.{IsPassOf, IsSamePart, mine, seen};
 ghost use Rattle.ts_board.specs.Runs.{StartsWith};
 ghost use Rattle.ts_exec.specs.Failures.{MayFail};
@@ -11,6 +11,7 @@ use crate::crew::{Failure, Member, Queues};
 use crate::fault::ActFault;
 use crate::gate::Gate;
 use crate::shared::Shared;
+use crate::stop::Stop;
 use crossbeam_deque::Worker;
 use std::thread;
 use ts_board::Pass;
@@ -24,9 +25,11 @@ const PATIENCE: u32 = 64;
 pub struct Worked<S> {
     pub pass: Pass<S>,
     pub failures: Vec<Failure>,
+    /// It was stopped.
+    pub is_stopped: bool,
 }
 
-impl<'a, 'b, S: Site, F: Folder + Sync, G: Gate + Sync> Shared<'a, 'b, S, F, G> {
+impl<'a, 'b, S: Site, F: Folder + Sync, G: Gate + Stop + Sync> Shared<'a, 'b, S, F, G> {
     /// Tries an action. Who claims it makes all its steps, and leaves a hint at each action that it freed. Answers the fault
     /// where it was claimed and failed.
     pub fn attempt(&self, pass: &mut Pass<S>, i: u32, freed: &mut Worker<u32>) -> Option<ActFault>
@@ -35,9 +38,9 @@ impl<'a, 'b, S: Site, F: Folder + Sync, G: Gate + Sync> Shared<'a, 'b, S, F, G> 
         requires tidy { IsTidy self.now.checked.now.plan (mine pass.old) }
         ensures pass { IsPassOf S.content self.now.board.now pass.new × IsSamePart pass.old pass.new }
         ensures seen { StartsWith (seen pass.new) (seen pass.old) }
-        ensures steps { MakesTry (setting_of S.Site F.Folder self.now) pass.old i result pass.new }
+        ensures steps { MakesTry (setting_of S.Site F.Folder G.Stop self.now) pass.old i result pass.new }
         ensures tried { Has (mine pass.new) (claims i) ⊎ ((mine pass.new ≡ mine pass.old) × (word_after self.now.checked.now.plan (seen pass.new) i ≢ 0)) }
-        ensures fault { IfSome result (MayFail (setting_of S.Site F.Folder self.now) (seen pass.new) i) }
+        ensures fault { IfSome result (MayFail (setting_of S.Site F.Folder G.Stop self.now) (seen pass.new) i) }
     {
         let mut held = self.board.claim(pass, i)?;
         self.gate.pass(i);
@@ -72,20 +75,25 @@ impl<'a, 'b, S: Site, F: Folder + Sync, G: Gate + Sync> Shared<'a, 'b, S, F, G> 
         }
     }
 
-    /// Follows hints until none has come for a while.
+    /// Follows hints until none has come for a while, or it is stopped.
     pub fn work(&self, queues: &[Queues], member: Member, pass: Pass<S>) -> Worked<S>
         requires pass { IsPassOf S.content self.now.board.now pass }
         requires tidy { IsTidy self.now.checked.now.plan (mine pass) }
-        requires listed { Listed (setting_of S.Site F.Folder self.now) (mine pass) (seen pass) member.failures.items }
+        requires listed { Listed (setting_of S.Site F.Folder G.Stop self.now) (mine pass) (seen pass) member.failures.items }
         ensures pass { IsPassOf S.content self.now.board.now result.pass × IsSamePart pass result.pass }
         ensures tidy { IsTidy self.now.checked.now.plan (mine result.pass) }
-        ensures listed { Listed (setting_of S.Site F.Folder self.now) (mine result.pass) (seen result.pass) result.failures.items }
+        ensures listed { Listed (setting_of S.Site F.Folder G.Stop self.now) (mine result.pass) (seen result.pass) result.failures.items }
+        ensures stopped { IsTrue result.is_stopped → G.stops self.now.gate.now }
     {
         let Member {
             mut hints,
             failures,
         } = member;
-        let mut worked = Worked { pass, failures };
+        let mut worked = Worked {
+            pass,
+            failures,
+            is_stopped: false,
+        };
         let mut idle = 0;
         'turns: for _ in 0..self.turns() {
             // There is room for all actions, and each fails once.
@@ -94,6 +102,10 @@ impl<'a, 'b, S: Site, F: Folder + Sync, G: Gate + Sync> Shared<'a, 'b, S, F, G> 
             }
             match hints.next(queues) {
                 Some(i) => {
+                    if self.gate.now() {
+                        worked.is_stopped = true;
+                        return worked;
+                    }
                     idle = 0;
                     self.follow(&mut worked, i, &mut hints.freed);
                 }
@@ -116,10 +128,11 @@ impl<'a, 'b, S: Site, F: Folder + Sync, G: Gate + Sync> Shared<'a, 'b, S, F, G> 
         requires pass { IsPassOf S.content self.now.board.now worked.old.pass }
         requires room { vec_len worked.old.failures < vec_capacity worked.old.failures }
         requires tidy { IsTidy self.now.checked.now.plan (mine worked.old.pass) }
-        requires listed { Listed (setting_of S.Site F.Folder self.now) (mine worked.old.pass) (seen worked.old.pass) worked.old.failures.items }
+        requires listed { Listed (setting_of S.Site F.Folder G.Stop self.now) (mine worked.old.pass) (seen worked.old.pass) worked.old.failures.items }
         ensures pass { IsPassOf S.content self.now.board.now worked.new.pass × IsSamePart worked.old.pass worked.new.pass }
         ensures tidy { IsTidy self.now.checked.now.plan (mine worked.new.pass) }
-        ensures listed { Listed (setting_of S.Site F.Folder self.now) (mine worked.new.pass) (seen worked.new.pass) worked.new.failures.items }
+        ensures listed { Listed (setting_of S.Site F.Folder G.Stop self.now) (mine worked.new.pass) (seen worked.new.pass) worked.new.failures.items }
+        ensures stopped { worked.new.is_stopped ≡ worked.old.is_stopped }
     {
         if i >= self.checked.action_count() {
             return;

@@ -26,6 +26,7 @@ abbrev pub put_path : Side → List Entry → Action × ActionResult → Option 
 put_path on entries (action, ended.Done) = committed on entries action.kind
 put_path on entries (action, ended.Failed fault) = None
 put_path on entries (action, ended.Blocked before) = None
+put_path on entries (action, ended.Left) = None
 
 abbrev pub put_paths : Side → List Entry → List Action → List ActionResult → List Path
 put_paths on entries actions results = filter_map (put_path on entries) (zip actions results)

@@ -11,7 +11,7 @@
 --     IsSynced .. pair came                     the same of a plan that `resume` made, and not where just one replica took part before
 --     RanQuietly Is                             a plan was run, `Is` is said of what came of it, and all was reported; or nothing was written
 --     Ran Is                                    the same, but what recovery has to say of an earlier run's swaps may be reported where nothing was run
---     Refuses fault                             a broken plan is told on standard output, every other fault on standard error
+--     Refuses fault                             a broken plan is reported on standard output, every other fault on standard error
 --     AnswersRun Is                             the same as `Ran` of a command: where nothing was run, it is refused
 --     AnswersOne Says                           what `plan` and `check` answer
 use Rattle.std.specs.Prelude.{◌≡◌, ◌⊎◌, ⊤, ℕ, Bool, List, [], ◌∷◌, ◌++◌, Option, Some, None, IfNone, Result, Ok, Err, slice_get}
@@ -73,6 +73,7 @@ failure_line explain entries action ended.Done = []
 failure_line explain entries action (ended.Failed fault) =
     let path = path_for entries action.kind in with_sentence explain (failure_text fault path) (fault_line (act_number fault) path)
 failure_line explain entries action (ended.Blocked before) = []
+failure_line explain entries action ended.Left = []
 
 abbrev pub failure_lines : Bool → List Entry → List Action → List ActionResult → List Line
 failure_lines explain entries [] results = []
@@ -211,7 +212,7 @@ RefusesPlan command e rule place old new old_faults new_faults =
     (Appends old new (text (refusal rule place ∷ [])) × BeginsLines old_faults new_faults (sentence_lines command e))
     ⊎ (AppendsFront old new (text (refusal rule place ∷ [])) × ((why : PerformFault) × IsQuiet why × BeginsFault command why old_faults new_faults))
 
--- a broken plan is told on standard output, all else on standard error
+-- a broken plan is reported on standard output, all else on standard error
 pub record Refuses (command : Command) (e : PerformFault) (old new old_faults new_faults : Option (List ℕ)) : Type 0 where
   pub broken : (rule : PlanRule) (place : ℕ) → e ≡ fault.Broken rule place → RefusesPlan command e rule place old new old_faults new_faults
   pub other : IsQuiet e → (new ≡ old) × BeginsFault command e old_faults new_faults

@@ -159,7 +159,7 @@ fn report_failure<E: Sink>(
     ensures told { Writes (E.holds err.old) (E.holds err.new) (text (failure_line explain plan.now.entries action.now ended)) result }
 {
     match ended {
-        ActionResult::Done | ActionResult::Blocked(_) => Ok(()),
+        ActionResult::Done | ActionResult::Blocked(_) | ActionResult::Left => Ok(()),
         ActionResult::Failed(fault) => {
             write_failure(alloc, explain, fault, path_of(plan, &action.kind), err)
         }

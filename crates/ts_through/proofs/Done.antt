@@ -13,11 +13,11 @@ use Rattle.ts_board.specs.declared.law.Terms.{Terms}
 use Rattle.ts_exec.specs.Failures.{Setting}
 use Rattle.ts_exec.specs.Outcomes.{IsOutcome}
 use Rattle.ts_exec.specs.declared.outcome.ActionResult.{ActionResult}
-use Rattle.ts_exec.specs.declared.outcome.ActionResult.TheVariants.{Done, Blocked}
+use Rattle.ts_exec.specs.declared.outcome.ActionResult.TheVariants.{Done, Blocked, Left}
 use Rattle.std.proofs.lemmas.Bool.{true≢false}
 use Rattle.ts_laws.proofs.Lists.{Among-from_Contains, below_bound}
 use Rattle.ts_laws.proofs.Runs.{preds_ascend}
-use Rattle.ts_through.specs.Parts.{AreBlockedByEarlier}
+use Rattle.ts_through.specs.Parts.{AreBlockedByEarlier, NoneIsLeft}
 use Rattle.ts_board.proofs.Words.{done_word, few_open}
 use Rattle.ts_board.specs.Runs.{bit}
 
@@ -40,3 +40,8 @@ blocked_by_earlier {x = x} o valid i k is =
       below_bound i waits.0.preds k (preds_ascend (snapshot_of x.checkup) x.checkup.plan valid i waits.0 waits.1) (Among-from_Contains waits.0.preds k waits.2),
       λ done. true≢false (sym (o.each k Done done) ∙ fits.1.not_done),
     )
+
+-- a run that isn't stopped leaves no action that could have been claimed
+pub none_left : {S : Type 0} {content : S → Option (Listing (List ℕ))} {x : Setting} {t : Terms} {results : List ActionResult} {words : List ℕ} {slots : List (Slot S)}
+    → IsOutcome content x t results words slots → ¬ x.stops → NoneIsLeft results
+none_left o never i is = never (o.each i Left is).2

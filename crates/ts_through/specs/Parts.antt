@@ -7,6 +7,7 @@
 --     AreHeld plan first second slots    the site of each commit has what the entry's source has at its path
 --     ArePlaced plan parts sites         the site of each commit has the part of its entry
 --     AreBlockedByEarlier results        a blocked action waits for an earlier one that isn't done
+--     NoneIsLeft results                 no action that could have been claimed was left
 --     AreTaken plan slots parts          the part of each commit's entry is what its site has
 use Rattle.std.specs.Prelude.{◌≡◌, ◌≢◌, ℕ, ◌<◌, Bool, true, false, cond, List, [], ◌∷◌, Some, length, slice_get, slice_index, slice_index_or}
 use Rattle.ts_name.specs.Paths.{Path}
@@ -24,7 +25,7 @@ use Rattle.ts_board.specs.declared.law.Slot.{Slot}
 use Rattle.ts_board.specs.declared.law.Slot.TheVariants.{Empty}
 use Rattle.ts_exec.specs.Failures.{of_side}
 use Rattle.ts_exec.specs.declared.outcome.ActionResult.{ActionResult}
-use Rattle.ts_exec.specs.declared.outcome.ActionResult.TheVariants.{Done, Blocked}
+use Rattle.ts_exec.specs.declared.outcome.ActionResult.TheVariants.{Done, Blocked, Left}
 
 abbrev pub paths_from : Side → List Entry → List Path
 paths_from on [] = []
@@ -69,3 +70,6 @@ ArePlaced plan parts sites = (c e : ℕ) → KindIs plan c (Commit e) → site_i
 
 abbrev pub AreBlockedByEarlier : List ActionResult → Type 0
 AreBlockedByEarlier results = (i k : ℕ) → slice_get results i ≡ Some (Blocked k) → (k < i) × (slice_get results k ≢ Some Done)
+
+abbrev pub NoneIsLeft : List ActionResult → Type 0
+NoneIsLeft results = (i : ℕ) → slice_get results i ≢ Some Left

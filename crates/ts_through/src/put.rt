@@ -6,7 +6,7 @@ ghost use Rattle.ts_exec.specs.declared.fault.ActFault.TheVariants.{OutOfMemory}
 ghost use Rattle.ts_exec.specs.declared.outcome.ActionResult.TheVariants.{Done, Failed};
 ghost use Rattle.ts_model.specs.Plans.{KindIs};
 ghost use Rattle.ts_model.specs.declared.plan.Kind.TheVariants.{Commit};
-ghost use Rattle.ts_through.specs.Parts.{AreBlockedByEarlier, AreTaken};
+ghost use Rattle.ts_through.specs.Parts.{AreBlockedByEarlier, AreTaken, NoneIsLeft};
 
 use std::alloc::AllocError;
 use ts_check::Checked;
@@ -16,10 +16,12 @@ use ts_site::MemSite;
 use ts_tree::SubTree;
 
 /// Each action is done, or memory ran out for one. Nothing else can: the first that isn't done waits for none that
-/// isn't, so it isn't blocked, and where folders and sites don't fail, it failed because memory ran out.
+/// isn't, so it isn't blocked; a run that isn't stopped leaves none; and where folders and sites don't fail, it failed because
+/// memory ran out.
 pub(crate) fn all_done(results: &[ActionResult]) -> Result<(), AllocError>
     requires memory { OnlyMemoryRanOut results.now }
     requires blocked { AreBlockedByEarlier results.now }
+    requires left { NoneIsLeft results.now }
     ensures done { IfOk result (λ _. (i : ℕ) → i < length results.now → slice_get results.now i ≡ Some Done) }
     ensures want { IfErr result (λ _. (i : ℕ) × (slice_get results.now i ≡ Some (Failed OutOfMemory))) }
 {
@@ -31,6 +33,7 @@ pub(crate) fn all_done(results: &[ActionResult]) -> Result<(), AllocError>
                 _ => unreachable!(),
             },
             ActionResult::Blocked(_) => unreachable!(),
+            ActionResult::Left => unreachable!(),
         }
     }
     Ok(())

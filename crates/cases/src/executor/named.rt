@@ -250,6 +250,7 @@ fn in_words(alloc: Global, results: &[ActionResult]) -> Option<String> {
                 format!(in alloc; "failed {number}, ")
             }
             ActionResult::Blocked(k) => format!(in alloc; "blocked by {k}, "),
+            ActionResult::Left => format!(in alloc; "left, "),
         };
         words.push_str(word.ok()?.as_str()).ok()?;
     }

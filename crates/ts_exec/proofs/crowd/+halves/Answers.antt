@@ -1,4 +1,4 @@
-use Rattle.std.proofs.Common.{rules, ◌≡◌, [], refl}
+use Rattle.std.proofs.Common.{rules, ◌≡◌, [], refl, subst}
 use Rattle.std.specs.Thread.{IsSend, IsSync}
 use denote.Param.{param}
 use denote.Param.Send.{sendable}
@@ -8,7 +8,8 @@ use Rattle.atomic_table.proofs.shared.Seat.TheSendSync as seat
 use Rattle.ts_board.proofs.Crossing.{pass_field_send, slot_send}
 use Rattle.ts_exec.proofs.Crossing.{shared_sync, member_field_send}
 use Rattle.std.proofs.lemmas.List.Elements.{All-pop}
-use Rattle.ts_board.specs.Calls.{terms_of}
+use Rattle.ts_board.specs.Calls.{HasBothParts, terms_of}
+use Rattle.ts_board.specs.declared.board.Pass.{Pass}
 use Rattle.ts_exec.specs.Sharing.{setting_of}
 use Rattle.ts_exec.specs.declared.crew.Member.{Member}
 use Rattle.ts_exec.proofs.Teams.{fresh_list, joined_share, of_popped, same_notes}
@@ -16,7 +17,8 @@ use Rattle.ts_exec.proofs.crowd.+halves.Goals as goal
 
 pub returns-then-is_empty-clause-share : goal.returns-then-is_empty-clause-share
 returns-then-is_empty-clause-share g t c =
-    joined_share c.args.pass c.in-Ok.halves.0 c.in-Ok.halves.1 c.in-Ok.halves.0 c.work-worked.result.pass c.put_together.result.0 c.in-Ok.ensures.parts.0 c.in-Ok.ensures.parts.1 refl c.work-worked.ensures.pass.1 c.put_together.ensures.part
+    joined_share c.args.pass c.in-Ok.halves.0 c.in-Ok.halves.1 c.in-Ok.halves.0 c.work-worked.result.pass c.put_together.result.pass c.in-Ok.ensures.parts.0 c.in-Ok.ensures.parts.1 refl c.work-worked.ensures.pass.1
+    (subst (λ (z : Pass g.row.S.Denot). HasBothParts z c.work-worked.result.pass c.put_together.result.pass) c.none_worked-then-is_empty.ensures.pass c.put_together.ensures.part)
 
 pub join-worked-requires-send-F : goal.join-worked-requires-send-F
 join-worked-requires-send-F g t c κs within =
@@ -32,7 +34,7 @@ join-worked-requires-send-A g t c κs within =
 pub join-worked-requires-after_bounds : goal.join-worked-requires-after_bounds
 join-worked-requires-after_bounds g t c κs within =
     let j = c.args.shared.now in let id = j.board.now.table.shared.table_id in let terms = terms_of g.S.Site.content j.board.now in
-    let x = setting_of g.S.Site g.F.Folder j in
+    let x = setting_of g.S.Site g.F.Folder g.G.Stop j in
     let popped = All-pop (λ (m : Member). m.failures.items ≡ []) c.args.members.items c.pop.new.self.items c.pop.result c.pop.ensures.items c.requires.fresh in
     let empty = of_popped (λ (m : Member). m.failures.items ≡ []) c.args.members.items c.pop.new.self.items c.pop.result c.in-Some.member c.pop.ensures.items c.in-Some.is c.requires.fresh in
     let list = fresh_list id terms x c.in-Ok.halves.1 c.in-Some.member.failures.items c.in-Ok.ensures.second c.in-Ok.ensures.mine.1 empty in
@@ -42,5 +44,5 @@ join-worked-requires-after_bounds g t c κs within =
 
 pub returns-clause-share : goal.returns-clause-share
 returns-clause-share g t c =
-    joined_share c.args.pass c.in-Ok.halves.0 c.in-Ok.halves.1 c.join-worked.result.1.0 c.join-worked.result.0.pass c.put_together-2.result.0 c.in-Ok.ensures.parts.0 c.in-Ok.ensures.parts.1 c.join-worked.ensures.second.1 c.join-worked.ensures.first.1
+    joined_share c.args.pass c.in-Ok.halves.0 c.in-Ok.halves.1 c.join-worked.result.1.pass c.join-worked.result.0.pass c.put_together-2.result.pass c.in-Ok.ensures.parts.0 c.in-Ok.ensures.parts.1 c.join-worked.ensures.second.1.0 c.join-worked.ensures.first.1.0
     c.put_together-2.ensures.part

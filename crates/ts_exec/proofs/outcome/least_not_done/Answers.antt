@@ -2,8 +2,7 @@ use Rattle.std.proofs.Common.{◌≡◌, ◌<◌, ◌≤◌, ℕ, length, get_or
 use Rattle.std.specs.Prelude.{slice_index}
 use Rattle.std.specs.Int.{bit_at}
 use Rattle.std.specs.Mem.Slots.{slots_items}
-use Rattle.std.proofs.lemmas.Bool.{true≢false, cases_lt}
-use Rattle.ts_model.specs.Runs.{Has, finishes}
+use Rattle.std.proofs.lemmas.Bool.{cases_lt}
 use Rattle.ts_exec.proofs.Closing.{among_at, among_from, done_from_bit, not_done_is, bit_some, waits_from}
 use Rattle.ts_exec.proofs.Rows.{ascend_within, ascend_pairs, contains_at}
 use Rattle.ts_exec.proofs.outcome.least_not_done.Goals as goal
@@ -23,8 +22,8 @@ loop-k-preserved g c = λ m less.
     subst (λ (z : ℕ). bit_at (slice_index words (get_or xs z 0)) 33 ≡ 1) same (ap (λ (z : ℕ). bit_at z 33) (sym c.word.ensures) ∙ bit_some c.word.result 33 c.if-word-eq0.false))
     (cases_lt m n)
 
-pub returns-then-word-eq0 : goal.returns-then-word-eq0
-returns-then-word-eq0 g c = λ run end.
+pub returns-then-word-eq0-clause-some : goal.returns-then-word-eq0-clause-some
+returns-then-word-eq0-clause-some g c = λ run end.
     let n = c.loop-k.k-index in let xs = c.preds-preds.result.now in let words = slots_items c.args.closed.now.row.words in
     let plan = c.args.checked.now.plan in let i = c.args.i in let k = get_or xs n 0 in let asc = c.preds-preds.ensures.ascending in
     let h : n < length xs = c.loop-k-test.true in
@@ -52,16 +51,14 @@ returns-then-word-eq0 g c = λ run end.
           (cases_lt m n);
     }
 
-pub unreachable-requires : goal.unreachable-requires
-unreachable-requires g c =
+pub returns-clause-none : goal.returns-clause-none
+returns-clause-none g c = λ run has k waits.
     let n = c.loop-k.k-index in let xs = c.preds-preds.result.now in let words = slots_items c.args.closed.now.row.words in
-    let plan = c.args.checked.now.plan in let i = c.args.i in let end = c.requires.end in let less = c.requires.action in
-    let open_one = end.1.blocked i less end.2 in
-    let at = among_at xs open_one.0 (among_from plan i xs c.preds-preds.ensures.preds less open_one.0 open_one.1) in
+    let plan = c.args.checked.now.plan in let i = c.args.i in let less = c.requires.action in
+    let at = among_at xs k (among_from plan i xs c.preds-preds.ensures.preds less k waits) in
     let inside = at.1 in let past = c.loop-k-test.false in
     let below = ascend_within i xs c.preds-preds.ensures.ascending at.0 0 inside in
-    let is : get_or xs at.0 0 ≡ open_one.0 = at.2 0 in
-    let there : open_one.0 < length plan.actions = omega arith in
-    let done : Has end.0 (finishes open_one.0) = done_from_bit plan end.0 words open_one.0 (end.1.words_are open_one.0 there) (end.1.small open_one.0)
-    (subst (λ (z : ℕ). bit_at (slice_index words z) 33 ≡ 1) is (c.loop-k.invariant at.0 (omega arith))) in
-    true≢false (sym done ∙ open_one.2)
+    let is : get_or xs at.0 0 ≡ k = at.2 0 in
+    let there : k < length plan.actions = omega arith in
+    done_from_bit plan run words k (has.words_are k there) (has.small k)
+    (subst (λ (z : ℕ). bit_at (slice_index words z) 33 ≡ 1) is (c.loop-k.invariant at.0 (omega arith)))

@@ -5,8 +5,8 @@ use Rattle.ts_model.specs.Trees.{at, print_of}
 use Rattle.ts_exec.specs.Outcomes.{OnlyMemoryRanOut}
 use Rattle.ts_exec.specs.declared.outcome.ActionResult.{ActionResult}
 use Rattle.ts_exec.specs.declared.outcome.ActionResult.TheVariants.{Done}
-use Rattle.ts_through.specs.Parts.{AreBlockedByEarlier, AreHeld}
-use Rattle.ts_through.proofs.Done.{blocked_by_earlier, words_done}
+use Rattle.ts_through.specs.Parts.{AreBlockedByEarlier, AreHeld, NoneIsLeft}
+use Rattle.ts_through.proofs.Done.{blocked_by_earlier, none_left, words_done}
 use Rattle.ts_through.proofs.Held.{held}
 use Rattle.ts_through.proofs.Steady.{steady}
 use Rattle.ts_through.proofs.carry.ran.Goals as goal
@@ -23,6 +23,9 @@ all_done-requires-clause-memory g c =
 
 pub all_done-requires-clause-blocked : goal.all_done-requires-clause-blocked
 all_done-requires-clause-blocked g c = subst AreBlockedByEarlier (sym c.results.ensures) (blocked_by_earlier c.in-Ok.ensures.outcome c.plan-plan.ensures.valid)
+
+pub all_done-requires-clause-left : goal.all_done-requires-clause-left
+all_done-requires-clause-left g c = subst NoneIsLeft (sym c.results.ensures) (none_left c.in-Ok.ensures.outcome (λ stops. stops))
 
 pub returns-in-Ok-clause-done : goal.returns-in-Ok-clause-done
 returns-in-Ok-clause-done g c =

@@ -15,3 +15,8 @@ unreachable-requires-in-Blocked c =
     let results = c.args.results.now in let n = c.loop-result.result-index in
     let earlier = c.requires.blocked n c.in-Blocked.field-0 (slice_get-get_or results n Done c.loop-result-test.true ∙ ap Some c.in-Blocked.is) in
     earlier.1 (c.loop-result.invariant c.in-Blocked.field-0 earlier.0)
+
+pub unreachable-requires-in-Left : goal.unreachable-requires-in-Left
+unreachable-requires-in-Left c =
+    let results = c.args.results.now in let n = c.loop-result.result-index in
+    c.requires.left n (slice_get-get_or results n Done c.loop-result-test.true ∙ ap Some c.in-Left.is)

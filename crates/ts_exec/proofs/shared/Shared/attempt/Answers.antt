@@ -43,7 +43,7 @@ release_all-requires-clause-fresh g c κs within = λ k.
 pub returns-in-Ok-clause-steps : goal.returns-in-Ok-clause-steps
 returns-in-Ok-clause-steps g c =
     let j = c.args.self.now in let won = c.in_ok-held.ensures.won in let i = c.args.i in let own = mine c.args.pass.now in let plan = j.checked.now.plan in
-    let x = setting_of g.S.Site g.F.Folder j in
+    let x = setting_of g.S.Site g.F.Folder g.G.Stop j in
     let acted = seen c.act.new.pass in let done_seen = seen c.done.new.pass in let last_seen = seen c.release_all.new.pass in let makes = c.done.ensures.done in
     let later : StartsWith last_seen acted = starts_through acted done_seen last_seen (starts_after acted makes.0 (Act c.act.new.held.action (work_of c.act.new.held) ∷ Done c.act.new.held.action ∷ []) done_seen makes.1) c.release_all.ensures.seen in
     let steps = c.act.ensures.steps in let more = steps.0 in let last = c.release_all.ensures.steps in let rest = last.0 in
@@ -61,7 +61,7 @@ returns-in-Ok-clause-steps g c =
 pub returns-in-Err-clause-steps : goal.returns-in-Err-clause-steps
 returns-in-Err-clause-steps g c =
     let j = c.args.self.now in let won = c.in_ok-held.ensures.won in let i = c.args.i in let own = mine c.args.pass.now in let plan = j.checked.now.plan in
-    let x = setting_of g.S.Site g.F.Folder j in
+    let x = setting_of g.S.Site g.F.Folder g.G.Stop j in
     let steps = c.act.ensures.steps in let more = steps.0 in
     let a = c.act.new.held.action in
     let same : a ≡ i = c.act.ensures.action ∙ won.0 in
@@ -85,6 +85,6 @@ returns-in-Err-clause-tried g c =
 pub returns-in-Err-clause-fault : goal.returns-in-Err-clause-fault
 returns-in-Err-clause-fault g c =
     let j = c.args.self.now in let won = c.in_ok-held.ensures.won in let before = seen c.act.new.pass in let then = seen c.fail.new.pass in let failed = c.fail.ensures.failed in
-    let x = setting_of g.S.Site g.F.Folder j in
+    let x = setting_of g.S.Site g.F.Folder g.G.Stop j in
     may_later x before then (starts_after before failed.0 (Fail c.act.new.held.action ∷ []) then failed.1) c.args.i c.in-Err.fault
     (subst (λ (z : ℕ). MayFail x before z c.in-Err.fault) won.0 c.in-Err.ensures.fault)

@@ -28,7 +28,7 @@ returns-in_err-take_all-clause-err g c =
 pub returns-in_err-take_all-clause-fault : goal.returns-in_err-take_all-clause-fault
 returns-in_err-take_all-clause-fault g c =
     let j = c.args.self.now in let a = c.args.held.now.action in
-    let x = setting_of g.S.Site g.F.Folder j in
+    let x = setting_of g.S.Site g.F.Folder g.G.Stop j in
     exit_maps c.from_residual.result (λ f. f ≡ c.in_err-take_all.field-0.0) (MayFail x (seen c.take_all.new.pass) a) c.from_residual.ensures.1
     (λ f same. (Commit c.requires.commit.0, c.requires.commit.1, subst (λ (z : ActFault). CommitFails x (seen c.take_all.new.pass) a z) (sym (same ∙ c.in_err-take_all.ensures.fault)) tt))
 

@@ -27,7 +27,7 @@ overflow_cast-length g c =
 pub returns-in_err-bytes-clause-fault : goal.returns-in_err-bytes-clause-fault
 returns-in_err-bytes-clause-fault g c =
     let j = c.args.self.now in let s = c.source.ensures in let p = c.args.path.now in let end = c.args.offset + c.args.length in
-    let x = setting_of g.S.Site g.F.Folder j in
+    let x = setting_of g.S.Site g.F.Folder g.G.Stop j in
     exit_maps c.from_residual.result (λ f. f ≡ of_folder c.in_err-bytes.field-0.0) (λ f. (r : Run) → MayFail x r c.args.held.now.action f) c.from_residual.ensures.1
     (λ f same r. (
       Piece c.args.entry c.args.offset c.args.length p,

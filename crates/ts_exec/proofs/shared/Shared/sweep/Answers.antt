@@ -1,4 +1,4 @@
-use Rattle.std.proofs.Common.{sym, subst, ◌∙◌, arith}
+use Rattle.std.proofs.Common.{sym, subst, ◌∙◌, inl, arith}
 use Rattle.ts_model.specs.Runs.{Run}
 use Rattle.ts_check.specs.Checkup.{snapshot_of}
 use Rattle.ts_board.specs.Calls.{mine, seen}
@@ -24,6 +24,6 @@ loop-i-preserved g c =
     }
 
 pub returns-clause-swept : goal.returns-clause-swept
-returns-clause-swept g c = λ j less.
+returns-clause-swept g c = inl (λ j less.
     let past = c.loop-i-test.false in let count = c.action_count-i-end.ensures.count in
-    c.loop-i.invariant.swept j (omega arith)
+    c.loop-i.invariant.swept j (omega arith))

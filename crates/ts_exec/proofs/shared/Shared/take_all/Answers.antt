@@ -89,7 +89,7 @@ loop-k-preserved g c =
     let taken = c.take-bytes.ensures.taken in let part_of = c.take-bytes.ensures.pass.1 in
     let same : c.loop-k.held.action ≡ a = ap (λ z. z.action) inv.held in
     let later : StartsWith (seen c.take-bytes.new.pass) (seen c.loop-k.pass) = starts_after (seen c.loop-k.pass) taken.0 (Take c.loop-k.held.action k ∷ []) (seen c.take-bytes.new.pass) taken.1 in
-    let x = setting_of g.S.Site g.F.Folder j in
+    let x = setting_of g.S.Site g.F.Folder g.G.Stop j in
     let pieces : (l : ℕ) → Contains xs l ↔ IsPieceOf plan a l = subst (λ (z : ℕ). (l : ℕ) → Contains xs l ↔ IsPieceOf plan z l) c.action.ensures c.pieces-pieces.ensures.pieces in record {
       pass = c.take-bytes.ensures.pass.0;
       part = (part_of.0 ∙ inv.part.0, part_of.1 ∙ inv.part.1);
@@ -107,7 +107,7 @@ loop-k-preserved g c =
 pub returns-clause-whole : goal.returns-clause-whole
 returns-clause-whole g c = λ part of begun told read.
     let j = c.args.self.now in let a = c.args.held.now.action in let xs = c.pieces-pieces.result.now in let n = c.loop-k.k-index in let plan = j.checked.now.plan in
-    let x = setting_of g.S.Site g.F.Folder j in
+    let x = setting_of g.S.Site g.F.Folder g.G.Stop j in
     let pieces : (l : ℕ) → Contains xs l ↔ IsPieceOf plan a l = subst (λ (z : ℕ). (l : ℕ) → Contains xs l ↔ IsPieceOf plan z l) c.action.ensures c.pieces-pieces.ensures.pieces in
     let whole : take n xs ≡ xs = take_all n xs c.loop-k-test.false in
     let filled : IsFilled plan of.of_commit.0 (at told.0) xs part c.loop-k.staged =

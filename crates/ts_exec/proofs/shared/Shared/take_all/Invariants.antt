@@ -21,7 +21,7 @@ invariant-loop-k g l = record {
   held : l.held ≡ l.fn.held;
   wanted : l.staged.wanted ≡ l.fn.staged.wanted;
   filled : (
-      let x = setting_of g.S.Site g.F.Folder l.self in
+      let x = setting_of g.S.Site g.F.Folder g.G.Stop l.self in
       (part : Part) (of : IsSourcePart l.self.checked.now l.fn.held.action part) → l.fn.staged ≡ assembly_of part → (told : TellsTree x of.from) → AreRead x (seen l.pass)
       → IsFilled l.self.checked.now.plan of.of_commit.0 (at told.0) (take l.k-index l.pieces) part l.staged);
 }

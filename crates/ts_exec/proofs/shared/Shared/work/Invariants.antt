@@ -1,3 +1,4 @@
+use Rattle.std.proofs.Common.{◌≡◌, false}
 use Rattle.ts_board.specs.Calls.{IsPassOf, IsSamePart, mine, seen}
 use Rattle.ts_exec.specs.Tidy.{IsTidy, Listed}
 use Rattle.ts_exec.specs.Sharing.{setting_of}
@@ -8,5 +9,6 @@ invariant-turns g l = record {
   pass : IsPassOf g.S.Site.content l.self.board.now l.worked.pass;
   part : IsSamePart l.fn.pass l.worked.pass;
   tidy : IsTidy l.self.checked.now.plan (mine l.worked.pass);
-  listed : Listed (setting_of g.S.Site g.F.Folder l.self) (mine l.worked.pass) (seen l.worked.pass) l.worked.failures.items;
+  listed : Listed (setting_of g.S.Site g.F.Folder g.G.Stop l.self) (mine l.worked.pass) (seen l.worked.pass) l.worked.failures.items;
+  stopped : l.worked.is_stopped ≡ false;
 }
