@@ -1,4 +1,4 @@
-//! Tries the checker, the planner, the executor, the board and the decoders on cases, and compares what they answer with what
+//! Tries the checker, the planner, the executor, stopped runs, the board and the decoders on cases, and compares what they answer with what
 //! another reading of the rules wants. Ends with an error where something differs. The module of each says what its cases are.
 //! After the words `hostile NUMBER` it reads so many hostile texts, and does nothing else.
 #![tactic(auto)]
@@ -8,6 +8,7 @@ mod checker;
 mod executor;
 mod hostile;
 mod planner;
+mod stops;
 
 use anyhow::{Context, Result, bail};
 use std::env;
@@ -21,6 +22,8 @@ fn try_all<R: Threads + Print + AllocGlobal + Sync>(rt: &R) -> Result<()> {
     planner::try_cases(rt)?;
     println!(rt; "== the executor")?;
     executor::try_cases(rt)?;
+    println!(rt; "== stopped runs")?;
+    stops::try_cases(rt)?;
     println!(rt; "== the board")?;
     board::try_cases(rt)?;
     println!(rt; "== hostile inputs")?;
