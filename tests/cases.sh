@@ -52,6 +52,14 @@ ended() {
   [ "$failed" = 0 ]
 }
 
+# needs_strace NAME WHY: ends the script of this name here where strace is missing, and says what isn't tried then
+needs_strace() {
+  command -v strace >/dev/null && return
+  echo "skipped: strace is missing, so $2"
+  ended "$1"
+  exit
+}
+
 # fresh: empty replicas, no archive
 fresh() {
   chmod -R u+rwx first second 2>/dev/null

@@ -6,11 +6,7 @@ set -u
 cd "$(dirname "$0")/.." || exit 1
 . tests/cases.sh
 
-if ! command -v strace >/dev/null; then
-  echo 'skipped: strace is missing, so the order of flushes is not looked at'
-  ended flushes
-  exit
-fi
+needs_strace flushes 'the order of flushes is not looked at'
 
 # Reads a trace, and tells for each thing that has to hold whether it does: `ok WHAT`, or `bad WHAT: WHERE`. The words are
 # the folder of the run, and the targets that the run has to touch.

@@ -8,12 +8,7 @@ cd "$(dirname "$0")/.." || exit 1
 tests=$PWD/tests
 . tests/cases.sh
 
-if ! command -v strace >/dev/null; then
-  echo 'skipped: strace is missing, so no run is held while it reads'
-  ended sources
-  exit
-fi
-
+needs_strace sources 'no run is held while it reads'
 PYTHONPATH=$tests python3 -B "$tests/sources.py" "$program"
 add_counts 'the runs came to no end'
 ended sources

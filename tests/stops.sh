@@ -9,13 +9,7 @@ cd "$(dirname "$0")/.." || exit 1
 tests=$PWD/tests
 . tests/cases.sh
 
-if ! command -v strace >/dev/null; then
-  echo 'skipped: strace is missing, so no run is stopped at its calls'
-  ended stops
-  exit
-fi
-
+needs_strace stops 'no run is stopped at its calls'
 PYTHONPATH=$tests python3 -B "$tests/stops.py" "$program"
 add_counts 'the stops came to no end'
-
 ended stops
