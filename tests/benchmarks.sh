@@ -37,7 +37,7 @@ row() {
     }'
 }
 
-# Measures both sizes of a text; the lines for each path or action are told in quarters.
+# Measures both sizes of a text; the lines for each path or action are counted in quarters.
 both() {
   local small large
   small=$(measure "$1" "$2" "$4")

@@ -73,7 +73,7 @@ class Place:
 
 
 def module_of(path):
-    """Returns the path below its crate of the module in a file, or None for the crate's root and for what is no code."""
+    """Returns the path below its crate of the module in a file, or None for the crate's root and for what isn't code."""
     parts = path.removesuffix(".rt").split("/")
     if parts[0] != "src" or not path.endswith(".rt") or parts[1:] in (["lib"], ["main"]):
         return None

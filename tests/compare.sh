@@ -92,7 +92,7 @@ round() {
   change first 1000000
   clock "$2" one
   change first 100
-  # what goes in one direction is told only of one side
+  # what goes in one direction is reported for one side only
   [ "$2" = rsync ] || change second 100
   clock "$2" hundredth
 }

@@ -180,7 +180,7 @@ held_at() {
   wait "$child"
   held_status=$?
 }
-# failed_with_14 NAME [KEPT]: the entry has failed, and where something is kept its place is told
+# failed_with_14 NAME [KEPT]: the entry has failed, and where something is kept its place is reported
 failed_with_14() {
   answered "$1, from $from" 2 "failed $from /f"$'\n'"$lost" \
     "twosync: fault 14 /f${2:+$'\n'twosync: kept /f as $to/.twosync/$2}" "$held_status"

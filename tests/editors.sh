@@ -119,7 +119,7 @@ for run in $(seq "$runs"); do
   done
   holds_true "run $run: the runs after it" test "$got" -le 1
   look "run $run, and those after it"
-  # where they are apart it is told as a conflict, and nothing else
+  # where they are apart it is reported as a conflict, and nothing else
   diff -rq -x .twosync first second | sed -n 's/^Files first\(.*\) and .*/skip conflict \1/p' >apart
   holds_true "run $run: what is apart is a conflict" diff apart <(grep '^skip' out)
 done

@@ -368,7 +368,7 @@ def may_fail(call, rest):
 
 
 def failures(found, position, way, error):
-    """What strace is told, so that the call at this position fails, and more calls by the way."""
+    """The words for strace, so that the call at this position fails, and more calls by the way."""
     call, number = found[position]
     if way != ALL:
         which = {ONCE: "%d" % number, THRICE: "%d..%d" % (number, number + 2), ON: "%d+" % number}[way]

@@ -388,7 +388,7 @@ def text_of(draft, body, close):
 # --- reading, by docs/FORMATS.md
 
 class Refused(Exception):
-    """The text isn't one of its kind. `line` counts from 1, where that is told."""
+    """The text isn't one of its kind. `line` counts from 1, where it is known."""
     def __init__(self, fault, line=0):
         super().__init__()
         self.fault = fault

@@ -108,7 +108,7 @@ for offset in 0 65536 131071 199999; do
   holds_true "a target that changed at $offset stays" cmp -s second/a wanted
 done
 
-# a commit whose bytes don't fit is told as such, whatever became of its target
+# a commit whose bytes don't fit is reported as such, whatever became of its target
 fresh
 large first/a
 both_change() {

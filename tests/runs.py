@@ -95,7 +95,7 @@ def archive_of(there):
 
 
 class Case:
-    """A pair before a run, and what has to become of it. The entries are told by hand: where each is copied from."""
+    """A pair before a run, and what has to become of it. The entries are written by hand: where each is copied from."""
 
     # what may be left of an original that can't be put back
     asides = ("old-",)

@@ -27,7 +27,7 @@ OWN = b".twosync"
 # ---- reading
 
 def stand_in(name):
-    """Returns the name by which what has this name is told, and whether that is another one."""
+    """Returns the name by which what has this name is reported, and whether that is another one."""
     try:
         return name, name.decode() is None
     except UnicodeDecodeError:
@@ -100,7 +100,7 @@ def looks(entries):
 
 
 def children_told(place, path):
-    """Returns the places of what is told by this path: more than one where a name stands for several."""
+    """Returns the places of what is reported by this path: more than one where a name stands for several."""
     at = b"/".join((place, *path[:-1]))
     if not os.path.isdir(at) or os.path.islink(at):
         return []

@@ -142,7 +142,7 @@ expect 'the link is gone' 0 'done second /it
 total 1 done 1 skipped 0 failed 0 blocked 0' '' "${held[@]}"
 holds_true 'the empty file stands on both sides' test -f first/it -a -f second/it
 
-# ---- names that aren't UTF-8: one stand-in for all that are told alike, also for a file that has its name
+# ---- names that aren't UTF-8: one stand-in for all that are reported alike, also for a file that has its name
 fresh
 mkdir first/names
 printf a >$'first/names/x\xff'

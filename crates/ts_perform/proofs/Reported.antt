@@ -33,7 +33,7 @@ writes_begun old new bytes (Err e) begun = begun
 
 -- ---- refusals
 
--- a broken plan is told
+-- a broken plan is reported
 pub refuses_broken : (command : Command) (e : PerformFault) (rule : PlanRule) (place : ℕ) (old new old_faults new_faults : Option (List ℕ)) → e ≡ fault.Broken rule place
     → RefusesPlan command e rule place old new old_faults new_faults → Refuses command e old new old_faults new_faults
 refuses_broken command e rule place old new old_faults new_faults is told = record {

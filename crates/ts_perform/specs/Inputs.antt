@@ -1,6 +1,6 @@
 -- What commands read from files.
 --     finds name found                what is found by this name: nothing, or a file, with its bytes where it tells them
---     IsReadAt finds Spells name x    x was read from a file that was found by this name, whose bytes spell it where they are told
+--     IsReadAt finds Spells name x    x was read from a file that was found by this name, whose bytes spell it where the file tells them
 --     IsArchiveIn finds name found    the same of an archive; or nothing was found
 --     IsArchiveAt finds name rows     the same; an archive that isn't there has no paths
 --     AreRulesAt finds name rules     the rules that were read from a file, or none where no file is named

@@ -21,7 +21,7 @@ use ts_model::plan::PlanRule;
 use ts_name::Path;
 use ts_text::{Sink, TextFault, push_decimal, write_line};
 
-/// The number by which a failing device is told.
+/// The number by which a failing device is reported.
 const DEVICE: u8 = 8;
 
 /// Tells which rule a plan breaks first, and where.

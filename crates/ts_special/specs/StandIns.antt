@@ -1,6 +1,6 @@
 -- Names that stand for others, which aren't lawful.
 --     IsCut text cut           the longest front of the text that has at most 255 bytes and is UTF-8
---     IsStandIn bytes name     the name by which what has these bytes as its name is told
+--     IsStandIn bytes name     the name by which what has these bytes as its name is reported
 use Rattle.std.specs.Prelude.{◌≡◌, ◌⊎◌, ℕ, ◌<◌, ◌≤◌, List, [], ◌∷◌, ◌++◌, IsUtf8, length, take}
 use Rattle.std.specs.Str.Lossy.{utf8_lossy}
 use Rattle.ts_name.specs.Paths.{IsName, Name}

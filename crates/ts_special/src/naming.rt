@@ -10,8 +10,8 @@ use ts_name::{Name, NameFault};
 /// The most bytes that a name has.
 const MOST_BYTES: usize = 255;
 
-/// The name by which what has this name is told: the name itself where it is lawful, and else its text with U+FFFD for what
-/// is no UTF-8, cut to 255 bytes. Where even that is no lawful name, it is U+FFFD alone.
+/// The name by which what has this name is reported: the name itself where it is lawful, and else its text with U+FFFD for
+/// each part that isn't UTF-8, cut to 255 bytes. Where even that isn't a lawful name, it is U+FFFD alone.
 ///
 /// # Errors
 ///

@@ -13,7 +13,7 @@ use ts_scan::{Refusal, ScanFault};
 /// stand-ins; files that must not be read, and directories that must not be listed; a directory in which a path is longer or
 /// deeper than paths may be; and a directory other than the root that is a replica itself.
 ///
-/// No link is followed but the root. Nothing is told of what is below such a path, and nothing of the root: what is wrong with
+/// No link is followed but the root. What is below such a path is not reported, and neither is the root: what is wrong with
 /// the root a scan reports. What vanishes meanwhile is left out.
 ///
 /// # Errors
