@@ -318,13 +318,15 @@ module _ (k : Checkup) (words : List ℕ) (flags : List Bool) (archive : IsListi
       let size_is : length t.plan.actions ≡ length k.plan.actions = ap (λ p. length p.actions) from.0 in
       ap (λ n. bit_at n 33) (left.words_are i (omega arith) ∙ ap (λ p. word_after p run i) from.0) ∙ done_word k.plan run i (few_open (snapshot_of k) k.plan valid run i)
 
-  -- an entry is flagged just where its mark has acted
-  flag_acted : (i e : ℕ) → KindIs k.plan i (Mark e) → slice_index_or flags e false ≡ true → Has run (acts i)
-  flag_acted i e kind set =
+  -- an entry is flagged just where its mark is done, and so has acted
+  flag_finished : (i e : ℕ) → KindIs k.plan i (Mark e) → slice_index_or flags e false ≡ true → Has run (finishes i)
+  flag_finished i e kind set =
       let found = marked.only e set in
       let one = one_mark (snapshot_of k) k.plan valid found.0 i e found.1 kind in
-      subst (λ z. Has run (acts z)) one
-      (ran.ordered.finished found.0 (true_from_bit (list_any (finishes found.0) run) (sym (word_is found.0 found.1.0 found.1.1) ∙ found.2)))
+      subst (λ z. Has run (finishes z)) one (true_from_bit (list_any (finishes found.0) run) (sym (word_is found.0 found.1.0 found.1.1) ∙ found.2))
+
+  flag_acted : (i e : ℕ) → KindIs k.plan i (Mark e) → slice_index_or flags e false ≡ true → Has run (acts i)
+  flag_acted i e kind set = ran.ordered.finished i (flag_finished i e kind set)
 
   acted_flag : (i e : ℕ) → KindIs k.plan i (Mark e) → Has run (acts i) → slice_index_or flags e false ≡ true
   acted_flag i e kind acted =
@@ -333,7 +335,12 @@ module _ (k : Checkup) (words : List ℕ) (flags : List Bool) (archive : IsListi
 
   -- the flagged marks are those that have acted
   pub of_part : AreOfPart k.plan run flags
-  of_part = record { count = long; marked = λ e set. (let found = marked.only e set in (found.0, found.1)); closed = closed }
+  of_part = record {
+    count = long;
+    marked = λ e set. (let found = marked.only e set in (found.0, found.1));
+    closed = closed;
+    done = λ i taken. (let mark = flagged_mark k.plan flags i taken in flag_finished i mark.0 mark.1 mark.2);
+  }
     where
       closed : IsClosedPart k.plan run (flagged k.plan flags)
       closed = record {

@@ -162,7 +162,14 @@ module _ (k : Checkup) (valid : Valid (snapshot_of k) k.plan) where
 
   module _ (before run : Run) (flags : List Bool) (all : AreSeenFrom k.plan 0 before run flags) where
     pub seen_part : AreOfPart k.plan run flags
-    seen_part = record { count = all.count; marked = λ e set. (let mark = all.marked e set in (mark.0, mark.1)); closed = closed }
+    seen_part = record {
+      count = all.count;
+      marked = λ e set. (let mark = all.marked e set in (mark.0, mark.1));
+      closed = closed;
+      done = λ i taken. (
+          let mark = flagged_mark k.plan flags i taken in let of = all.marked mark.0 mark.2 in
+          subst (λ z. Has run (finishes z)) (one of.0 i mark.0 of.1 mark.1) of.2);
+    }
       where
         closed : IsClosedPart k.plan run (flagged k.plan flags)
         closed = record {

@@ -6,14 +6,14 @@
 --     picked xs flags             the entries at which the flag is set
 -- What flags of entries say of the archive, whatever set them.
 --     flagged plan flags          the marks of the entries at which the flag is set
---     AreOfPart plan run flags    these marks are a closed part of the run
+--     AreOfPart plan run flags    these marks are done, and a closed part of the run
 --     ArchiveOf k flags rows      the archive of this part
 use Rattle.std.specs.Prelude.{◌≡◌, ℕ, ◌<◌, Bool, true, false, cond, List, [], ◌∷◌, length, Some, None, slice_get, slice_index, slice_index_or}
 use Rattle.std.specs.Int.{bit_at}
 use Rattle.ts_model.specs.Trees.{Tree, Listing, at}
 use Rattle.ts_model.specs.Plans.{KindIs}
 use Rattle.ts_model.specs.Resume.{IsClosedPart, archive_of_part}
-use Rattle.ts_model.specs.Runs.{Run, after, start}
+use Rattle.ts_model.specs.Runs.{Run, Has, after, finishes, start}
 use Rattle.ts_model.specs.declared.row.Stamp.{Stamp}
 use Rattle.ts_model.specs.declared.plan.Entry.{Entry}
 use Rattle.ts_model.specs.declared.plan.Kind.{Kind}
@@ -61,11 +61,12 @@ is_flagged flags (Piece e offset size p) = false
 abbrev pub flagged : Plan → List Bool → ℕ → Bool
 flagged plan flags i = elim (slice_get plan.actions i) [ None ↦ false | Some action ↦ is_flagged flags action.kind ]
 
--- there is a flag for each entry. Those that are set are of entries with marks, and these marks are a closed part of the run
+-- there is a flag for each entry. Those that are set are of entries with marks, and these marks are done, and a closed part of the run
 pub record AreOfPart (plan : Plan) (run : Run) (flags : List Bool) : Type 0 where
   pub count : length flags ≡ length plan.entries
   pub marked : (e : ℕ) → slice_index_or flags e false ≡ true → (i : ℕ) × KindIs plan i (Mark e)
   pub closed : IsClosedPart plan run (flagged plan flags)
+  pub done : (i : ℕ) → flagged plan flags i ≡ true → Has run (finishes i)
 
 -- the archive of this part
 abbrev pub ArchiveOf : Checkup → List Bool → Listing Stamp → Type 0

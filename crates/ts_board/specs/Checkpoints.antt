@@ -1,7 +1,7 @@
 -- A checkpoint: an archive of a run that goes on meanwhile.
 --     HasLooked t p q                  any number of looks: more of the history was seen, and no step of the pass's own made
 --     HasDone plan run part            the part has each mark that is done in the run
---     IsCheckpoint k before run rows   the archive of a closed part of the run, which has each mark that was done before
+--     IsCheckpoint k before run rows   the archive of a closed part of the run, whose marks are done, with each that was done before
 --     StaysAgreed k run rows           however the run goes on, it differs from the old archive only where both replicas agree
 use Rattle.std.specs.Prelude.{◌≡◌, ℕ, Bool, true, length}
 use Rattle.ts_model.specs.Trees.{Tree, Listing, at}
@@ -30,6 +30,7 @@ pub record IsCheckpoint (k : Checkup) (before run : Run) (rows : Listing Stamp) 
   pub part : ℕ → Bool
   pub closed : IsClosedPart k.plan run part
   pub done : HasDone k.plan before part
+  pub finished : (i : ℕ) → part i ≡ true → Has run (finishes i)
   pub archive : at rows ≡ archive_of_part (snapshot_of k) k.plan part (length k.plan.actions)
 
 -- what a run leaves, with this archive
