@@ -1,31 +1,22 @@
 -- What a claim says of the pass's own steps so far.
-use Rattle.std.proofs.Common.{◌≡◌, ℕ, Bool, [], ◌∷◌, ◌++◌, sym, refl, ap, ◌∙◌, subst}
+use Rattle.std.proofs.Common.{◌≡◌, ℕ, Bool, [], ◌∷◌, ◌++◌, sym, refl, ◌∙◌, subst}
 use Rattle.std.specs.List.{list_any}
 use Rattle.std.proofs.lemmas.Bool.{true≢false}
-use Rattle.ts_model.specs.Trees.{at}
 use Rattle.ts_model.specs.Plans.{Valid}
 use Rattle.ts_model.specs.Runs.{Run, Has, HasNot, Legal, IsPieceOf, claims, takes, releases}
-use Rattle.ts_model.specs.declared.plan.Plan.{Plan}
 use Rattle.ts_model.specs.declared.step.Step.{Step}
 use Rattle.ts_model.specs.declared.step.Step.TheVariants.{Claim}
 use Rattle.ts_check.specs.Checkup.{Checkup, snapshot_of}
 use Rattle.ts_board.specs.declared.law.Terms.{Terms}
 use Rattle.ts_board.specs.declared.board.Pass.{Pass}
-use Rattle.ts_board.specs.Terms.{IsFor, IsLegalRun}
 use Rattle.ts_board.specs.Calls.{seen, mine, Makes}
 use Rattle.ts_board.specs.Checks.{IsFromCheck}
+use Rattle.ts_board.proofs.Checks.{legal_for}
 use Rattle.ts_board.proofs.Orderly.{orderly}
 use Rattle.ts_exec.specs.Tidy.{IsTidy}
 use Rattle.ts_exec.proofs.Steps.{own_seen, not_some}
 use Rattle.ts_exec.proofs.Runs.{is_run, legal_front, last_allowed}
 use Rattle.ts_laws.proofs.Cuts.{any_in_longer, none_in_both}
-
--- a run that is legal on the board is legal for what was checked
-pub for_check : (t : Terms) (k : Checkup) → IsFromCheck t k → IsFor t (snapshot_of k)
-for_check t k e = (ap at (sym e.1), ap at (sym e.2))
-
-pub legal_for : (t : Terms) (k : Checkup) → IsFromCheck t k → (r : Run) → IsLegalRun t r → Legal (snapshot_of k) k.plan r
-legal_for t k e r legal = subst (λ (p : Plan). Legal (snapshot_of k) p r) e.0 (legal (snapshot_of k) (for_check t k e))
 
 module _ {S : Type 0} (t : Terms) (k : Checkup) (from : IsFromCheck t k) (valid : Valid (snapshot_of k) k.plan) (p q : Pass S) (i : ℕ) (makes : Makes t p (Claim i ∷ []) q) where
   before : Run

@@ -18,11 +18,12 @@ use Rattle.ts_folder.specs.declared.folder.Call.{Call}
 use Rattle.ts_folder.specs.declared.fault.Trouble.{Trouble}
 use Rattle.ts_exec.specs.Failures.{MayFail, Setting, or_stopped, setting_with}
 use Rattle.ts_exec.specs.Outcomes.{IsEnd, IsOutcome, IsReady, ResultFits, ResultIs}
+use Rattle.ts_exec.specs.Stores.{IsKept, Store}
 use Rattle.ts_exec.specs.Tidy.{IsTidy, Noted, Swept}
 use Rattle.ts_exec.specs.declared.fault.ActFault.{ActFault}
 use Rattle.ts_exec.specs.declared.outcome.ActionResult.{ActionResult}
 use Rattle.ts_exec.specs.declared.outcome.ActionResult.TheVariants.{Done, Failed, Blocked, Left}
-use Rattle.ts_exec.proofs.Claims.{legal_for}
+use Rattle.ts_board.proofs.Checks.{legal_for}
 use Rattle.ts_board.proofs.Words.{few_open}
 use Rattle.ts_exec.proofs.Closing.{open_pred}
 use Rattle.ts_exec.proofs.Reading.{read_told}
@@ -107,5 +108,9 @@ module _ {S F : Type 0} (content : S → Option (Listing (List ℕ))) (failures 
     sites = ends.2;
   }
 
-  pub outcome : (results : List ActionResult) → length results ≡ length k.plan.actions → ((i : ℕ) (result : ActionResult) → slice_get results i ≡ Some result → ResultIs k.plan ends.0 faults i result) → IsOutcome content (setting opened) opened results words slots
-  outcome results count each = subst (λ (z : Terms). IsOutcome content (setting z) z results words slots) same (here results count each)
+  -- with what was stored while this run went on
+  pub kept_outcome : (results : List ActionResult) → length results ≡ length k.plan.actions → ((i : ℕ) (result : ActionResult) → slice_get results i ≡ Some result → ResultIs k.plan ends.0 faults i result)
+      → (before after : Store) → IsKept k before (seen p) after → (of : IsOutcome content (setting opened) opened results words slots) × IsKept k before of.run after
+  unfolding here
+  kept_outcome results count each before after kept = subst (λ (z : Terms). (of : IsOutcome content (setting z) z results words slots) × IsKept k before of.run after) same
+      (here results count each, subst (λ (r : Run). IsKept k before r after) seen_is kept)

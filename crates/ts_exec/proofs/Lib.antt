@@ -15,3 +15,4 @@ pub mod Misfits
 pub mod Noting
 pub mod Teams
 pub mod Crossing
+pub mod Stores

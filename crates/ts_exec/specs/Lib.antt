@@ -5,3 +5,4 @@ pub mod Tidy
 pub mod Outcomes
 pub mod Sharing
 pub mod Ends
+pub mod Stores

@@ -2,6 +2,8 @@
 ghost use Rattle.std.specs.Prelude.{ℕ, ◌≡◌, ◌⊎◌, ◌<◌, false, IsTrue, Some, length, slice_get};
 ghost use Rattle.std.specs.Thread.{IsSend, IsSync};
 ghost use Rattle.ts_board.specs.Calls.{HasBothParts, IsPassOf, IsSamePart, mine, seen};
+ghost use Rattle.ts_board.specs.Runs.{StartsWith};
+ghost use Rattle.ts_exec.specs.Stores.{StaysKept};
 ghost use Rattle.ts_exec.specs.Tidy.{AreFresh, AreNoted, IsSameShare, IsTidy, Noted, StayNoted};
 ghost use Rattle.ts_exec.specs.Sharing.{HasList, HasNotes, setting_of, HasBegun};
 ghost use Rattle.ts_exec.specs.declared.crew.Failure.{Failure};
@@ -9,6 +11,7 @@ ghost use Rattle.ts_exec.specs.declared.crew.Failure.{Failure};
 use crate::crew::{Failure, Member, Queues};
 use crate::fault::ActFault;
 use crate::gate::Gate;
+use crate::keeping::{Keeper, Keeping};
 use crate::shared::Shared;
 use crate::stop::Stop;
 use crate::workers::Worked;
@@ -18,12 +21,14 @@ use ts_folder::Folder;
 use ts_site::Site;
 
 /// What all workers end with.
-pub struct AllWorked<S> {
+pub struct AllWorked<S, K> {
     pub pass: Pass<S>,
     /// Why each action failed.
     pub faults: Vec<Option<ActFault>>,
     /// One of them was stopped.
     pub is_stopped: bool,
+    /// What the calling thread's worker has kept.
+    pub keeping: Keeping<K>,
 }
 
 impl<'a, 'b, S: Site, F: Folder + Sync, G: Gate + Stop + Sync> Shared<'a, 'b, S, F, G> {
@@ -41,17 +46,20 @@ impl<'a, 'b, S: Site, F: Folder + Sync, G: Gate + Stop + Sync> Shared<'a, 'b, S,
     }
 
     /// Puts together what a worker leaves behind and what the others do.
-    fn put_together(&self, all: AllWorked<S>, worked: Worked<S>) -> AllWorked<S>
+    fn put_together<K>(&self, all: AllWorked<S, K>, worked: Worked<S>) -> AllWorked<S, K>
         requires notes { HasNotes S.Site F.Folder G.Stop self.now all.pass all.faults.items }
         requires list { HasList S.Site F.Folder G.Stop self.now worked.pass worked.failures.items }
         ensures notes { HasNotes S.Site F.Folder G.Stop self.now result.pass result.faults.items }
         ensures part { HasBothParts all.pass worked.pass result.pass }
         ensures stopped { IsTrue result.is_stopped → IsTrue all.is_stopped ⊎ IsTrue worked.is_stopped }
+        ensures seen { StartsWith (seen result.pass) (seen all.pass) × StartsWith (seen result.pass) (seen worked.pass) }
+        ensures keeping { result.keeping ≡ all.keeping }
     {
         let AllWorked {
             pass,
             mut faults,
             is_stopped: others_are_stopped,
+            keeping,
         } = all;
         let Worked {
             pass: theirs,
@@ -63,19 +71,22 @@ impl<'a, 'b, S: Site, F: Folder + Sync, G: Gate + Stop + Sync> Shared<'a, 'b, S,
             pass: self.board.join(pass, theirs),
             faults,
             is_stopped: others_are_stopped || is_stopped,
+            keeping,
         }
     }
 }
 
-/// Lets all members work at once, each but the last in a thread of its own. A thread that can't start is done without.
-pub fn work_at_once<R: Threads + Sync, S: Site, F: Folder + Sync, G: Gate + Stop + Sync>(
+/// Lets all members work at once, each but the last in a thread of its own. A thread that can't start is done without. The
+/// calling thread's worker makes the checkpoints.
+pub fn work_at_once<R: Threads + Sync, S: Site, F: Folder + Sync, G: Gate + Stop + Sync, K: Keeper>(
     rt: &R,
     shared: &Shared<'_, '_, S, F, G>,
     queues: &[Queues],
     members: Vec<Member>,
     pass: Pass<S>,
     faults: Vec<Option<ActFault>>,
-) -> AllWorked<S>
+    keeping: Keeping<K>,
+) -> AllWorked<S, K>
 where
     F::File: Send,
     requires pass { IsPassOf S.content shared.now.board.now pass }
@@ -88,20 +99,22 @@ where
     ensures room { length result.faults.items ≡ length shared.now.checked.now.plan.actions }
     ensures noted { Noted (setting_of S.Site F.Folder G.Stop shared.now) (mine result.pass) (seen result.pass) result.faults.items }
     ensures stopped { IsTrue result.is_stopped → G.stops shared.now.gate.now }
+    ensures kept { StaysKept shared.now.checked.now (seen pass) (K.kept keeping.keeper) (seen result.pass) (K.kept result.keeping.keeper) }
 {
-    work_in_halves(rt, shared, queues, members, pass, faults)
+    work_in_halves(rt, shared, queues, members, pass, faults, keeping)
 }
 
 /// The last member works with one half of the pass, the others with the other half.
 #[cycle(halves)]
-fn work_in_halves<R: Threads + Sync, S: Site, F: Folder + Sync, G: Gate + Stop + Sync>(
+fn work_in_halves<R: Threads + Sync, S: Site, F: Folder + Sync, G: Gate + Stop + Sync, K: Keeper>(
     rt: &R,
     shared: &Shared<'_, '_, S, F, G>,
     queues: &[Queues],
     mut members: Vec<Member>,
     pass: Pass<S>,
     faults: Vec<Option<ActFault>>,
-) -> AllWorked<S>
+    mut keeping: Keeping<K>,
+) -> AllWorked<S, K>
 where
     F::File: Send,
     requires notes { HasNotes S.Site F.Folder G.Stop shared.now pass faults.items }
@@ -109,44 +122,52 @@ where
     ensures notes { HasNotes S.Site F.Folder G.Stop shared.now result.pass result.faults.items }
     ensures share { IsSameShare pass result.pass }
     ensures stopped { IsTrue result.is_stopped → G.stops shared.now.gate.now }
+    ensures kept { StaysKept shared.now.checked.now (seen pass) (K.kept keeping.keeper) (seen result.pass) (K.kept result.keeping.keeper) }
 {
     let Some(member) = members.pop() else {
-        return none_worked(pass, faults);
+        return none_worked(pass, faults, keeping);
     };
     let (ours, theirs) = match shared.board.split(pass) {
         Ok(halves) => halves,
-        Err(pass) => return none_worked(pass, faults),
+        Err(pass) => return none_worked(pass, faults, keeping),
     };
     if members.is_empty() {
-        let worked = shared.work(queues, member, theirs);
-        return shared.put_together(none_worked(ours, faults), worked);
+        let worked = shared.work(queues, member, theirs, &mut keeping);
+        return shared.put_together(none_worked(ours, faults, keeping), worked);
     }
     let one = move || -> Worked<S>
         requires { IsSync F.row × IsSync G.row × HasList S.Site F.Folder G.Stop shared.now theirs member.failures.items }
         ensures list { HasList S.Site F.Folder G.Stop shared.entry.now result.pass result.failures.items }
         ensures part { IsSamePart theirs result.pass }
         ensures stopped { IsTrue result.is_stopped → G.stops shared.entry.now.gate.now }
-    { shared.work(queues, member, theirs) };
-    let others = move || -> AllWorked<S>
+    { shared.work(queues, member, theirs, &mut Keeping::never()) };
+    let others = move || -> AllWorked<S, K>
         requires threads { IsSync R.row × IsSync F.row × IsSync G.row × IsSend F.File.row }
         requires begun { HasBegun S.Site F.Folder G.Stop shared.now ours faults.items members.items }
         ensures notes { HasNotes S.Site F.Folder G.Stop shared.entry.now result.pass result.faults.items }
         ensures share { IsSameShare ours result.pass }
         ensures stopped { IsTrue result.is_stopped → G.stops shared.entry.now.gate.now }
-    { work_in_halves(rt, shared, queues, members, ours, faults) };
+        ensures kept { StaysKept shared.entry.now.checked.now (seen ours) (K.kept keeping.keeper) (seen result.pass) (K.kept result.keeping.keeper) }
+    { work_in_halves(rt, shared, queues, members, ours, faults, keeping) };
     let (worked, rest) = join(rt, one, others);
     shared.put_together(rest, worked)
 }
 
 /// What no worker has changed.
-fn none_worked<S>(pass: Pass<S>, faults: Vec<Option<ActFault>>) -> AllWorked<S>
+fn none_worked<S, K>(
+    pass: Pass<S>,
+    faults: Vec<Option<ActFault>>,
+    keeping: Keeping<K>,
+) -> AllWorked<S, K>
     ensures pass { result.pass ≡ pass }
     ensures faults { result.faults.items ≡ faults.items }
     ensures stopped { result.is_stopped ≡ false }
+    ensures keeping { result.keeping ≡ keeping }
 {
     AllWorked {
         pass,
         faults,
         is_stopped: false,
+        keeping,
     }
 }

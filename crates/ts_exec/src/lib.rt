@@ -6,6 +6,7 @@ mod crew;
 mod crowd;
 mod fault;
 mod gate;
+mod keeping;
 mod outcome;
 mod running;
 mod shared;
@@ -15,6 +16,7 @@ mod workers;
 
 pub use fault::{ActFault, RunFault};
 pub use gate::{Gate, OpenGate};
+pub use keeping::Keeper;
 pub use outcome::{ActionResult, Outcome, commit_count};
-pub use running::{run, run_until};
+pub use running::{run, run_keeping, run_until};
 pub use stop::Stop;

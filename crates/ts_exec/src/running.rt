@@ -4,6 +4,7 @@ ghost use Rattle.ts_board.specs.Archives.{HasEnded};
 ghost use Rattle.ts_board.specs.Calls.{HasPlaces, IsPassOf, IsWhole, mine, seen, words_of};
 ghost use Rattle.ts_board.specs.Terms.{commit_count};
 ghost use Rattle.ts_exec.specs.Failures.{setting_for, setting_until};
+ghost use Rattle.ts_exec.specs.Stores.{IsKeptOutcome, StaysKept};
 ghost use Rattle.ts_exec.specs.Outcomes.{IsOutcomeOf, IsSteady, MisfitsAreUntold, OnlyMemoryRanOut};
 ghost use Rattle.ts_exec.specs.Tidy.{AreFresh, IsSwept, IsTidy, Noted};
 ghost use Rattle.ts_exec.specs.Sharing.{setting_of};
@@ -12,6 +13,7 @@ use crate::crew::{Crew, Member, Queues};
 use crate::crowd::{AllWorked, work_at_once};
 use crate::fault::{ActFault, RunFault};
 use crate::gate::Gate;
+use crate::keeping::{Keeper, Keeping};
 use crate::outcome::{Outcome, results_of};
 use crate::shared::Shared;
 use crate::stop::{Stop, Stoppable, Unstopped};
@@ -24,7 +26,7 @@ use ts_folder::Folder;
 use ts_site::Site;
 
 /// Lets all members work, and then tries what is still open, in order. Where a member was stopped that is left out.
-fn work_and_sweep<R: Threads + Sync, S: Site, F: Folder + Sync, G: Gate + Stop + Sync>(
+fn work_and_sweep<R: Threads + Sync, S: Site, F: Folder + Sync, G: Gate + Stop + Sync, K: Keeper>(
     rt: &R,
     shared: &Shared<'_, '_, S, F, G>,
     queues: &[Queues],
@@ -32,7 +34,8 @@ fn work_and_sweep<R: Threads + Sync, S: Site, F: Folder + Sync, G: Gate + Stop +
     mut unread: Worker<u32>,
     pass: Pass<S>,
     faults: Vec<Option<ActFault>>,
-) -> (Pass<S>, Vec<Option<ActFault>>)
+    keeping: Keeping<K>,
+) -> (Pass<S>, Vec<Option<ActFault>>, K)
 where
     F::File: Send,
     requires pass { IsPassOf S.content shared.now.board.now pass × IsWhole pass }
@@ -44,17 +47,19 @@ where
     ensures noted { Noted (setting_of S.Site F.Folder G.Stop shared.now) (mine result.0) (seen result.0) result.1.items }
     ensures room { length result.1.items ≡ length shared.now.checked.now.plan.actions }
     ensures swept { IsSwept (setting_of S.Site F.Folder G.Stop shared.now) (mine result.0) (seen result.0) }
+    ensures kept { StaysKept shared.now.checked.now (seen pass) (K.kept keeping.keeper) (seen result.0) (K.kept result.2) }
 {
     let AllWorked {
         mut pass,
         mut faults,
         is_stopped,
-    } = work_at_once(rt, shared, queues, members, pass, faults);
+        mut keeping,
+    } = work_at_once(rt, shared, queues, members, pass, faults, keeping);
     if is_stopped {
-        return (pass, faults);
+        return (pass, faults, keeping.into_keeper());
     }
-    shared.sweep(&mut pass, &mut unread, &mut faults);
-    (pass, faults)
+    shared.sweep(&mut pass, &mut unread, &mut faults, &mut keeping);
+    (pass, faults, keeping.into_keeper())
 }
 
 /// Carries out a checked plan by up to 64 workers; without any, each action is tried in order all the same. Pieces are read
@@ -90,7 +95,54 @@ where
     ensures back { IfErr result (λ refused. refused.0.items ≡ sites.items) }
 {
     let gate = Unstopped { gate };
-    carry_out(rt, alloc, checked, first, second, sites, workers, &gate)
+    let never = Keeping::never();
+    carry_out(
+        rt, alloc, checked, first, second, sites, workers, &gate, never,
+    )
+    .0
+}
+
+/// Carries out a checked plan as `run` does, and hands archives to a keeper meanwhile. The calling thread is one of the workers,
+/// and tries what is left at the end; after each `every` actions that it has claimed it makes a checkpoint: the archive with
+/// each mark that it sees done. Once it has claimed 32 times as many, a checkpoint also waits for a 32nd part of them. One that
+/// finds no memory is left out. The keeper comes back, with what it has stored.
+///
+/// Beside all that `run` promises, of the same run: where the keeper tells what it stores, it has stored the archives of closed
+/// parts of this run, each within the next, after what it had stored before. So a stop at any moment leaves archives from which
+/// the run can be resumed.
+///
+/// # Errors
+///
+/// Out of memory, before anything was done: sites and keeper come back as they were.
+pub fn run_keeping<'a, R: Threads + Sync, S: Site, F: Folder + Sync, G: Gate + Sync, K: Keeper>(
+    rt: &R,
+    alloc: Global,
+    checked: &'a Checked<'a>,
+    first: &'a F,
+    second: &'a F,
+    sites: Vec<S>,
+    workers: u32,
+    gate: &'a G,
+    keeper: K,
+    every: u32,
+) -> (Result<Outcome<S>, (Vec<S>, RunFault)>, K)
+where
+    F::File: Send,
+    requires few { workers ≤ 64 }
+    requires sites { length sites.items ≡ commit_count checked.now.plan.actions }
+    requires every { (1 ≤ every) × (every ≤ 1048576) }
+    ensures outcome { IfOk result.0 (IsKeptOutcome (setting_for S.Site F.Folder checked.now first.now second.now sites.items) (K.kept keeper) (K.kept result.1)) }
+    ensures misfits { IfOk result.0 (λ o. MisfitsAreUntold (setting_for S.Site F.Folder checked.now first.now second.now sites.items) o.results.items) }
+    ensures steady { IfOk result.0 (λ o. IsSteady (setting_for S.Site F.Folder checked.now first.now second.now sites.items) → OnlyMemoryRanOut o.results.items) }
+    ensures ended { IfOk result.0 (λ o. HasEnded checked.now (words_of o.closed)) }
+    ensures wide { IfOk result.0 (λ o. HasPlaces o.closed (length checked.now.plan.actions)) }
+    ensures back { IfErr result.0 (λ refused. (refused.0.items ≡ sites.items) × (result.1 ≡ keeper)) }
+{
+    let gate = Unstopped { gate };
+    let keeping = Keeping::new(keeper, every);
+    carry_out(
+        rt, alloc, checked, first, second, sites, workers, &gate, keeping,
+    )
 }
 
 /// Carries out a checked plan as `run` does, until it is stopped. The stop is asked before each try of a claim; a worker that
@@ -123,11 +175,23 @@ where
     ensures back { IfErr result (λ refused. refused.0.items ≡ sites.items) }
 {
     let gate = Stoppable { gate, stop };
-    carry_out(rt, alloc, checked, first, second, sites, workers, &gate)
+    let never = Keeping::never();
+    carry_out(
+        rt, alloc, checked, first, second, sites, workers, &gate, never,
+    )
+    .0
 }
 
-/// Carries out a checked plan, until its gate says to stop.
-fn carry_out<'a, 'b, R: Threads + Sync, S: Site, F: Folder + Sync, G: Gate + Stop + Sync>(
+/// Carries out a checked plan, until its gate says to stop, and makes checkpoints meanwhile.
+fn carry_out<
+    'a,
+    'b,
+    R: Threads + Sync,
+    S: Site,
+    F: Folder + Sync,
+    G: Gate + Stop + Sync,
+    K: Keeper,
+>(
     rt: &R,
     alloc: Global,
     checked: &'a Checked<'a>,
@@ -136,24 +200,28 @@ fn carry_out<'a, 'b, R: Threads + Sync, S: Site, F: Folder + Sync, G: Gate + Sto
     sites: Vec<S>,
     workers: u32,
     gate: &'b G,
-) -> Result<Outcome<S>, (Vec<S>, RunFault)>
+    keeping: Keeping<K>,
+) -> (Result<Outcome<S>, (Vec<S>, RunFault)>, K)
 where
     F::File: Send,
     requires few { workers ≤ 64 }
     requires sites { length sites.items ≡ commit_count checked.now.plan.actions }
-    ensures outcome { IfOk result (λ o. IsOutcomeOf (setting_until S.Site F.Folder G.Stop checked.now first.now second.now sites.items gate.now) o) }
-    ensures misfits { IfOk result (λ o. MisfitsAreUntold (setting_for S.Site F.Folder checked.now first.now second.now sites.items) o.results.items) }
-    ensures steady { IfOk result (λ o. IsSteady (setting_for S.Site F.Folder checked.now first.now second.now sites.items) → OnlyMemoryRanOut o.results.items) }
-    ensures ended { IfOk result (λ o. HasEnded checked.now (words_of o.closed)) }
-    ensures wide { IfOk result (λ o. HasPlaces o.closed (length checked.now.plan.actions)) }
-    ensures back { IfErr result (λ refused. refused.0.items ≡ sites.items) }
+    ensures outcome { IfOk result.0 (IsKeptOutcome
+        (setting_until S.Site F.Folder G.Stop checked.now first.now second.now sites.items gate.now) (K.kept keeping.keeper) (K.kept result.1)) }
+    ensures misfits { IfOk result.0 (λ o. MisfitsAreUntold (setting_for S.Site F.Folder checked.now first.now second.now sites.items) o.results.items) }
+    ensures steady { IfOk result.0 (λ o. IsSteady (setting_for S.Site F.Folder checked.now first.now second.now sites.items) → OnlyMemoryRanOut o.results.items) }
+    ensures ended { IfOk result.0 (λ o. HasEnded checked.now (words_of o.closed)) }
+    ensures wide { IfOk result.0 (λ o. HasPlaces o.closed (length checked.now.plan.actions)) }
+    ensures back { IfErr result.0 (λ refused. (refused.0.items ≡ sites.items) × (result.1 ≡ keeping.keeper)) }
 {
     let Ok(crew) = Crew::gather(alloc, checked, workers) else {
-        return Err((sites, RunFault::OutOfMemory));
+        return (Err((sites, RunFault::OutOfMemory)), keeping.into_keeper());
     };
     let (board, pass) = match Board::open(alloc, checked, sites) {
         Ok(opened) => opened,
-        Err((sites, _fault)) => return Err((sites, RunFault::OutOfMemory)),
+        Err((sites, _fault)) => {
+            return (Err((sites, RunFault::OutOfMemory)), keeping.into_keeper());
+        }
     };
     let Crew {
         members,
@@ -171,7 +239,7 @@ where
         second,
         gate,
     };
-    let (pass, faults) = work_and_sweep(
+    let (pass, faults, keeper) = work_and_sweep(
         rt,
         &shared,
         queues.as_slice(),
@@ -179,8 +247,9 @@ where
         unread,
         pass,
         faults,
+        keeping,
     );
     let closed = board.close(pass);
     let results = results_of(checked, &closed, faults.as_slice(), results);
-    Ok(Outcome::new(results, closed))
+    (Ok(Outcome::new(results, closed)), keeper)
 }

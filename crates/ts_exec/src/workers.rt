@@ -3,6 +3,7 @@ ghost use Rattle.std.specs.Prelude.{ℕ, ◌≡◌, ◌≢◌, ◌⊎◌, ◌<�
 ghost use Rattle.ts_board.specs.Calls.{IsPassOf, IsSamePart, mine, seen};
 ghost use Rattle.ts_board.specs.Runs.{StartsWith};
 ghost use Rattle.ts_exec.specs.Failures.{MayFail};
+ghost use Rattle.ts_exec.specs.Stores.{StaysKept};
 ghost use Rattle.ts_exec.specs.Tidy.{AreReleases, IsTidy, Listed, MakesTry, ReleasesAll};
 ghost use Rattle.ts_exec.specs.Sharing.{setting_of};
 ghost use Rattle.ts_model.specs.Runs.{Has, HasNot, Run, claims, finishes, releases, word_after};
@@ -10,6 +11,7 @@ ghost use Rattle.ts_model.specs.Runs.{Has, HasNot, Run, claims, finishes, releas
 use crate::crew::{Failure, Member, Queues};
 use crate::fault::ActFault;
 use crate::gate::Gate;
+use crate::keeping::{Keeper, Keeping};
 use crate::shared::Shared;
 use crate::stop::Stop;
 use crossbeam_deque::Worker;
@@ -30,9 +32,15 @@ pub struct Worked<S> {
 }
 
 impl<'a, 'b, S: Site, F: Folder + Sync, G: Gate + Stop + Sync> Shared<'a, 'b, S, F, G> {
-    /// Tries an action. Who claims it makes all its steps, and leaves a hint at each action that it freed. Answers the fault
-    /// where it was claimed and failed.
-    pub fn attempt(&self, pass: &mut Pass<S>, i: u32, freed: &mut Worker<u32>) -> Option<ActFault>
+    /// Tries an action. Who claims it makes all its steps, leaves a hint at each action that it freed, and then makes a
+    /// checkpoint where one is due. Answers the fault where it was claimed and failed.
+    pub fn attempt<K: Keeper>(
+        &self,
+        pass: &mut Pass<S>,
+        i: u32,
+        freed: &mut Worker<u32>,
+        keeping: &mut Keeping<K>,
+    ) -> Option<ActFault>
         requires pass { IsPassOf S.content self.now.board.now pass.old }
         requires action { i < length self.now.checked.now.plan.actions }
         requires tidy { IsTidy self.now.checked.now.plan (mine pass.old) }
@@ -41,6 +49,7 @@ impl<'a, 'b, S: Site, F: Folder + Sync, G: Gate + Stop + Sync> Shared<'a, 'b, S,
         ensures steps { MakesTry (setting_of S.Site F.Folder G.Stop self.now) pass.old i result pass.new }
         ensures tried { Has (mine pass.new) (claims i) ⊎ ((mine pass.new ≡ mine pass.old) × (word_after self.now.checked.now.plan (seen pass.new) i ≢ 0)) }
         ensures fault { IfSome result (MayFail (setting_of S.Site F.Folder G.Stop self.now) (seen pass.new) i) }
+        ensures kept { StaysKept self.now.checked.now (seen pass.old) (K.kept keeping.old.keeper) (seen pass.new) (K.kept keeping.new.keeper) }
     {
         let mut held = self.board.claim(pass, i)?;
         self.gate.pass(i);
@@ -48,10 +57,12 @@ impl<'a, 'b, S: Site, F: Folder + Sync, G: Gate + Stop + Sync> Shared<'a, 'b, S,
             Ok(()) => {
                 self.board.done(pass, held);
                 self.release_all(pass, i, freed);
+                self.keep_up(pass, keeping);
                 None
             }
             Err(fault) => {
                 self.board.fail(pass, held);
+                self.keep_up(pass, keeping);
                 Some(fault)
             }
         }
@@ -76,7 +87,13 @@ impl<'a, 'b, S: Site, F: Folder + Sync, G: Gate + Stop + Sync> Shared<'a, 'b, S,
     }
 
     /// Follows hints until none has come for a while, or it is stopped.
-    pub fn work(&self, queues: &[Queues], member: Member, pass: Pass<S>) -> Worked<S>
+    pub fn work<K: Keeper>(
+        &self,
+        queues: &[Queues],
+        member: Member,
+        pass: Pass<S>,
+        keeping: &mut Keeping<K>,
+    ) -> Worked<S>
         requires pass { IsPassOf S.content self.now.board.now pass }
         requires tidy { IsTidy self.now.checked.now.plan (mine pass) }
         requires listed { Listed (setting_of S.Site F.Folder G.Stop self.now) (mine pass) (seen pass) member.failures.items }
@@ -84,6 +101,7 @@ impl<'a, 'b, S: Site, F: Folder + Sync, G: Gate + Stop + Sync> Shared<'a, 'b, S,
         ensures tidy { IsTidy self.now.checked.now.plan (mine result.pass) }
         ensures listed { Listed (setting_of S.Site F.Folder G.Stop self.now) (mine result.pass) (seen result.pass) result.failures.items }
         ensures stopped { IsTrue result.is_stopped → G.stops self.now.gate.now }
+        ensures kept { StaysKept self.now.checked.now (seen pass) (K.kept keeping.old.keeper) (seen result.pass) (K.kept keeping.new.keeper) }
     {
         let Member {
             mut hints,
@@ -107,7 +125,7 @@ impl<'a, 'b, S: Site, F: Folder + Sync, G: Gate + Stop + Sync> Shared<'a, 'b, S,
                         return worked;
                     }
                     idle = 0;
-                    self.follow(&mut worked, i, &mut hints.freed);
+                    self.follow(&mut worked, i, &mut hints.freed, keeping);
                 }
                 None => {
                     idle += 1;
@@ -124,7 +142,13 @@ impl<'a, 'b, S: Site, F: Folder + Sync, G: Gate + Stop + Sync> Shared<'a, 'b, S,
     }
 
     /// Tries the action of a hint, if there is one of this number.
-    fn follow(&self, worked: &mut Worked<S>, i: u32, freed: &mut Worker<u32>)
+    fn follow<K: Keeper>(
+        &self,
+        worked: &mut Worked<S>,
+        i: u32,
+        freed: &mut Worker<u32>,
+        keeping: &mut Keeping<K>,
+    )
         requires pass { IsPassOf S.content self.now.board.now worked.old.pass }
         requires room { vec_len worked.old.failures < vec_capacity worked.old.failures }
         requires tidy { IsTidy self.now.checked.now.plan (mine worked.old.pass) }
@@ -133,11 +157,12 @@ impl<'a, 'b, S: Site, F: Folder + Sync, G: Gate + Stop + Sync> Shared<'a, 'b, S,
         ensures tidy { IsTidy self.now.checked.now.plan (mine worked.new.pass) }
         ensures listed { Listed (setting_of S.Site F.Folder G.Stop self.now) (mine worked.new.pass) (seen worked.new.pass) worked.new.failures.items }
         ensures stopped { worked.new.is_stopped ≡ worked.old.is_stopped }
+        ensures kept { StaysKept self.now.checked.now (seen worked.old.pass) (K.kept keeping.old.keeper) (seen worked.new.pass) (K.kept keeping.new.keeper) }
     {
         if i >= self.checked.action_count() {
             return;
         }
-        if let Some(fault) = self.attempt(&mut worked.pass, i, freed) {
+        if let Some(fault) = self.attempt(&mut worked.pass, i, freed, keeping) {
             worked.failures.push_reserved(Failure { action: i, fault });
         }
     }

@@ -10,6 +10,7 @@ use Rattle.ts_exec.specs.Failures.{IsTold, MayFail}
 use Rattle.ts_exec.specs.Tidy.{AreTakes}
 use Rattle.ts_exec.specs.Sharing.{setting_of}
 use Rattle.ts_exec.proofs.Claims.{not_released, not_taken}
+use Rattle.ts_exec.proofs.Stores.{stays_from, stays_same}
 use Rattle.ts_exec.proofs.Reading.{may_later, starts_after, starts_through, told_done, told_failed}
 use Rattle.ts_exec.proofs.Steps.{has_right, takes_none}
 use Rattle.ts_exec.proofs.Tries.{block, claim_here, ending, steps_done, steps_failed, try_done, try_failed, try_none}
@@ -44,8 +45,9 @@ pub returns-in-Ok-clause-steps : goal.returns-in-Ok-clause-steps
 returns-in-Ok-clause-steps g c =
     let j = c.args.self.now in let won = c.in_ok-held.ensures.won in let i = c.args.i in let own = mine c.args.pass.now in let plan = j.checked.now.plan in
     let x = setting_of g.S.Site g.F.Folder g.G.Stop j in
-    let acted = seen c.act.new.pass in let done_seen = seen c.done.new.pass in let last_seen = seen c.release_all.new.pass in let makes = c.done.ensures.done in
-    let later : StartsWith last_seen acted = starts_through acted done_seen last_seen (starts_after acted makes.0 (Act c.act.new.held.action (work_of c.act.new.held) ∷ Done c.act.new.held.action ∷ []) done_seen makes.1) c.release_all.ensures.seen in
+    let acted = seen c.act.new.pass in let done_seen = seen c.done.new.pass in let freed_seen = seen c.release_all.new.pass in let last_seen = seen c.keep_up.new.pass in let makes = c.done.ensures.done in
+    let freed : StartsWith freed_seen acted = starts_through acted done_seen freed_seen (starts_after acted makes.0 (Act c.act.new.held.action (work_of c.act.new.held) ∷ Done c.act.new.held.action ∷ []) done_seen makes.1) c.release_all.ensures.seen in
+    let later : StartsWith last_seen acted = starts_through acted freed_seen last_seen freed c.keep_up.ensures.looked.0 in
     let steps = c.act.ensures.steps in let more = steps.0 in let last = c.release_all.ensures.steps in let rest = last.0 in
     let a = c.act.new.held.action in let w : Work = work_of c.act.new.held in
     let same : a ≡ i = c.act.ensures.action ∙ won.0 in
@@ -53,7 +55,7 @@ returns-in-Ok-clause-steps g c =
     let done : mine c.done.new.pass ≡ ((own ++ Claim i ∷ []) ++ more) ++ Act i w ∷ Done i ∷ [] =
     c.done.ensures.done.2 ∙ ap (λ (z : Run). z ++ Act a w ∷ Done a ∷ []) (steps.1 ∙ ap (λ (z : Run). z ++ more) won.1.2) ∙ ap (λ (z : ℕ). ((own ++ Claim i ∷ []) ++ more) ++ Act z w ∷ Done z ∷ []) same in (
       block i more (ending plan i more takes_of w rest last.2 last.3),
-      last.1 ∙ ap (λ (z : Run). z ++ rest) done ∙ steps_done own more rest i w,
+      c.keep_up.ensures.looked.1 ∙ last.1 ∙ ap (λ (z : Run). z ++ rest) done ∙ steps_done own more rest i w,
       try_done plan i more takes_of w rest last.2 last.3,
       told_done x acted last_seen plan i more rest w later takes_of last.2 (subst (λ (z : ℕ). IsTold x acted z w) won.0 c.in-Ok.ensures.told),
     )
@@ -67,9 +69,9 @@ returns-in-Err-clause-steps g c =
     let same : a ≡ i = c.act.ensures.action ∙ won.0 in
     let takes_of : AreTakes plan i more = subst (λ (z : ℕ). AreTakes plan z more) won.0 steps.2 in (
       block i more (Fail i ∷ []),
-      c.fail.ensures.failed.2 ∙ ap (λ (z : Run). z ++ Fail a ∷ []) (steps.1 ∙ ap (λ (z : Run). z ++ more) won.1.2) ∙ ap (λ (z : ℕ). ((own ++ Claim i ∷ []) ++ more) ++ Fail z ∷ []) same ∙ steps_failed own more i,
+      c.keep_up-in-Err.ensures.looked.1 ∙ c.fail.ensures.failed.2 ∙ ap (λ (z : Run). z ++ Fail a ∷ []) (steps.1 ∙ ap (λ (z : Run). z ++ more) won.1.2) ∙ ap (λ (z : ℕ). ((own ++ Claim i ∷ []) ++ more) ++ Fail z ∷ []) same ∙ steps_failed own more i,
       try_failed plan i more takes_of (Some c.in-Err.fault) refl,
-      told_failed x (seen c.fail.new.pass) plan i more takes_of,
+      told_failed x (seen c.keep_up-in-Err.new.pass) plan i more takes_of,
     )
 
 pub returns-in-Err-clause-tried : goal.returns-in-Err-clause-tried
@@ -78,13 +80,39 @@ returns-in-Err-clause-tried g c =
     let steps = c.act.ensures.steps in let more = steps.0 in let a = c.act.new.held.action in
     let same : a ≡ i = c.act.ensures.action ∙ won.0 in
     let takes_of : AreTakes plan i more = subst (λ (z : ℕ). AreTakes plan z more) won.0 steps.2 in
-    let all : mine c.fail.new.pass ≡ own ++ block i more (Fail i ∷ []) =
-    c.fail.ensures.failed.2 ∙ ap (λ (z : Run). z ++ Fail a ∷ []) (steps.1 ∙ ap (λ (z : Run). z ++ more) won.1.2) ∙ ap (λ (z : ℕ). ((own ++ Claim i ∷ []) ++ more) ++ Fail z ∷ []) same ∙ steps_failed own more i in
+    let all : mine c.keep_up-in-Err.new.pass ≡ own ++ block i more (Fail i ∷ []) =
+    c.keep_up-in-Err.ensures.looked.1 ∙ c.fail.ensures.failed.2 ∙ ap (λ (z : Run). z ++ Fail a ∷ []) (steps.1 ∙ ap (λ (z : Run). z ++ more) won.1.2) ∙ ap (λ (z : ℕ). ((own ++ Claim i ∷ []) ++ more) ++ Fail z ∷ []) same ∙ steps_failed own more i in
     inl (subst (λ (z : Run). Has z (claims i)) (sym all) (has_right (claims i) own (block i more (Fail i ∷ [])) (claim_here plan i more takes_of (Fail i ∷ []))))
 
 pub returns-in-Err-clause-fault : goal.returns-in-Err-clause-fault
 returns-in-Err-clause-fault g c =
     let j = c.args.self.now in let won = c.in_ok-held.ensures.won in let before = seen c.act.new.pass in let then = seen c.fail.new.pass in let failed = c.fail.ensures.failed in
     let x = setting_of g.S.Site g.F.Folder g.G.Stop j in
-    may_later x before then (starts_after before failed.0 (Fail c.act.new.held.action ∷ []) then failed.1) c.args.i c.in-Err.fault
+    let last = seen c.keep_up-in-Err.new.pass in
+    may_later x before last (starts_through before then last (starts_after before failed.0 (Fail c.act.new.held.action ∷ []) then failed.1) c.keep_up-in-Err.ensures.looked.0) c.args.i c.in-Err.fault
     (subst (λ (z : ℕ). MayFail x before z c.in-Err.fault) won.0 c.in-Err.ensures.fault)
+
+-- ---- what was kept
+
+pub returns-in_err-held-clause-kept : goal.returns-in_err-held-clause-kept
+returns-in_err-held-clause-kept g c =
+    stays_same c.args.self.now.checked.now (seen c.args.pass.now) (seen c.claim.new.pass) c.in_err-held.ensures.lost.0.0 (g.K.Keeper.kept c.args.keeping.now.keeper)
+
+pub returns-in-Ok-clause-kept : goal.returns-in-Ok-clause-kept
+returns-in-Ok-clause-kept g c =
+    let won = c.in_ok-held.ensures.won in let makes = c.done.ensures.done in
+    let first = seen c.args.pass.now in let claimed = seen c.claim.new.pass in let acted = seen c.act.new.pass in let done_seen = seen c.done.new.pass in let freed = seen c.release_all.new.pass in
+    let a = starts_after first won.1.0 (Claim c.args.i ∷ []) claimed won.1.1 in
+    let b = starts_through first claimed acted a c.act.ensures.seen in
+    let d = starts_through first acted done_seen b (starts_after acted makes.0 (Act c.act.new.held.action (work_of c.act.new.held) ∷ Done c.act.new.held.action ∷ []) done_seen makes.1) in
+    let e = starts_through first done_seen freed d c.release_all.ensures.seen in
+    stays_from c.args.self.now.checked.now first freed e (seen c.keep_up.new.pass) (g.K.Keeper.kept c.args.keeping.now.keeper) (g.K.Keeper.kept c.keep_up.new.keeping.keeper) c.keep_up.ensures.kept
+
+pub returns-in-Err-clause-kept : goal.returns-in-Err-clause-kept
+returns-in-Err-clause-kept g c =
+    let won = c.in_ok-held.ensures.won in let failed = c.fail.ensures.failed in
+    let first = seen c.args.pass.now in let claimed = seen c.claim.new.pass in let acted = seen c.act.new.pass in let then = seen c.fail.new.pass in
+    let a = starts_after first won.1.0 (Claim c.args.i ∷ []) claimed won.1.1 in
+    let b = starts_through first claimed acted a c.act.ensures.seen in
+    let d = starts_through first acted then b (starts_after acted failed.0 (Fail c.act.new.held.action ∷ []) then failed.1) in
+    stays_from c.args.self.now.checked.now first then d (seen c.keep_up-in-Err.new.pass) (g.K.Keeper.kept c.args.keeping.now.keeper) (g.K.Keeper.kept c.keep_up-in-Err.new.keeping.keeper) c.keep_up-in-Err.ensures.kept

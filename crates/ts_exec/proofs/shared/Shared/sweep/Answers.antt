@@ -3,6 +3,7 @@ use Rattle.ts_model.specs.Runs.{Run}
 use Rattle.ts_check.specs.Checkup.{snapshot_of}
 use Rattle.ts_board.specs.Calls.{mine, seen}
 use Rattle.ts_exec.specs.Tidy.{IsTidy}
+use Rattle.ts_exec.proofs.Stores.{stays_through}
 use Rattle.ts_exec.proofs.Noting.{swept_more}
 use Rattle.ts_exec.proofs.Steps.{own_seen}
 use Rattle.ts_exec.proofs.Tries.{tidy_append}
@@ -21,6 +22,8 @@ loop-i-preserved g c =
       noted = c.sweep_one.ensures.noted;
       swept = swept_more (snapshot_of k) k.plan c.args.self.now.valid c.loop-i.i own (seen c.loop-i.pass) (mine q) (seen q) s.0 tidy s.1 c.sweep_one.ensures.seen s.3
           (λ t h. own_seen t q.seat.me.0.sight.claims q.seat.me.0.sight.seen h) c.sweep_one.ensures.tried inv.swept;
+      kept = stays_through k (seen c.args.pass.now) (seen c.loop-i.pass) (seen q) (g.K.Keeper.kept c.args.keeping.now.keeper) (g.K.Keeper.kept c.loop-i.keeping.keeper) (g.K.Keeper.kept c.sweep_one.new.keeping.keeper)
+          inv.kept c.sweep_one.ensures.kept;
     }
 
 pub returns-clause-swept : goal.returns-clause-swept

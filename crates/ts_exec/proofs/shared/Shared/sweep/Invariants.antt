@@ -1,5 +1,6 @@
 use Rattle.std.proofs.Common.{◌≡◌, length}
 use Rattle.ts_board.specs.Calls.{IsPassOf, IsSamePart, mine, seen}
+use Rattle.ts_exec.specs.Stores.{StaysKept}
 use Rattle.ts_exec.specs.Tidy.{IsTidy, Noted, Swept}
 use Rattle.ts_exec.specs.Sharing.{setting_of}
 use Rattle.ts_exec.proofs.shared.Shared.sweep.Given as goal
@@ -12,4 +13,5 @@ invariant-loop-i g l = record {
   room : length l.faults.items ≡ length l.self.checked.now.plan.actions;
   noted : Noted (setting_of g.S.Site g.F.Folder g.G.Stop l.self) (mine l.pass) (seen l.pass) l.faults.items;
   swept : Swept l.self.checked.now.plan l.i (mine l.pass) (seen l.pass);
+  kept : StaysKept l.self.checked.now (seen l.fn.pass) (g.K.Keeper.kept l.fn.keeping.keeper) (seen l.pass) (g.K.Keeper.kept l.keeping.keeper);
 }

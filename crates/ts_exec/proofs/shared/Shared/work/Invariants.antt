@@ -1,5 +1,6 @@
 use Rattle.std.proofs.Common.{◌≡◌, false}
 use Rattle.ts_board.specs.Calls.{IsPassOf, IsSamePart, mine, seen}
+use Rattle.ts_exec.specs.Stores.{StaysKept}
 use Rattle.ts_exec.specs.Tidy.{IsTidy, Listed}
 use Rattle.ts_exec.specs.Sharing.{setting_of}
 use Rattle.ts_exec.proofs.shared.Shared.work.Given as goal
@@ -11,4 +12,5 @@ invariant-turns g l = record {
   tidy : IsTidy l.self.checked.now.plan (mine l.worked.pass);
   listed : Listed (setting_of g.S.Site g.F.Folder g.G.Stop l.self) (mine l.worked.pass) (seen l.worked.pass) l.worked.failures.items;
   stopped : l.worked.is_stopped ≡ false;
+  kept : StaysKept l.self.checked.now (seen l.fn.pass) (g.K.Keeper.kept l.fn.keeping.keeper) (seen l.worked.pass) (g.K.Keeper.kept l.keeping.keeper);
 }
