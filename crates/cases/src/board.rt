@@ -8,7 +8,7 @@ ghost use Rattle.cases.specs.Worked.{IsNested, IsWorked, removal};
 
 mod desk;
 mod flow;
-mod plan;
+pub mod plan;
 mod race;
 mod steps;
 mod task;

@@ -1,9 +1,11 @@
 //! Runs that are stopped before each try of a claim, and gone on with: whatever was done by then, the next run ends with the
-//! pair that the first one was to end with.
+//! pair that the first one was to end with. So it does from each archive that a run kept while it went on.
 ghost use Rattle.std.specs.Prelude.{◌≤◌};
 
 mod countdown;
+mod kept;
 mod pair;
+mod shelf;
 mod stories;
 
 use crate::stops::countdown::Countdown;
@@ -131,5 +133,7 @@ where
         let name = story.name;
         println!(rt; "{name}: stopped {stops} times, and gone on with to the end")?;
     }
+    let count = kept::try_cases(rt)?;
+    println!(rt; "kept while they went on: {count} runs, and gone on with from each archive")?;
     Ok(())
 }

@@ -1,14 +1,15 @@
 //! Two replicas, and what they last agreed on, from one run to the next.
-ghost use Rattle.std.specs.Prelude.{◌≤◌, length};
+ghost use Rattle.std.specs.Prelude.{◌≡◌, ◌≤◌, length, IfOk};
 ghost use Rattle.std.specs.Mem.Slots.{slots_len};
 
 use crate::stops::countdown::Countdown;
+use crate::stops::shelf::Shelf;
 use anyhow::{Context, Result, bail, ensure};
 use std::alloc::Global;
 use std::thread::Threads;
 use ts_bundle::{Bundle, BundleReader};
 use ts_check::{Checked, check};
-use ts_exec::{ActionResult, OpenGate, Outcome, commit_count, run_until};
+use ts_exec::{ActionResult, OpenGate, Outcome, commit_count, run_keeping, run_until};
 use ts_folder::MemFolder;
 use ts_hold::Holds;
 use ts_model::plan::{ACTION_LIMIT, Entry, Kind, Plan, Side};
@@ -76,6 +77,66 @@ pub fn bundle_of(alloc: Global, lines: &[&str]) -> Result<Bundle> {
     Ok(reader.finish()?)
 }
 
+/// What a plan is checked with, and the folders that it is carried out from.
+struct Before {
+    archive: Print,
+    first: Print,
+    second: Print,
+    holds: Holds,
+    first_folder: MemFolder,
+    second_folder: MemFolder,
+}
+
+/// Written out, so that a proof of what drops one stays short.
+impl Drop for Before {
+    fn drop(self) {
+        let Before {
+            archive,
+            first,
+            second,
+            holds,
+            first_folder,
+            second_folder,
+        } = self;
+        drop(archive);
+        drop(first);
+        drop(second);
+        drop(holds);
+        drop(first_folder);
+        drop(second_folder);
+    }
+}
+
+impl Before {
+    /// The replicas and the archive as they are.
+    fn of(alloc: Global, pair: &Pair) -> Result<Before> {
+        Ok(Before {
+            archive: pair.archive.copy(alloc)?,
+            first: Print::of_tree(alloc, &pair.first)?,
+            second: Print::of_tree(alloc, &pair.second)?,
+            holds: Holds::none(alloc),
+            first_folder: MemFolder::new(pair.first.copy(alloc)?),
+            second_folder: MemFolder::new(pair.second.copy(alloc)?),
+        })
+    }
+
+    /// Checks a plan for them.
+    fn check<'a, R>(&'a self, rt: &R, plan: &'a Plan) -> Result<Checked<'a>>
+    where
+        R: Threads + AllocGlobal + Sync,
+        ensures { IfOk result (λ checked. checked.plan ≡ plan.entry.now) }
+    {
+        let Before {
+            archive,
+            first,
+            second,
+            holds,
+            ..
+        } = self;
+        Ok(check(rt, rt.alloc(), plan, archive, first, second, holds)?)
+    }
+}
+
 impl Pair {
     /// The replicas and the archive of a bundle that has no hold rules.
     pub fn of_bundle(alloc: Global, bundle: &Bundle) -> Result<Pair> {
@@ -83,6 +144,15 @@ impl Pair {
             first: bundle.first.copy(alloc)?,
             second: bundle.second.copy(alloc)?,
             archive: bundle.archive.copy(alloc)?,
+        })
+    }
+
+    /// The same replicas, with another archive.
+    pub fn with_archive(&self, alloc: Global, archive: &Print) -> Result<Pair> {
+        Ok(Pair {
+            first: self.first.copy(alloc)?,
+            second: self.second.copy(alloc)?,
+            archive: archive.copy(alloc)?,
         })
     }
 
@@ -108,22 +178,51 @@ impl Pair {
         requires { workers ≤ 64 }
     {
         let alloc = rt.alloc();
-        let first = Print::of_tree(alloc, &self.first)?;
-        let second = Print::of_tree(alloc, &self.second)?;
-        let archive = self.archive.copy(alloc)?;
-        let holds = Holds::none(alloc);
-        let checked = check(rt, alloc, plan, &archive, &first, &second, &holds)?;
+        let before = Before::of(alloc, &*self)?;
+        let checked = before.check(rt, plan)?;
         let sites = self.sites(alloc, plan, breaks)?;
         ensure!(sites.len() == commit_count(plan), "a commit has no site");
-        let first = MemFolder::new(self.first.copy(alloc)?);
-        let second = MemFolder::new(self.second.copy(alloc)?);
+        let (first, second) = (&before.first_folder, &before.second_folder);
         let Ok(outcome) = run_until(
-            rt, alloc, &checked, &first, &second, sites, workers, &OpenGate, &*stop,
+            rt, alloc, &checked, first, second, sites, workers, &OpenGate, &*stop,
         ) else {
             bail!("out of memory");
         };
         self.archive = outcome.archive(alloc, &checked)?;
         self.take_over(alloc, &checked, outcome)
+    }
+
+    /// Carries out a plan, takes over what came of it, and answers the archives that were stored meanwhile, one after each so
+    /// many actions of the calling thread. The site of one action may fail.
+    pub fn carry_out_keeping<R>(
+        &mut self,
+        rt: &R,
+        plan: &Plan,
+        breaks: u64,
+        workers: u32,
+        every: u32,
+    ) -> Result<(Came, Vec<Print>)>
+    where
+        R: Threads + AllocGlobal + Sync,
+        requires few { workers ≤ 64 }
+        requires every { (1 ≤ every) × (every ≤ 1048576) }
+    {
+        let alloc = rt.alloc();
+        let before = Before::of(alloc, &*self)?;
+        let checked = before.check(rt, plan)?;
+        let sites = self.sites(alloc, plan, breaks)?;
+        ensure!(sites.len() == commit_count(plan), "a commit has no site");
+        let (first, second) = (&before.first_folder, &before.second_folder);
+        let shelf = Shelf::new(alloc);
+        let (ran, shelf) = run_keeping(
+            rt, alloc, &checked, first, second, sites, workers, &OpenGate, shelf, every,
+        );
+        let Ok(outcome) = ran else {
+            bail!("out of memory");
+        };
+        self.archive = outcome.archive(alloc, &checked)?;
+        let came = self.take_over(alloc, &checked, outcome)?;
+        Ok((came, shelf.into_archives()))
     }
 
     /// What the replica of a side has at a path.

@@ -46,7 +46,7 @@ pub const BECOMES_DIRECTORY: Story = Story {
 const BOTH_IN_DIRECTORY: &[&str] = &["d /d", "f /d/x 1", "x 61", "f /d/y 1", "x 62"];
 
 /// A directory is new in both replicas, with a new file in each.
-const TWO_DIRECTORIES: Story = Story {
+pub const TWO_DIRECTORIES: Story = Story {
     name: "a directory that is new on both sides",
     bundle: &[
         "twosync-bundle 1",
@@ -130,7 +130,7 @@ const LONG_CHAIN: Story = Story {
 };
 
 /// Two new files, of which the first one's site fails: its mark can't be claimed.
-const FAILING_SITE: Story = Story {
+pub const FAILING_SITE: Story = Story {
     name: "a site that fails",
     bundle: &[
         "twosync-bundle 1",
