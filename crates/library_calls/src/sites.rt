@@ -55,7 +55,7 @@ fn commit<S: Site>(
     let path = path(alloc, "/a")?;
     let staged = staged(alloc, wanted, bytes)?;
     match site.commit(alloc, &print.sub_print(&path), staged) {
-        Ok(()) => Some(0),
+        Ok(_put) => Some(0),
         Err(fault) => Some(fault.number()),
     }
 }

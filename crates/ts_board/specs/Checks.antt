@@ -2,14 +2,18 @@
 --     terms_for content k sites    the terms of a board for this checked plan and the sites of its commits
 --     IsFromCheck t k              the terms are those of this checked plan
 --     ReplacesTarget, DiffersFromTarget    what a commit's site tells, against the target's print of the commit
+--     PutsInPlace content staged old new R what the act of a commit has put in place of what was staged, by its site's slot before and after; R says
+--                                          of it what was replaced
 use Rattle.std.specs.Prelude.{◌≡◌, ℕ, List, Option}
 use Rattle.ts_check.specs.Checkup.{Checkup, IsTargetPart}
 use Rattle.ts_model.specs.Trees.{Listing}
 use Rattle.ts_print.specs.Parts.{Part}
-use Rattle.ts_site.specs.Sites.{Differs, Replaces}
+use Rattle.ts_model.specs.declared.step.Work.TheVariants.{Put}
+use Rattle.ts_print.specs.Assemblies.{Assembly}
+use Rattle.ts_site.specs.Sites.{Differs, IsPutFor, Replaces}
 use Rattle.ts_board.specs.declared.law.Terms.{Terms}
 use Rattle.ts_board.specs.declared.law.Slot.{Slot}
-use Rattle.ts_board.specs.Terms.{content_of, opening_terms}
+use Rattle.ts_board.specs.Terms.{content_of, opening_terms, work_in}
 
 -- the terms are those of this checked plan
 abbrev pub IsFromCheck : Terms → Checkup → Type 0
@@ -26,3 +30,9 @@ ReplacesTarget content k c old new made = (part : Part) × IsTargetPart k c part
 -- where a site tells its content, that hasn't the print of the target's part of the commit
 abbrev pub DiffersFromTarget : Checkup → ℕ → Option (Listing (List ℕ)) → Type 0
 DiffersFromTarget k c content = (part : Part) × IsTargetPart k c part × Differs content part.rows
+
+pub record PutsInPlace {S : Type 0} (content : S → Option (Listing (List ℕ))) (staged : Assembly) (old new : Slot S) (IsReplaced : Listing (List ℕ) → Type 0) : Type 0 where
+  pub put : Assembly
+  pub work : work_in new ≡ Put put.made
+  pub fits : IsPutFor (content_of content old) staged put
+  pub replaced : IsReplaced put.made

@@ -1,15 +1,14 @@
 //! The board, its passes and what they hold.
-ghost use Rattle.std.specs.Prelude.{◌≡◌, ◌<◌, ◌≤◌, true, false, [], length, slice_index, slice_index_or, slice_set, IsErrOf, OnErr, OnOk, ◌↔◌};
+ghost use Rattle.std.specs.Prelude.{◌≡◌, ◌<◌, ◌≤◌, true, false, [], length, slice_index, slice_index_or, slice_set, IsErrOf, OnErr, OnOk};
 ghost use Rattle.std.specs.Mem.Slots.{slots_items, slots_len, IsFull};
 ghost use Rattle.ts_board.specs.Terms.{AreSited, Suits, IsTold, content_of, failures_of, has_site, is_place, site_in, work_in};
 ghost use Rattle.ts_board.specs.declared.law.Terms.{Terms};
 ghost use Rattle.ts_board.specs.declared.law.Slot.TheVariants.{Empty};
 ghost use Rattle.ts_model.specs.declared.step.Work.TheVariants as work;
-ghost use Rattle.ts_print.specs.Assemblies.{IsComplete};
-ghost use Rattle.ts_site.specs.Sites.{Differs, Replaces};
+ghost use Rattle.ts_site.specs.Sites.{Differs, RefusesMisfits, Replaces};
 ghost use Rattle.ts_check.specs.Checkup.{IsCommit, IsSourcePart};
 ghost use Rattle.ts_print.specs.Parts.{Part};
-ghost use Rattle.ts_board.specs.Checks.{DiffersFromTarget, IsFromCheck, ReplacesTarget};
+ghost use Rattle.ts_board.specs.Checks.{DiffersFromTarget, IsFromCheck, PutsInPlace, ReplacesTarget};
 ghost use Rattle.ts_model.specs.declared.step.Step.TheVariants.{Act};
 
 use crate::law::{Key, Law, Slot, View};
@@ -85,9 +84,10 @@ impl<S: Site> Held<S> {
         requires acted { self.old.acted ≡ false }
         requires site { is_place self.old.slot ≡ true }
         ensures action { self.new.action ≡ self.old.action }
-        ensures ok { OnOk result ((self.new.acted ≡ true) × (work_in self.new.slot ≡ work.Put staged.made)) }
-        ensures replaced { OnOk result (Replaces (content_of S.content self.old.slot) (content_of S.content self.new.slot) before.now.rows staged.made) }
-        ensures misfit { IsErrOf result SiteFault.Misfit ↔ (¬ IsComplete staged) }
+        ensures acted { OnOk result (self.new.acted ≡ true) }
+        ensures put { OnOk result (PutsInPlace S.content staged self.old.slot self.new.slot
+            (Replaces (content_of S.content self.old.slot) (content_of S.content self.new.slot) before.now.rows)) }
+        ensures misfit { RefusesMisfits (content_of S.content self.old.slot) staged (IsErrOf result SiteFault.Misfit) }
         ensures changed { IsErrOf result SiteFault.Changed → Differs (content_of S.content self.old.slot) before.now.rows }
         ensures device { IsErrOf result SiteFault.Device → failures_of S.failures self.old.slot < failures_of S.failures self.new.slot }
         ensures err { OnErr result ((self.new.acted ≡ false) × (work_in self.new.slot ≡ work.Marked) × (is_place self.new.slot ≡ true)) }
@@ -97,10 +97,9 @@ impl<S: Site> Held<S> {
         let Some(mut site) = slot.into_site() else {
             unreachable!()
         };
-        let made = Snapshot::of(&staged);
         match site.commit(alloc, before, staged) {
-            Ok(()) => {
-                self.slot = Slot::Committed(site, made);
+            Ok(put) => {
+                self.slot = Slot::Committed(site, put);
                 self.mark();
                 Ok(())
             }
@@ -112,10 +111,11 @@ impl<S: Site> Held<S> {
     }
 
     /// The act of a commit that has taken all its pieces, with the assembly that was begun for it: what is at its site, which
-    /// must be what it was when the plan was checked, is replaced by what was staged, in one change.
+    /// must be what it was when the plan was checked, is replaced by what was staged, in one change. Each file that is put in
+    /// place fits its stamp, and a site that tells its content has put just what was staged.
     ///
-    /// `Misfit` comes first, exactly where a staged file doesn't fit its stamp. After a fault the site is as it was, and the
-    /// action has not acted.
+    /// `Misfit` comes first, where a file doesn't fit its stamp; for a site that tells its content exactly where a staged one
+    /// doesn't. After a fault the site is as it was, and the action has not acted.
     pub fn commit(
         &mut self,
         alloc: Global,
@@ -127,10 +127,11 @@ impl<S: Site> Held<S> {
         requires commit { IsCommit checked.now.plan self.old.action }
         requires begun { (part : Part) × IsSourcePart checked.now self.old.action part × (staged.wanted ≡ part.rows) }
         ensures action { self.new.action ≡ self.old.action }
-        ensures ok { OnOk result ((self.new.acted ≡ true) × (work_in self.new.slot ≡ work.Put staged.made)) }
-        ensures replaced { OnOk result (ReplacesTarget S.content checked.now self.old.action self.old.slot self.new.slot staged.made) }
+        ensures acted { OnOk result (self.new.acted ≡ true) }
+        ensures put { OnOk result (PutsInPlace S.content staged self.old.slot self.new.slot
+            (ReplacesTarget S.content checked.now self.old.action self.old.slot self.new.slot)) }
         ensures suits { OnOk result ((t : Terms) → IsFromCheck t checked.now → Suits t (Act self.new.action (work_in self.new.slot))) }
-        ensures misfit { IsErrOf result SiteFault.Misfit ↔ (¬ IsComplete staged) }
+        ensures misfit { RefusesMisfits (content_of S.content self.old.slot) staged (IsErrOf result SiteFault.Misfit) }
         ensures changed { IsErrOf result SiteFault.Changed → DiffersFromTarget checked.now self.old.action (content_of S.content self.old.slot) }
         ensures device { IsErrOf result SiteFault.Device → failures_of S.failures self.old.slot < failures_of S.failures self.new.slot }
         ensures err { OnErr result ((self.new.acted ≡ false) × (work_in self.new.slot ≡ work.Marked) × (is_place self.new.slot ≡ true)) }

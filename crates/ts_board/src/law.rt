@@ -12,7 +12,7 @@ use ts_model::step::Step;
 use ts_print::{Print, Staged};
 use ts_site::Site;
 
-/// What lies in the slot of an action: the site of a commit, after its act with what was staged, or the bytes that a piece staged.
+/// What lies in the slot of an action: the site of a commit, after its act with what it has put in place, or the bytes that a piece staged.
 #[derive(Drop)]
 pub enum Slot<S> {
     Empty,

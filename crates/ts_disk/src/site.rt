@@ -10,6 +10,7 @@ use crate::fault::DiskFault;
 use crate::places::DiskPlaces;
 use crate::replacement::Replacement;
 use std::alloc::Global;
+use std::snapshot::Snapshot;
 use ts_folder::DiskFolder;
 use ts_name::Path;
 use ts_print::{Staged, SubPrint};
@@ -150,7 +151,7 @@ impl Site for DiskSite<HostRuntime> {
         alloc: Global,
         before: &SubPrint<'_>,
         staged: Staged,
-    ) -> Result<(), SiteFault> {
+    ) -> Result<Snapshot<Staged>, SiteFault> {
         if !staged.is_complete() {
             return Err(SiteFault::Misfit);
         }
@@ -159,11 +160,12 @@ impl Site for DiskSite<HostRuntime> {
             return Err(SiteFault::OutOfMemory);
         };
         match self.swap(alloc, before, &staged) {
+            Ok(()) => Ok(Snapshot::of(&staged)),
             Err(SiteFault::Device) => {
                 self.failures = next;
                 Err(SiteFault::Device)
             }
-            done => done,
+            Err(fault) => Err(fault),
         }
     }
 }

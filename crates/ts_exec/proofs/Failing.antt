@@ -3,6 +3,9 @@ use Rattle.std.proofs.Common.{◌≡◌, ◌≢◌, ℕ, ◌+◌, ◌<◌, ◌�
 use Rattle.std.specs.Prelude.{IfErr, OnErr, OnOk, IsErrOf}
 use Rattle.std.specs.Result.{IsErrAnd}
 use Rattle.std.proofs.lemmas.Bool.{true≢false, cases_lt}
+use Rattle.std.proofs.lemmas.Option.{same_Some}
+use Rattle.ts_print.specs.Assemblies.{Assembly, IsComplete}
+use Rattle.ts_site.specs.Sites.{IsPutFor, RefusesMisfits}
 use Rattle.ts_name.specs.Paths.{Path}
 use Rattle.ts_model.specs.Trees.{Listing, at}
 use Rattle.ts_model.specs.Sync.{Snapshot}
@@ -101,6 +104,18 @@ told_place content opening Empty told e = absurd (true≢false (sym e))
 told_place content opening (Place s) told e = told
 told_place content opening (Committed s staged) told e = absurd (true≢false (sym e))
 told_place content opening (Bytes bytes) told e = absurd (true≢false (sym e))
+
+-- what a site that told its content has put in place is what was staged, and it refuses just what doesn't fit
+module _ {S : Type 0} (content : S → Option (Listing (List ℕ))) (opening : Option (Option (Listing (List ℕ)))) (slot : Slot S) (told : IsToldIn content opening slot) (placed : is_place slot ≡ true)
+    (rows : Listing (List ℕ)) (tells : opening ≡ Some (Some rows)) (staged : Assembly) where
+  content_is : content_of content slot ≡ Some rows
+  content_is = same_Some (content_of content slot) (Some rows) (sym (told_place content opening slot told placed) ∙ tells)
+
+  pub put_staged : (put : Assembly) → IsPutFor (content_of content slot) staged put → put ≡ staged
+  put_staged put is = (subst (λ z. IsPutFor z staged put) content_is is).0
+
+  pub refuses_staged : (refuses : Type 0) → RefusesMisfits (content_of content slot) staged refuses → refuses → ¬ IsComplete staged
+  refuses_staged refuses is = (subst (λ z. RefusesMisfits z staged refuses) content_is is).0
 
 pub may_break : {S : Type 0} (failures : S → ℕ) (old now : Slot S) → is_place old ≡ true → is_place now ≡ true → failures_of failures old < failures_of failures now → MayBreak failures
 may_break failures (Place a) (Place b) e f l = (a, b, l)

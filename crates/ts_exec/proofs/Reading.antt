@@ -32,15 +32,15 @@ told_merged x r xs ys (z ∷ zs) (inr m) one other =
     let parts : AreTold x r (z ∷ m.0) = subst (λ (l : Run). AreTold x r l) m.1 other in (parts.0, told_merged x r xs m.0 zs m.2 one parts.1)
 
 -- of more steps less may be asked
-kind_told_later : (x : Setting) (seen more : Run) → StartsWith more seen → (kind : Kind) (w : Work) → HasTold x seen kind w → HasTold x more kind w
-kind_told_later x seen more later (Piece e offset size p) w h = h
-kind_told_later x seen more later (Commit e) w h = (h.0, h.1, h.2, h.3, h.4, λ told read. h.5 told (read_front x seen more later read))
-kind_told_later x seen more later (Mark e) w h = h
+kind_told_later : (x : Setting) (seen more : Run) → StartsWith more seen → (i : ℕ) (kind : Kind) (w : Work) → HasTold x seen i kind w → HasTold x more i kind w
+kind_told_later x seen more later i (Piece e offset size p) w h = h
+kind_told_later x seen more later i (Commit e) w h = (h.0, h.1, h.2, h.3, h.4, λ sited told read. h.5 sited told (read_front x seen more later read))
+kind_told_later x seen more later i (Mark e) w h = h
 
 step_later : (x : Setting) (seen more : Run) → StartsWith more seen → (step : Step) → IsToldStep x seen step → IsToldStep x more step
 step_later x seen more later (Claim i) h = h
 step_later x seen more later (Take c k) h = h
-step_later x seen more later (Act i w) h = (h.0, h.1, kind_told_later x seen more later h.0 w h.2)
+step_later x seen more later (Act i w) h = (h.0, h.1, kind_told_later x seen more later i h.0 w h.2)
 step_later x seen more later (Done i) h = h
 step_later x seen more later (Fail i) h = h
 step_later x seen more later (Release i j) h = h
@@ -49,7 +49,7 @@ pub told_later : (x : Setting) (seen more : Run) → StartsWith more seen → (o
 told_later x seen more later own told = weaker (IsToldStep x seen) (IsToldStep x more) (step_later x seen more later) own told
 
 -- such steps have read
-kind_read : (x : Setting) (r : Run) (i : ℕ) (kind : Kind) (w : Work) → KindIs x.checkup.plan i kind → HasTold x r kind w → IsRead x i w
+kind_read : (x : Setting) (r : Run) (i : ℕ) (kind : Kind) (w : Work) → KindIs x.checkup.plan i kind → HasTold x r i kind w → IsRead x i w
 kind_read x r i (Piece e offset size p) w is h = (Piece e offset size p, is, h)
 kind_read x r i (Commit e) w is h = (Commit e, is, tt)
 kind_read x r i (Mark e) w is h = (Mark e, is, tt)
@@ -95,7 +95,7 @@ kind_later x seen more later i (Commit e) fault.Device h = h
 kind_later x seen more later i (Commit e) fault.NotThere h = h
 kind_later x seen more later i (Commit e) fault.Unreadable h = h
 kind_later x seen more later i (Commit e) fault.Changed h = h
-kind_later x seen more later i (Commit e) fault.Misfit h = (h.0, h.1, h.2, h.3, h.4, λ told read. h.5 told (read_front x seen more later read))
+kind_later x seen more later i (Commit e) fault.Misfit h = λ sited. (let m = h sited in (m.0, m.1, m.2, m.3, m.4, λ told read. m.5 told (read_front x seen more later read)))
 kind_later x seen more later i (Mark e) f h = h
 
 pub may_later : (x : Setting) (seen more : Run) → StartsWith more seen → (i : ℕ) (f : ActFault) → MayFail x seen i f → MayFail x more i f

@@ -184,15 +184,15 @@ module _ (x : Setting) (valid : Valid (snapshot_of x.checkup) x.checkup.plan) (c
 
 -- where all steps of a run did what folders tell, its commits put in place what theirs do
 pub put_told : (x : Setting) (r : Run) → AreTold x r r → PutWhatIsTold x r
-put_told x r told c e entry from made there kind copied = λ tells.
+put_told x r told c e entry from made there kind copied sited = λ tells.
     subst (λ (z : Listing (List ℕ)). listed z ≡ sub (at tells.0) entry.path) (sym (same_put made has.0 has.4))
     (subst (λ (z : Entry). listed has.0 ≡ sub (at tells.0) z.path) one_entry (on_side tells))
   where
     done : IsTold x r c (Put made)
     done = all_among (IsToldStep x r) r told (Act c (Put made)) (Among-from_Contains r (Act c (Put made)) there)
 
-    has : HasPut x r e (Put made)
-    has = subst (λ (z : Kind). HasTold x r z (Put made)) (same_kind x.checkup.plan c done.0 (Commit e) done.1 kind) done.2
+    has : HasPut x r c e (Put made)
+    has = subst (λ (z : Kind). HasTold x r c z (Put made)) (same_kind x.checkup.plan c done.0 (Commit e) done.1 kind) done.2
 
     one_entry : has.1 ≡ entry
     one_entry = same_entry x.checkup.plan e has.1 entry has.3.0 copied.0
@@ -201,4 +201,4 @@ put_told x r told c e entry from made there kind copied = λ tells.
     one_side = same_Some has.2 from (sym has.3.1 ∙ ap (λ (z : Entry). source z.reason) one_entry ∙ copied.1)
 
     on_side : (tells : TellsTree x from) → listed has.0 ≡ sub (at tells.0) has.1.path
-    on_side = subst (λ (z : Side). (tells : TellsTree x z) → listed has.0 ≡ sub (at tells.0) has.1.path) one_side (λ tells. has.5 tells (read_told x r r told))
+    on_side = subst (λ (z : Side). (tells : TellsTree x z) → listed has.0 ≡ sub (at tells.0) has.1.path) one_side (λ tells. has.5 sited tells (read_told x r r told))

@@ -3,6 +3,7 @@
 --     setting_for ..      that of a run, by the sites of its commits at the start
 --     setting_until ..    the same of a run that may be stopped
 --     TellsTree x from    the folder of this side tells a tree, of the print that the plan was checked with
+--     TellsSite x c       the site of this commit told its content at the start
 --     AreRead x r         in these steps, what pieces staged is what their folders tell
 --     AreTold x r own     and what commits put in place, where pieces did so in the steps r
 --     MayFail x r i f     after these steps, the fault is one that the folder or the site of action i may have given
@@ -115,20 +116,25 @@ IsReadStep x (Release i j) = Unit {0}
 abbrev pub AreRead : Setting → Run → Type 0
 AreRead x r = AllByRecursion (IsReadStep x) r
 
--- a commit has put in place what its source's folder tells at the entry's path and below, where pieces staged in these steps what folders tell
-abbrev pub HasPut : Setting → Run → ℕ → Work → Type 0
-HasPut x r e w =
-    (made : Listing (List ℕ)) × (entry : Entry) × (from : Side) × Copies x.checkup.plan e entry from × (w ≡ Put made)
-    × ((told : TellsTree x from) → AreRead x r → listed made ≡ sub (at told.0) entry.path)
+-- the site in the slot of this action told its content at the start
+abbrev pub TellsSite : Setting → ℕ → Type 0
+TellsSite x c = (rows : Listing (List ℕ)) × (slice_index_or x.told c None ≡ Some (Some rows))
 
-abbrev pub HasTold : Setting → Run → Kind → Work → Type 0
-HasTold x r (Piece e offset size p) w = HasRead x (Piece e offset size p) w
-HasTold x r (Commit e) w = HasPut x r e w
-HasTold x r (Mark e) w = Unit {0}
+-- a commit over a site that tells its content has put in place what its source's folder tells at the entry's path and below, where pieces staged
+-- in these steps what folders tell
+abbrev pub HasPut : Setting → Run → ℕ → ℕ → Work → Type 0
+HasPut x r c e w =
+    (made : Listing (List ℕ)) × (entry : Entry) × (from : Side) × Copies x.checkup.plan e entry from × (w ≡ Put made)
+    × (TellsSite x c → (told : TellsTree x from) → AreRead x r → listed made ≡ sub (at told.0) entry.path)
+
+abbrev pub HasTold : Setting → Run → ℕ → Kind → Work → Type 0
+HasTold x r i (Piece e offset size p) w = HasRead x (Piece e offset size p) w
+HasTold x r i (Commit e) w = HasPut x r i e w
+HasTold x r i (Mark e) w = Unit {0}
 
 -- what an action of the plan did is what its folder tells
 abbrev pub IsTold : Setting → Run → ℕ → Work → Type 0
-IsTold x r i w = (kind : Kind) × KindIs x.checkup.plan i kind × HasTold x r kind w
+IsTold x r i w = (kind : Kind) × KindIs x.checkup.plan i kind × HasTold x r i kind w
 
 abbrev pub IsToldStep : Setting → Run → Step → Type 0
 IsToldStep x r (Claim i) = Unit {0}
@@ -150,11 +156,11 @@ PieceFails lets tells end p fault.Unreadable = lets trouble.Unreadable
 PieceFails lets tells end p fault.Changed = ⊥
 PieceFails lets tells end p fault.Misfit = IfSome tells (λ rows. (bytes : List ℕ) × (at rows p ≡ File bytes) × (length bytes < end))
 
--- an assembly of the commit's source, of which a file doesn't fit its stamp. Where the source's folder tells such a tree, some piece in these
--- steps has staged what no folder tells
+-- of a commit whose site tells its content: an assembly of the commit's source, of which a file doesn't fit its stamp. Where the source's folder
+-- tells such a tree, some piece in these steps has staged what no folder tells
 abbrev pub IsMisfit : Setting → Run → ℕ → Type 0
 IsMisfit x r c =
-    (staged : Assembly) × (part : Part) × (of : IsSourcePart x.checkup c part) × (staged.wanted ≡ part.rows) × (¬ IsComplete staged)
+    TellsSite x c → (staged : Assembly) × (part : Part) × (of : IsSourcePart x.checkup c part) × (staged.wanted ≡ part.rows) × (¬ IsComplete staged)
     × (TellsTree x of.from → ¬ AreRead x r)
 
 -- what the commit's site told at the start hasn't the print that the target had

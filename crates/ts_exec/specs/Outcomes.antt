@@ -30,7 +30,8 @@ use Rattle.ts_board.specs.Kept.{HasLeft, Rests}
 use Rattle.ts_board.specs.declared.law.Slot.{Slot}
 use Rattle.ts_board.specs.declared.law.Slot.TheVariants.{Empty}
 use Rattle.ts_board.specs.declared.law.Terms.{Terms}
-use Rattle.ts_exec.specs.Failures.{Setting, AreRead, IsChanged, MayFail, TellsTree}
+use Rattle.ts_check.specs.Checkup.{IsCommit}
+use Rattle.ts_exec.specs.Failures.{Setting, AreRead, IsChanged, MayFail, TellsSite, TellsTree}
 use Rattle.ts_exec.specs.Tidy.{IsTidy}
 use Rattle.ts_exec.specs.declared.fault.ActFault.{ActFault}
 use Rattle.ts_exec.specs.declared.fault.ActFault.TheVariants.{OutOfMemory, Misfit}
@@ -73,11 +74,12 @@ ResultFits x r i (Failed f) = Has r (fails i) × MayFail x r i f
 ResultFits x r i (Blocked k) = HasNot r (claims i) × IsLeastOpen x.checkup.plan r i k
 ResultFits x r i Left = HasNot r (claims i) × IsReady x.checkup.plan r i × x.stops
 
--- each commit has put in place just what its source's folder tells at the entry's path and below, where that is a tree of the checked print
+-- each commit whose site tells its content has put in place just what its source's folder tells at the entry's path and below, where that is a
+-- tree of the checked print
 abbrev pub PutWhatIsTold : Setting → Run → Type 0
 PutWhatIsTold x r =
     (c e : ℕ) (entry : Entry) (from : Side) (made : Listing (List ℕ)) → Contains r (Act c (Put made)) → KindIs x.checkup.plan c (Commit e) → Copies x.checkup.plan e entry from
-    → (told : TellsTree x from) → listed made ≡ sub (at told.0) entry.path
+    → TellsSite x c → (told : TellsTree x from) → listed made ≡ sub (at told.0) entry.path
 
 -- one legal run, with the words and the slots that it left
 pub record IsOutcome {S : Type 0} (content : S → Option (Listing (List ℕ))) (x : Setting) (t : Terms) (results : List ActionResult) (words : List ℕ) (slots : List (Slot S)) : Type 0 where
@@ -101,13 +103,15 @@ IsOutcomeOf {S} {site} x outcome = IsOutcome site.content x (terms_in x) outcome
 abbrev pub IsCopiedFrom : Plan → ℕ → Side → Type 0
 IsCopiedFrom plan i from = (entry : Entry) × (entry_of plan i ≡ Some entry) × (source entry.reason ≡ Some from)
 
--- where an action misfits, the folder that it is copied from tells no tree of the checked print. So over folders that do nothing misfits
+-- where an action misfits that isn't the commit of a site which tells nothing, the folder that it is copied from tells no tree of the checked
+-- print. So over folders and sites that do nothing misfits
 abbrev pub MisfitsAreUntold : Setting → List ActionResult → Type 0
-MisfitsAreUntold x results = (i : ℕ) → slice_get results i ≡ Some (Failed Misfit) → (from : Side) × IsCopiedFrom x.checkup.plan i from × (¬ TellsTree x from)
+MisfitsAreUntold x results = (i : ℕ) → slice_get results i ≡ Some (Failed Misfit) → (IsCommit x.checkup.plan i → TellsSite x i) → (from : Side) × IsCopiedFrom x.checkup.plan i from × (¬ TellsTree x from)
 
--- folders tell trees of the checked prints, no site told anything but its target's checked print at the start, and no device fails
+-- folders tell trees of the checked prints, each commit's site told just its target's checked print at the start, and no device fails
 pub record IsSteady (x : Setting) : Type 0 where
   pub tells : (from : Side) → TellsTree x from
+  pub sited : (c : ℕ) → IsCommit x.checkup.plan c → TellsSite x c
   pub readable : (from : Side) (p : Path) (t : Trouble) → ¬ x.lets from p t
   pub unchanged : (c : ℕ) → ¬ IsChanged x c
   pub unbroken : ¬ x.breaks

@@ -1,7 +1,11 @@
 -- What a commit does to a site's content, where the site tells it.
 --     Replaces old new before made    it had the print before, and is now the tree
 --     Differs old before              it hasn't that print
-use Rattle.std.specs.Prelude.{◌≡◌, ◌≢◌, ℕ, List, Option, Some, None}
+--     IsPutFor old staged put         what was put in place for what was staged: each file fits its stamp. A site that tells its content has put
+--                                     just what was staged; another may have found other bytes when it read back what it had stored
+--     RefusesMisfits old staged no    a site that tells its content refuses just what doesn't fit; another also what it reads back so
+use Rattle.std.specs.Prelude.{◌≡◌, ◌≢◌, ◌↔◌, ℕ, List, Option, Some, None}
+use Rattle.ts_print.specs.Assemblies.{Assembly, IsComplete}
 use Rattle.ts_model.specs.Trees.{Listing, listed, print_of}
 use Rattle.ts_model.specs.declared.row.Stamp.{Stamp}
 use Rattle.ts_print.specs.Prints.{stamped_rows}
@@ -9,6 +13,14 @@ use Rattle.ts_print.specs.Prints.{stamped_rows}
 abbrev pub Replaces : Option (Listing (List ℕ)) → Option (Listing (List ℕ)) → Listing Stamp → Listing (List ℕ) → Type 0
 Replaces None new before made = new ≡ None
 Replaces (Some rows) new before made = (stamped_rows rows ≡ before) × (new ≡ Some made)
+
+abbrev pub IsPutFor : Option (Listing (List ℕ)) → Assembly → Assembly → Type 0
+IsPutFor None staged put = (put.top ≡ staged.top) × (put.wanted ≡ staged.wanted) × IsComplete put
+IsPutFor (Some rows) staged put = (put ≡ staged) × IsComplete put
+
+abbrev pub RefusesMisfits : Option (Listing (List ℕ)) → Assembly → Type 0 → Type 0
+RefusesMisfits None staged refuses = Unit {0}
+RefusesMisfits (Some rows) staged refuses = refuses ↔ (¬ IsComplete staged)
 
 abbrev pub Differs : Option (Listing (List ℕ)) → Listing Stamp → Type 0
 Differs None before = Unit {0}

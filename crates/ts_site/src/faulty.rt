@@ -1,5 +1,5 @@
 //! A site over memory that fails when told.
-ghost use Rattle.std.specs.Prelude.{◌≡◌, ◌≤◌, ◌<◌, ◌+◌, ◌↔◌, ℕ, List, Option, cond, true, slice_get, IsErrOf, IsTrue, OnErr, OnOk, Some};
+ghost use Rattle.std.specs.Prelude.{◌≡◌, ◌≤◌, ◌<◌, ◌+◌, ◌↔◌, ℕ, List, Option, cond, true, slice_get, IfOk, IsErrOf, IsTrue, OnErr, Some};
 ghost use Rattle.ts_model.specs.declared.row.Row.{Row};
 ghost use Rattle.ts_print.specs.Assemblies.{IsComplete};
 ghost use Rattle.ts_site.specs.Sites.{Differs, Replaces};
@@ -8,6 +8,7 @@ use crate::fault::SiteFault;
 use crate::memory::MemSite;
 use crate::site::Site;
 use std::alloc::Global;
+use std::snapshot::Snapshot;
 use ts_print::{Staged, SubPrint};
 use ts_tree::SubTree;
 
@@ -75,8 +76,9 @@ impl Site for FaultySite {
         alloc: Global,
         before: &SubPrint<'_>,
         staged: Staged,
-    ) -> Result<(), SiteFault>
-        ensures ok { OnOk result (Replaces (Some self.old.site) (Some self.new.site) before.now.rows staged.made) }
+    ) -> Result<Snapshot<Staged>, SiteFault>
+        ensures ok { IfOk result (λ put. Replaces (Some self.old.site) (Some self.new.site) before.now.rows put.value.made) }
+        ensures put { IfOk result (λ put. (put.value ≡ staged) × IsComplete put.value) }
         ensures misfit { IsErrOf result SiteFault.Misfit ↔ (¬ IsComplete staged) }
         ensures changed { IsErrOf result SiteFault.Changed → Differs (Some self.old.site) before.now.rows }
         ensures device { IsErrOf result SiteFault.Device → self.old.failures < self.new.failures }

@@ -5,6 +5,7 @@ use crate::fault::SiteFault;
 use crate::site::Site;
 use std::alloc::Global;
 use std::marker::Model;
+use std::snapshot::Snapshot;
 use ts_print::{Staged, SubPrint};
 use ts_tree::SubTree;
 
@@ -50,14 +51,15 @@ impl Site for MemSite {
         alloc: Global,
         before: &SubPrint<'_>,
         staged: Staged,
-    ) -> Result<(), SiteFault> {
+    ) -> Result<Snapshot<Staged>, SiteFault> {
         if !staged.is_complete() {
             return Err(SiteFault::Misfit);
         }
         match before.is_print_of(alloc, self.content.rows()) {
             Ok(true) => {
+                let put = Snapshot::of(&staged);
                 self.content = staged.into_tree();
-                Ok(())
+                Ok(put)
             }
             Ok(false) => Err(SiteFault::Changed),
             Err(_) => Err(SiteFault::OutOfMemory),

@@ -5,7 +5,7 @@ use Rattle.std.specs.List.{list_any}
 use Rattle.std.proofs.lemmas.Bool.{true≢false}
 use Rattle.std.proofs.lemmas.Option.{none-some, same_Some, slice_get_within}
 use Rattle.ts_model.specs.Trees.{Listing, Tree, at, listed, print_of, sub}
-use Rattle.ts_model.specs.Plans.{Valid, source}
+use Rattle.ts_model.specs.Plans.{Valid}
 use Rattle.ts_model.specs.Runs.{Run, State, Does, Fits, Has, HasNot, IsPieceOf, Legal, acts, finishes, takes}
 use Rattle.ts_model.specs.Sync.{Snapshot, replica}
 use Rattle.ts_model.specs.declared.row.Content.TheVariants.{Absent}
@@ -70,6 +70,14 @@ committed opening all (Committed site staged) made work told =
     let some = all told.0 told.1 in
     told.2 ∙ ap (λ before. told_after before staged.value.made) some.1 ∙ ap (λ w. Some (put_in w made)) work
 committed opening all (Bytes bytes) made work told = cc
+
+-- and told its content before
+sited : (opening : Option (Option (Listing (List ℕ)))) → ((before : Option (Listing (List ℕ))) → opening ≡ Some before → (rows : Listing (List ℕ)) × (before ≡ Some rows))
+    → (slot : Slot (Listing (List ℕ))) (made : Listing (List ℕ)) → work_in slot ≡ Put made → IsToldIn all_told opening slot → (rows : Listing (List ℕ)) × (opening ≡ Some (Some rows))
+sited opening all Empty made work told = cc
+sited opening all (Place site) made work told = cc
+sited opening all (Committed site staged) made work told = let some = all told.0 told.1 in (some.0, told.1 ∙ ap Some some.1)
+sited opening all (Bytes bytes) made work told = cc
 
 -- ---- what a run has
 
@@ -147,7 +155,9 @@ module _ (k : Checkup) (valid : Valid (snapshot_of k) k.plan) (failures : Listin
           let rests = (o.sites c within).done (Put made) acted finished not_taken in (
             made,
             committed (slice_index_or (map (told_in all_told) opening) c None) (λ before told. openings_told opening c before told) (slice_index_or slots c Empty) made rests.0 rests.1,
-            o.put c e entry from made acted kind copied (of_side first second from, refl, print_is from),
+            o.put c e entry from made acted kind copied
+                (sited (slice_index_or (map (told_in all_told) opening) c None) (λ before told. openings_told opening c before told) (slice_index_or slots c Empty) made rests.0 rests.1)
+                (of_side first second from, refl, print_is from),
           )
       go (Staged bytes) there does = absurd does
       go Marked there does = absurd does

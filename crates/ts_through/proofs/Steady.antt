@@ -1,20 +1,24 @@
 -- Folders and sites in memory are steady: they tell the trees that the plan was checked with, and none of them fails.
-use Rattle.std.proofs.Common.{◌≡◌, ◌≢◌, ℕ, zero, suc, ◌<◌, List, [], ◌∷◌, map, Some, None, refl, sym, ap, ◌∙◌, subst, arith}
+use Rattle.std.proofs.Common.{◌≡◌, ◌≢◌, inl, ℕ, zero, suc, ◌<◌, List, [], ◌∷◌, map, Some, None, refl, sym, ap, ◌∙◌, subst, arith}
 use Rattle.std.specs.Prelude.{slice_index_or}
 use Rattle.std.proofs.lemmas.Option.{none-some, same_Some}
+use Rattle.ts_model.specs.Plans.{IsCopied, Valid}
 use Rattle.ts_model.specs.Sync.{replica}
 use Rattle.ts_model.specs.Trees.{Listing, Print, Tree, at, listed, print_of, sub}
+use Rattle.ts_model.specs.declared.plan.PlanRule.TheVariants.{OneCommit}
 use Rattle.ts_model.specs.declared.plan.Side.{Side}
 use Rattle.ts_model.specs.declared.plan.Side.TheVariants as side
 use Rattle.ts_name.specs.Paths.{Path}
 use Rattle.ts_site.specs.Sites.{Differs}
-use Rattle.ts_check.specs.Checkup.{Checkup, snapshot_of, target}
+use Rattle.ts_laws.proofs.Basics.{stable}
+use Rattle.ts_laws.proofs.Rules.{decide_copied}
+use Rattle.ts_check.specs.Checkup.{Checkup, IsCommit, snapshot_of, target}
 use Rattle.ts_folder.specs.declared.fault.Trouble.{Trouble}
 use Rattle.ts_folder.specs.declared.folder.Call.{Call}
 use Rattle.ts_board.specs.Terms.{site_in, told_in}
 use Rattle.ts_board.specs.declared.law.Slot.{Slot}
 use Rattle.ts_board.specs.declared.law.Slot.TheVariants.{Empty, Place, Committed, Bytes}
-use Rattle.ts_exec.specs.Failures.{IsChanged, Setting, of_side, setting_with}
+use Rattle.ts_exec.specs.Failures.{IsChanged, Setting, TellsSite, of_side, setting_with}
 use Rattle.ts_exec.specs.Outcomes.{IsSteady}
 use Rattle.ts_through.specs.Parts.{AreHeld}
 use Rattle.ts_through.proofs.Held.{all_told}
@@ -58,9 +62,17 @@ module _ (k : Checkup) (first second : Listing (List ℕ)) (first_is : at k.firs
       let differs : print_of (listed site.0) ≢ listed part.rows = subst (λ z. Differs z part.rows) same changed.2.2 in
       absurd (differs (same_print site.0 (at (of_side second first of.from)) of.entry.path site.2 ∙ ap (λ (t : Print). sub t of.entry.path) (target_print of.from) ∙ sym of.rows))
 
-  pub steady : IsSteady quiet
-  steady = record {
+  -- a commit is of an entry that is copied, and its site tells what it has
+  sited : Valid (snapshot_of k) k.plan → (c : ℕ) → IsCommit k.plan c → TellsSite quiet c
+  sited valid c (e, kind) =
+      let copied : IsCopied k.plan e = stable (decide_copied k.plan e) (λ none. valid OneCommit c (inl (e, kind, inl none))) in
+      let site = targets c e copied.0 copied.1 kind copied.2 in
+      (site.0, told_sites opening c site.0 site.1)
+
+  pub steady : Valid (snapshot_of k) k.plan → IsSteady quiet
+  steady valid = record {
     tells = λ from. (of_side first second from, refl, source_print from);
+    sited = sited valid;
     readable = λ from p t lets. lets;
     unchanged = unchanged;
     unbroken = λ breaks. let less : 0 < 0 = breaks.2 in omega (arith, less);

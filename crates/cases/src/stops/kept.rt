@@ -160,7 +160,7 @@ where
     for workers in [2, 4] {
         for story in [&TWO_DIRECTORIES, &FAILING_SITE] {
             try_together(rt, story, workers)?;
-            count += 1;
+            count = count.saturating_add(1);
         }
     }
     Ok(count)

@@ -60,4 +60,4 @@ returns-clause-steady g c = λ steady.
     let opened : Terms = terms_for g.S.Site.content c.args.checked.now c.args.sites.items in
     only_memory_ran_out g.S.Site.content (setting_until g.S.Site g.F.Folder g.G.Stop c.args.checked.now c.args.first.now c.args.second.now c.args.sites.items c.args.gate.now) c.plan-plan.ensures.valid opened
     c.new.result.results.items (slots_items c.new.result.closed.row.words) (slots_items c.new.result.closed.row.slots) (returns-clause-outcome g c).0
-    (record { tells = steady.tells; readable = steady.readable; unchanged = steady.unchanged; unbroken = steady.unbroken })
+    (record { tells = steady.tells; sited = steady.sited; readable = steady.readable; unchanged = steady.unchanged; unbroken = steady.unbroken })

@@ -1,4 +1,4 @@
-use Rattle.std.proofs.Common.{◌≡◌, ◌<◌, ℕ, length, refl, sym, ap, ◌∙◌, subst}
+use Rattle.std.proofs.Common.{◌≡◌, ◌<◌, ℕ, length, sym, ap, ◌∙◌, subst}
 use Rattle.ts_model.specs.Plans.{KindIs}
 use Rattle.ts_model.specs.Trees.{IsListing, Listing, at}
 use Rattle.ts_model.specs.declared.plan.Kind.TheVariants.{Commit}

@@ -19,7 +19,7 @@ all_done-requires-clause-memory g c =
     (subst (λ z. AreHeld k.plan c.args.second.now z opening) (sym c.in_ok-first.ensures) c.requires.targets) in
     subst OnlyMemoryRanOut (sym c.results.ensures)
     (c.in-Ok.ensures.steady (steady k c.in_ok-first.first c.in_ok-second.second
-    (c.requires.first ∙ ap (λ z. print_of (at z)) (sym c.in_ok-first.ensures)) (c.requires.second ∙ ap (λ z. print_of (at z)) (sym c.in_ok-second.ensures)) opening targets))
+    (c.requires.first ∙ ap (λ z. print_of (at z)) (sym c.in_ok-first.ensures)) (c.requires.second ∙ ap (λ z. print_of (at z)) (sym c.in_ok-second.ensures)) opening targets c.plan-plan.ensures.valid))
 
 pub all_done-requires-clause-blocked : goal.all_done-requires-clause-blocked
 all_done-requires-clause-blocked g c = subst AreBlockedByEarlier (sym c.results.ensures) (blocked_by_earlier c.in-Ok.ensures.outcome c.plan-plan.ensures.valid)

@@ -1,4 +1,4 @@
-use Rattle.std.proofs.Common.{◌≡◌, ◌≢◌, ◌+◌, ◌∷◌, [], List, ℕ, length, slice_get, sym, ap, ◌∙◌, subst, arith, rules, Some, false, true}
+use Rattle.std.proofs.Common.{◌≡◌, ◌≢◌, ◌+◌, ◌∷◌, [], List, ℕ, length, slice_get, sym, ap, ◌∙◌, subst, arith, rules, Some, false}
 use Rattle.std.specs.Vec.Iter.{into_iter_items}
 use Rattle.ts_check.proofs.Scans.{got_beside}
 use Rattle.ts_model.specs.Trees.{Listing}

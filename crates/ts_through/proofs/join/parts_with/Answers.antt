@@ -1,4 +1,4 @@
-use Rattle.std.proofs.Common.{◌≡◌, ◌≢◌, ◌++◌, ◌∷◌, [], ◌+◌, Some, slice_get, sym, ap, ◌∙◌, subst, arith, rules, false, true}
+use Rattle.std.proofs.Common.{◌≡◌, ◌≢◌, ◌++◌, ◌∷◌, [], ◌+◌, Some, slice_get, sym, ap, ◌∙◌, subst, arith, rules, false}
 use Rattle.std.proofs.lemmas.Option.{same_Some, slice_get-get_or}
 use Rattle.ts_model.specs.Trees.{at, listed, sub}
 use Rattle.ts_through.proofs.Parts.{AreSoFar, all_parts, beside, part_is, with_part, without_part}
