@@ -145,10 +145,10 @@ if may_be_refused; then
   before=("${as[@]}")
   told 'an archive that must not be read' 3 '' "The archive secret can't be opened: the system doesn't allow it." 'twosync: fault 5' show secret
   told 'a plan that must not be read' 3 '' "The plan secret can't be opened: the system doesn't allow it." 'twosync: fault 5' check first second archive secret
-  told 'a folder that must not be written' 3 '' "closed/.twosync can't be made or used: who owns it?" 'twosync: fault 5 /.twosync' sync first closed archive
-  told 'it is the first one' 3 '' "closed/.twosync can't be made or used: who owns it?" 'twosync: fault 5 /.twosync' sync closed first archive
+  told 'a folder that must not be written' 3 '' "closed/.twosync can't be made or used: permission denied." 'twosync: fault 5 /.twosync' sync first closed archive
+  told 'it is the first one' 3 '' "closed/.twosync can't be made or used: permission denied." 'twosync: fault 5 /.twosync' sync closed first archive
   told 'an archive that must not be written' 3 '' \
-    "The archive shut/archive can't be written: is its disk full or read-only, or its folder not there?" 'twosync: fault 5' sync first second shut/archive
+    "The archive shut/archive can't be written: permission denied." 'twosync: fault 5' sync first second shut/archive
   own 'chmod 755 shut && mkdir second/d first/d && printf a >first/d/x && chmod 555 second/d'
   "${as[@]}" "$program" sync first second archive >../out 2>../err
   holds_true 'a file that must not be written, by its line' test "$(cat ../err)" = 'twosync: fault 8 /d/x'
@@ -158,6 +158,36 @@ if may_be_refused; then
   cd ..
 else
   echo 'skipped: no other user to run as, so what must not be read or written is not tried'
+fi
+
+# ---- what the system says of an archive, and where a call of it fails
+fresh
+printf a >first/a
+mkdir kept.d
+told 'a folder in the place of the archive' 3 '' "The archive kept.d can't be written: it is a folder." 'twosync: fault 5' sync first second kept.d
+told 'an archive in a folder that is not there' 3 '' "The archive none/archive can't be written: no such file or folder." \
+  'twosync: fault 5' sync first second none/archive
+ln -s circle circle
+told 'an archive that is a link to itself' 3 '' "The archive circle can't be written: too many links." 'twosync: fault 5' sync first second circle
+# fails CALL ERROR: the words that run a program of which each call of this name fails with this error
+fails() {
+  before=(strace -f -qq -o trace -e "trace=$1" -e "inject=$1:error=$2")
+}
+if command -v strace >/dev/null; then
+  fails fsync ENOSPC
+  told 'a full disk' 3 '' "first can't be written: no space left on the device." 'twosync: fault 5' "${sync[@]}"
+  fails fsync EIO
+  told 'a disk that fails' 3 '' "first can't be written: input/output error." 'twosync: fault 5' "${sync[@]}"
+  fails mkdir EROFS
+  told 'a disk that is read-only' 3 '' "first/.twosync can't be made or used: the file system is read-only." 'twosync: fault 5 /.twosync' "${sync[@]}"
+  fails rename EDQUOT
+  told 'a quota that is used up' 3 '' "first can't be written: the disk quota is used up." 'twosync: fault 5' "${sync[@]}"
+  fails getdents64 EIO
+  told 'a .twosync that cannot be listed' 3 '' "first: its device failed, or what a stopped run left can't be finished: input/output error." \
+    'twosync: fault 8' "${sync[@]}"
+  before=()
+else
+  echo 'skipped: strace is missing, so what the system says of a failed call is not tried'
 fi
 
 # ---- output that can't be written

@@ -4,6 +4,7 @@ use std::alloc::Global;
 use std::fs::{File, Files};
 use std::rt::Env;
 use std::{env, fs, process};
+use ts_cause::Cause;
 use ts_disk::{DiskFault, DiskPlaces, Notice, mount_above, recover_replica, take_lock};
 use ts_model::items::Items;
 use ts_swap::{Places, Spot};
@@ -236,12 +237,13 @@ fn one_run_at_a_time_has_the_lock(rt: HostRuntime) {
 
 #[test]
 fn numbers_faults(rt: HostRuntime) {
+    let cause = Cause::Full;
     for (fault, number) in [
         (DiskFault::OutOfMemory, 1),
-        (DiskFault::Failed, 5),
-        (DiskFault::Device, 8),
+        (DiskFault::Failed { cause }, 5),
+        (DiskFault::Device { cause }, 8),
         (DiskFault::Locked, 8),
-        (DiskFault::Own, 5),
+        (DiskFault::Own { cause }, 5),
     ] {
         assert!(rt; fault.number() == number, "{number}");
     }

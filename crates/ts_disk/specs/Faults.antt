@@ -10,10 +10,10 @@ use Rattle.ts_disk.specs.declared.fault.DiskFault.TheVariants.{OutOfMemory, Fail
 -- the number that the fault is reported by
 abbrev pub fault_number : DiskFault → ℕ
 fault_number OutOfMemory = 1
-fault_number Failed = 5
-fault_number Device = 8
+fault_number (Failed cause) = 5
+fault_number (Device cause) = 8
 fault_number Locked = 8
-fault_number Own = 5
+fault_number (Own cause) = 5
 
 -- the fault that a commit ends with, by why its swap isn't made
 abbrev pub refusal_fault : Refusal → SiteFault

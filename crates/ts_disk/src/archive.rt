@@ -3,7 +3,7 @@ ghost use Rattle.std.specs.Prelude.{◌≡◌, ◌++◌, false, true, IfOk, OnOk
 ghost use Rattle.std.specs.String.{string_bytes};
 ghost use Rattle.ts_disk.specs.Names.{StandsIn};
 
-use crate::fault::DiskFault;
+use crate::fault::{DiskFault, failed, unusable, unwritten};
 use crate::lock::{is_at, lock_file};
 use crate::modes::{PRIVATE_FILE, permissions};
 use crate::place::{Standing, flush_dir, kind_at};
@@ -13,6 +13,7 @@ use std::io::{BufWriter, ErrorKind, Read, Write};
 use std::os::unix::fs::{OpenOptionsExt, PermissionsExt};
 use std::{fs, io};
 use ts_archive::ArchiveFault;
+use ts_cause::Cause;
 use ts_print::Print;
 use ts_text::Counted;
 
@@ -47,10 +48,15 @@ pub fn claim_archive<R: Files<File = File> + AllocGlobal>(
     ensures begun { IfOk result (λ claimed. claimed.is_done ≡ false) }
 {
     let place = followed(files, alloc, name)?;
-    let mode = match kind_at(files, place.as_str()).map_err(|_| DiskFault::Failed)? {
+    let mode = match kind_at(files, place.as_str()).map_err(failed)? {
         Standing::Nothing => PRIVATE_FILE,
         Standing::File => mode_at(files, place.as_str())?,
-        Standing::CutOff | Standing::Dir | Standing::Other => return Err(DiskFault::Failed),
+        Standing::Dir => {
+            return Err(DiskFault::Failed {
+                cause: Cause::IsFolder,
+            });
+        }
+        Standing::CutOff | Standing::Other => return Err(unusable()),
     };
     let new = format!(in alloc; "{place}.new")?;
     clear_stale(files, new.as_str())?;
@@ -79,10 +85,10 @@ impl ArchivePlace {
         ensures kept { (self.exit.now.place ≡ self.entry.now.place) × (self.exit.now.new ≡ self.entry.now.new) }
     {
         write_text(&self.file, alloc, archive)?;
-        self.file.sync_all().map_err(|_| DiskFault::Failed)?;
-        fs::rename(files, self.new.as_str(), self.place.as_str()).map_err(|_| DiskFault::Failed)?;
+        self.file.sync_all().map_err(failed)?;
+        fs::rename(files, self.new.as_str(), self.place.as_str()).map_err(failed)?;
         self.is_done = true;
-        flush_dir(files, above(self.place.as_str())).map_err(|_| DiskFault::Failed)
+        flush_dir(files, above(self.place.as_str())).map_err(failed)
     }
 
     /// Gives the place up. What was begun beside the archive is removed.
@@ -100,9 +106,9 @@ fn write_text(file: &File, alloc: Global, archive: &Print) -> Result<(), DiskFau
     match ts_archive::encode(alloc, archive, &mut sink) {
         Ok(()) => {}
         Err(ArchiveFault::OutOfMemory) => return Err(DiskFault::OutOfMemory),
-        Err(_) => return Err(DiskFault::Failed),
+        Err(_) => return Err(unwritten(&mut sink.inner)),
     }
-    sink.inner.flush().map_err(|_| DiskFault::Failed)
+    sink.inner.flush().map_err(failed)
 }
 
 /// Where a name leads when links are followed; nothing needs to be there.
@@ -112,7 +118,7 @@ fn followed<R: Files + AllocGlobal>(
     name: &str,
 ) -> Result<String, DiskFault> {
     if name.is_empty() {
-        return Err(DiskFault::Failed);
+        return Err(unusable());
     }
     let mut place = String::from_str(alloc, name)?;
     for _ in 0..LINKS {
@@ -123,7 +129,7 @@ fn followed<R: Files + AllocGlobal>(
         if !is_link {
             return Ok(place);
         }
-        let target = fs::read_link(files, place.as_str()).map_err(|_| DiskFault::Failed)?;
+        let target = fs::read_link(files, place.as_str()).map_err(failed)?;
         let target = target.as_str();
         place = if target.starts_with('/') {
             String::from_str(alloc, target)?
@@ -132,7 +138,9 @@ fn followed<R: Files + AllocGlobal>(
             format!(in alloc; "{above}/{target}")?
         };
     }
-    Err(DiskFault::Failed)
+    Err(DiskFault::Failed {
+        cause: Cause::LinksInCircle,
+    })
 }
 
 /// The directory in which a place is.
@@ -148,28 +156,33 @@ fn above(place: &str) -> &str
 
 /// The permission bits of what stands at a place.
 fn mode_at<R: Files>(files: &R, place: &str) -> Result<u32, DiskFault> {
-    let metadata = fs::symlink_metadata(files, place).map_err(|_| DiskFault::Failed)?;
+    let metadata = fs::symlink_metadata(files, place).map_err(failed)?;
     Ok(permissions(&metadata))
 }
 
 /// Removes what a stopped run left where a new archive is written, and nothing else.
 fn clear_stale<R: Files<File = File> + AllocGlobal>(files: &R, new: &str) -> Result<(), DiskFault> {
-    match kind_at(files, new).map_err(|_| DiskFault::Failed)? {
+    match kind_at(files, new).map_err(failed)? {
         Standing::Nothing => return Ok(()),
         Standing::File => {}
-        Standing::CutOff | Standing::Dir | Standing::Other => return Err(DiskFault::Failed),
+        Standing::Dir => {
+            return Err(DiskFault::Failed {
+                cause: Cause::IsFolder,
+            });
+        }
+        Standing::CutOff | Standing::Other => return Err(unusable()),
     }
     let mut options = OpenOptions::new();
     options.read(true).write(true);
-    let file = options.open(files, new).map_err(|_| DiskFault::Failed)?;
+    let file = options.open(files, new).map_err(failed)?;
     lock_file(&file)?;
-    if !is_at(files, &file, new).map_err(|_| DiskFault::Failed)? {
+    if !is_at(files, &file, new).map_err(failed)? {
         return Err(DiskFault::Locked);
     }
-    if !begins_as_archive(files.alloc(), &file).map_err(|_| DiskFault::Failed)? {
-        return Err(DiskFault::Failed);
+    if !begins_as_archive(files.alloc(), &file).map_err(failed)? {
+        return Err(unusable());
     }
-    fs::remove_file(files, new).map_err(|_| DiskFault::Failed)
+    fs::remove_file(files, new).map_err(failed)
 }
 
 /// Whether a file's bytes begin as every archive's, or are a beginning of that.
@@ -187,12 +200,12 @@ fn make_locked<R: Files<File = File>>(files: &R, new: &str) -> Result<File, Disk
         Ok(file) => file,
         // another run has made it since it was looked for
         Err(e) if e.kind() == ErrorKind::AlreadyExists => return Err(DiskFault::Locked),
-        Err(_) => return Err(DiskFault::Failed),
+        Err(e) => return Err(failed(e)),
     };
     lock_file(&file)?;
     match is_at(files, &file, new) {
         Ok(true) => Ok(file),
         Ok(false) => Err(DiskFault::Locked),
-        Err(_) => Err(DiskFault::Failed),
+        Err(e) => Err(failed(e)),
     }
 }

@@ -1,6 +1,7 @@
 //! What a run put in place reaches the device before its archive says so.
 ghost use Rattle.std.specs.Prelude.{◌≡◌, ◌⊎◌, [], All, Any, IfErr, IfNone, IfOk, IfSome};
 ghost use Rattle.std.specs.String.{string_bytes};
+ghost use Rattle.ts_cause.specs.declared.cause.Cause.{Cause};
 ghost use Rattle.ts_disk.specs.Flushing.{IsAboveAt};
 
 use crate::fault::DiskFault;
@@ -10,6 +11,7 @@ use std::fs::Files;
 use std::io::ErrorKind;
 use std::thread;
 use std::thread::Threads;
+use ts_cause::{Cause, cause_of};
 use ts_name::Path;
 
 /// Waits until the directories in which these paths of a replica stand have reached the device, by up to so many threads. One
@@ -24,7 +26,7 @@ pub fn flush_above<R: Threads + Sync>(
     paths: &[&Path],
     workers: u32,
 ) -> Result<(), DiskFault>
-    ensures fault { IfErr result (λ e. (e ≡ DiskFault.OutOfMemory) ⊎ (e ≡ DiskFault.Failed)) }
+    ensures fault { IfErr result (λ e. (e ≡ DiskFault.OutOfMemory) ⊎ ((cause : Cause) × (e ≡ DiskFault.Failed cause))) }
 {
     let places = places_above(alloc, root, paths)?;
     let places = places.as_slice();
@@ -38,11 +40,12 @@ pub fn flush_above<R: Threads + Sync>(
         workers,
         &|worker: usize| { flush_each(files, places, worker, workers) },
     )?;
-    if flushed.as_slice().iter().all(|well| *well) {
-        Ok(())
-    } else {
-        Err(DiskFault::Failed)
+    for failed in flushed.as_slice() {
+        if let Some(cause) = failed {
+            return Err(DiskFault::Failed { cause: *cause });
+        }
     }
+    Ok(())
 }
 
 /// The places of the directories in which these paths stand, each once.
@@ -75,14 +78,15 @@ fn place_above(alloc: Global, root: &str, path: &Path) -> Result<Option<String>,
     }
 }
 
-/// Flushes each of so many places, from this one on.
-fn flush_each<R: Files>(files: &R, places: &[String], start: usize, step: usize) -> bool {
-    let mut well = true;
+/// Flushes each of so many places, from this one on. Answers why the last of them failed that did.
+fn flush_each<R: Files>(files: &R, places: &[String], start: usize, step: usize) -> Option<Cause> {
+    let mut failed = None;
     for place in places.iter().skip(start).step_by(step.max(1)) {
         match flush_dir(files, place.as_str()) {
             Ok(()) => {}
-            Err(e) => well = well && e.kind() == ErrorKind::NotFound,
+            Err(e) if e.kind() == ErrorKind::NotFound => {}
+            Err(e) => failed = Some(cause_of(&e)),
         }
     }
-    well
+    failed
 }

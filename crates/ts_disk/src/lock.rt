@@ -2,7 +2,7 @@
 ghost use Rattle.std.specs.Prelude.{◌≡◌, ◌++◌, IfOk, IfSome, codes};
 ghost use Rattle.std.specs.String.{string_bytes};
 
-use crate::fault::DiskFault;
+use crate::fault::{DiskFault, failed, own_failed};
 use crate::modes::PRIVATE_FILE;
 use crate::place::{Standing, is_same, look_at, make_own, mark_used, own_place};
 use crate::plan_file::holds_plan;
@@ -11,6 +11,7 @@ use std::fs::{File, Files, OpenOptions, TryLockError};
 use std::io::ErrorKind;
 use std::os::unix::fs::OpenOptionsExt;
 use std::{fs, io};
+use ts_cause::Cause;
 
 /// How often the lock is tried where another run takes the program's directory away in between.
 const TRIES: u32 = 10;
@@ -52,7 +53,7 @@ impl Lock {
         if self.took_part {
             return Ok(());
         }
-        mark_used(files, self.own.as_str()).map_err(|_| DiskFault::Failed)
+        mark_used(files, self.own.as_str()).map_err(failed)
     }
 
     /// Removes the lock's file, and then gives the lock up. The file stays where it can't be removed, which hurts no later run.
@@ -88,10 +89,19 @@ pub fn take_lock<R: Files<File = File>>(
     let own = own_place(alloc, root)?;
     let place = format!(in alloc; "{own}/lock")?;
     for _ in 0..TRIES {
-        let took_part = make_own(files, own.as_str()).map_err(|_| DiskFault::Own)?;
-        match look_at(files, place.as_str(), root.len()).map_err(|_| DiskFault::Own)? {
+        let took_part = make_own(files, own.as_str()).map_err(own_failed)?;
+        match look_at(files, place.as_str(), root.len()).map_err(own_failed)? {
             Standing::Nothing | Standing::File | Standing::CutOff => {}
-            Standing::Dir | Standing::Other => return Err(DiskFault::Own),
+            Standing::Dir => {
+                return Err(DiskFault::Own {
+                    cause: Cause::IsFolder,
+                });
+            }
+            Standing::Other => {
+                return Err(DiskFault::Own {
+                    cause: Cause::Unknown,
+                });
+            }
         }
         let was_stopped = holds_plan(files, alloc, root)?;
         if let Some(file) = open_locked(files, place.as_str())? {
@@ -104,7 +114,7 @@ pub fn take_lock<R: Files<File = File>>(
             }));
         }
     }
-    Err(DiskFault::Own)
+    Err(DiskFault::Own { cause: Cause::Busy })
 }
 
 /// Whether a root is a directory, or a link to one. What can't be looked at may be one.
@@ -114,7 +124,7 @@ fn is_directory<R: Files>(files: &R, root: &str) -> Result<bool, DiskFault> {
         Err(e) => match e.kind() {
             ErrorKind::NotFound | ErrorKind::NotADirectory => Ok(false),
             ErrorKind::OutOfMemory => Err(DiskFault::OutOfMemory),
-            _ => Err(DiskFault::Failed),
+            _ => Err(failed(e)),
         },
     }
 }
@@ -126,17 +136,17 @@ fn open_locked<R: Files<File = File>>(files: &R, place: &str) -> Result<Option<F
     let file = match options.open(files, place) {
         Ok(file) => file,
         Err(e) if e.kind() == ErrorKind::NotFound => return Ok(None),
-        Err(_) => return Err(DiskFault::Own),
+        Err(e) => return Err(own_failed(e)),
     };
     match lock_file(&file) {
-        Err(DiskFault::Failed) => return Err(DiskFault::Own),
+        Err(DiskFault::Failed { cause }) => return Err(DiskFault::Own { cause }),
         locked => locked?,
     }
     // A run that ended since the file was opened has removed it, and another one may hold the lock of a new file there.
     match is_at(files, &file, place) {
         Ok(true) => Ok(Some(file)),
         Ok(false) => Err(DiskFault::Locked),
-        Err(_) => Err(DiskFault::Own),
+        Err(e) => Err(own_failed(e)),
     }
 }
 
@@ -145,7 +155,7 @@ pub(crate) fn lock_file(file: &File) -> Result<(), DiskFault> {
     match file.try_lock() {
         Ok(()) => Ok(()),
         Err(TryLockError::WouldBlock) => Err(DiskFault::Locked),
-        Err(TryLockError::Error(_)) => Err(DiskFault::Failed),
+        Err(TryLockError::Error(e)) => Err(failed(e)),
     }
 }
 

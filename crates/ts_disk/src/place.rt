@@ -115,9 +115,9 @@ pub(crate) fn is_same(one: &Metadata, other: &Metadata) -> bool {
 pub(crate) fn make_own<R: Files>(files: &R, own: &str) -> io::Result<bool> {
     let mut builder = DirBuilder::new();
     builder.mode(PRIVATE_DIR | UNUSED);
-    if builder.create(files, own).is_ok() {
+    let Err(e) = builder.create(files, own) else {
         return Ok(false);
-    }
+    };
     match metadata_at(files, own)? {
         Some(metadata) if metadata.is_dir() => {
             let mode = metadata.mode();
@@ -127,7 +127,7 @@ pub(crate) fn make_own<R: Files>(files: &R, own: &str) -> io::Result<bool> {
             }
             Ok(mode & UNUSED == 0)
         }
-        _ => Err(io::Error::from(ErrorKind::NotADirectory)),
+        _ => Err(e),
     }
 }
 

@@ -3,7 +3,7 @@ ghost use Rattle.std.specs.Prelude.{◌≡◌, ◌++◌, IfOk, codes};
 ghost use Rattle.std.specs.String.{string_bytes};
 ghost use Rattle.ts_model.specs.Texts.{IsPlan};
 
-use crate::fault::DiskFault;
+use crate::fault::{DiskFault, failed, own_failed, unusable, unwritten};
 use crate::modes::PRIVATE_FILE;
 use crate::place::{Standing, flush_dir, kind_at, make_own, own_place};
 use std::alloc::{AllocError, Global};
@@ -36,19 +36,19 @@ pub fn save_plan<R: Files>(
     requires { IsPlan plan.now }
 {
     let own = own_place(alloc, root)?;
-    make_own(files, own.as_str()).map_err(|_| DiskFault::Failed)?;
+    make_own(files, own.as_str()).map_err(failed)?;
     let place = plan_place(alloc, root)?;
     let new = format!(in alloc; "{place}.new")?;
-    remove_at(files, new.as_str()).map_err(|_| DiskFault::Failed)?;
+    remove_at(files, new.as_str()).map_err(failed)?;
     let saved = match write_plan(files, alloc, new.as_str(), plan) {
-        Ok(()) => { fs::rename(files, new.as_str(), place.as_str()).map_err(|_| DiskFault::Failed) }
+        Ok(()) => { fs::rename(files, new.as_str(), place.as_str()).map_err(failed) }
         Err(fault) => Err(fault),
     };
     if saved.is_err() {
         let _ = remove_at(files, new.as_str());
     }
     saved?;
-    flush_dir(files, own.as_str()).map_err(|_| DiskFault::Failed)
+    flush_dir(files, own.as_str()).map_err(failed)
 }
 
 /// Whether a plan file lies in a replica.
@@ -58,7 +58,7 @@ pub(crate) fn holds_plan<R: Files>(
     root: &str,
 ) -> Result<bool, DiskFault> {
     let place = plan_place(alloc, root)?;
-    Ok(kind_at(files, place.as_str()).map_err(|_| DiskFault::Own)? == Standing::File)
+    Ok(kind_at(files, place.as_str()).map_err(own_failed)? == Standing::File)
 }
 
 /// Writes a plan where nothing is, and waits until it has reached the device.
@@ -67,25 +67,22 @@ fn write_plan<R: Files>(files: &R, alloc: Global, place: &str, plan: &Plan) -> R
 {
     let mut options = OpenOptions::new();
     options.write(true).create_new(true).mode(PRIVATE_FILE);
-    let file = options.open(files, place).map_err(|_| DiskFault::Failed)?;
+    let file = options.open(files, place).map_err(failed)?;
     let out = BufWriter::new(alloc, file).map_err(|_| DiskFault::OutOfMemory)?;
     let mut sink = Counted::new(out);
     match ts_plan::encode(alloc, plan, &mut sink) {
         Ok(()) => {}
         Err(PlanFault::OutOfMemory) => return Err(DiskFault::OutOfMemory),
-        Err(_) => return Err(DiskFault::Failed),
+        Err(_) => return Err(unwritten(&mut sink.inner)),
     }
-    sink.inner.flush().map_err(|_| DiskFault::Failed)?;
-    sink.inner
-        .get_ref()
-        .sync_all()
-        .map_err(|_| DiskFault::Failed)
+    sink.inner.flush().map_err(failed)?;
+    sink.inner.get_ref().sync_all().map_err(failed)
 }
 
 /// Removes the plan file of a replica, or a link in its place, if it is there.
 pub fn remove_plan<R: Files>(files: &R, alloc: Global, root: &str) -> Result<(), DiskFault> {
     let place = plan_place(alloc, root)?;
-    remove_at(files, place.as_str()).map_err(|_| DiskFault::Failed)
+    remove_at(files, place.as_str()).map_err(failed)
 }
 
 /// Removes a file or a link, if one is at a place.
@@ -111,11 +108,11 @@ pub(crate) fn read_plan<R: Files>(
 /// The plan file of a replica, opened to be read. None where no file has its name.
 fn open_plan<R: Files>(files: &R, alloc: Global, root: &str) -> Result<Option<R::File>, DiskFault> {
     let place = plan_place(alloc, root)?;
-    match kind_at(files, place.as_str()).map_err(|_| DiskFault::Failed)? {
+    match kind_at(files, place.as_str()).map_err(failed)? {
         Standing::File => {}
         Standing::Nothing | Standing::CutOff | Standing::Dir | Standing::Other => return Ok(None),
     }
-    let file = fs::open(files, place.as_str()).map_err(|_| DiskFault::Failed)?;
+    let file = fs::open(files, place.as_str()).map_err(failed)?;
     Ok(Some(file))
 }
 
@@ -131,7 +128,7 @@ fn plan_of<S: Source>(alloc: Global, lines: &mut Lines<S>) -> Result<Option<Plan
     match ts_plan::decode(alloc, lines) {
         Ok(plan) => Ok(Some(plan)),
         Err(PlanFault::OutOfMemory) => Err(DiskFault::OutOfMemory),
-        Err(PlanFault::Failed) => Err(DiskFault::Failed),
+        Err(PlanFault::Failed) => Err(unusable()),
         Err(PlanFault::NotCanonical | PlanFault::PastLimit) => Ok(None),
     }
 }

@@ -6,7 +6,7 @@ ghost use Rattle.std.specs.String.{string_bytes};
 ghost use Rattle.ts_disk.specs.Names.{IsSpotOf};
 ghost use Rattle.ts_disk.specs.Swaps.{AddsNotices, IsCopiedInto, IsNoneCopied, IsOfCopied, IsPathCopied, IsTargetOf, notice_path};
 
-use crate::fault::DiskFault;
+use crate::fault::{DiskFault, device_failed};
 use crate::leftover::{Aside, remove_trash};
 use crate::names::{kept_number, spot_number};
 use crate::notice::Notice;
@@ -18,6 +18,7 @@ use std::alloc::Global;
 use std::fs;
 use std::fs::Files;
 use std::io::ErrorKind;
+use ts_cause::Cause;
 use ts_model::plan::{Entry, Plan, Side};
 use ts_name::Path;
 
@@ -37,7 +38,9 @@ pub fn check_leftovers<R: Files + AllocGlobal + Clone + Drop>(
     }
     match read_plan(files, alloc, root)? {
         Some(plan) if are_copied(&plan, &taken) => Ok(()),
-        _ => Err(DiskFault::Device),
+        _ => Err(DiskFault::Device {
+            cause: Cause::Unknown,
+        }),
     }
 }
 
@@ -147,7 +150,7 @@ fn own_names<R: Files + AllocGlobal + Clone + Drop>(
     root: &str,
 ) -> Result<Vec<String>, DiskFault> {
     let own = own_place(alloc, root)?;
-    match look_at(files, own.as_str(), root.len()).map_err(|_| DiskFault::Device)? {
+    match look_at(files, own.as_str(), root.len()).map_err(device_failed)? {
         Standing::Dir => names_in(files, alloc, own.as_str()),
         Standing::Nothing | Standing::CutOff | Standing::File | Standing::Other => {
             Ok(Vec::new(alloc))
@@ -162,11 +165,11 @@ fn names_in<R: Files + AllocGlobal + Clone + Drop>(
     place: &str,
 ) -> Result<Vec<String>, DiskFault> {
     let mut names = Vec::new(alloc);
-    for found in fs::read_dir(files, place).map_err(|_| DiskFault::Device)? {
+    for found in fs::read_dir(files, place).map_err(device_failed)? {
         match found {
             Ok(found) => names.push(String::from_str(alloc, found.file_name())?)?,
             Err(e) if e.kind() == ErrorKind::InvalidFilename => {}
-            Err(_) => return Err(DiskFault::Device),
+            Err(e) => return Err(device_failed(e)),
         }
     }
     Ok(names)
@@ -208,7 +211,7 @@ fn end_swap<R: Files + AllocGlobal + Clone + Drop>(
         Ok(Aside::Cleared) => Ok(None),
         Ok(Aside::Discarded) => Ok(Some(Notice::Discarded { path })),
         Ok(Aside::Kept { place }) => Ok(Some(Notice::Kept { path, place })),
-        Err(_) => Err(DiskFault::Device),
+        Err(e) => Err(device_failed(e)),
     }
 }
 
@@ -231,7 +234,7 @@ fn end_keeping<R: Files + AllocGlobal + Clone + Drop>(
     };
     match places.keep_named(name) {
         Ok(place) => Ok(Some(Notice::Kept { path, place })),
-        Err(_) => Err(DiskFault::Device),
+        Err(e) => Err(device_failed(e)),
     }
 }
 

@@ -12,10 +12,10 @@ use Rattle.ts_explain.specs.declared.subject.Subject.TheVariants.{Archive, Holds
 abbrev pub fault_number : PerformFault → ℕ
 fault_number fault.OutOfMemory = 1
 fault_number (fault.Failed what why) = 5
-fault_number (fault.Own what) = 5
+fault_number (fault.Own what cause) = 5
 fault_number (fault.NotCanonical what) = 6
 fault_number fault.WrongEnd = 7
-fault_number (fault.Device what) = 8
+fault_number (fault.Device what cause) = 8
 fault_number (fault.Locked what) = 8
 fault_number (fault.NotThere what) = 9
 fault_number (fault.New what paths) = 9
@@ -33,10 +33,10 @@ place_of other = None
 abbrev pub subject_of : PerformFault → Option Subject
 subject_of fault.OutOfMemory = None
 subject_of (fault.Failed what why) = Some what
-subject_of (fault.Own what) = Some what
+subject_of (fault.Own what cause) = Some what
 subject_of (fault.NotCanonical what) = Some what
 subject_of fault.WrongEnd = Some Archive
-subject_of (fault.Device what) = Some what
+subject_of (fault.Device what cause) = Some what
 subject_of (fault.Locked what) = Some what
 subject_of (fault.NotThere what) = Some what
 subject_of (fault.New what paths) = Some what
@@ -55,7 +55,7 @@ own_path = codes ".twosync" ∷ []
 
 -- the path that a fault is told with
 abbrev pub told_path : PerformFault → Option Path
-told_path (fault.Own what) = Some own_path
+told_path (fault.Own what cause) = Some own_path
 told_path other = place_of other
 
 -- the number, and the path where there is one other than the root

@@ -1,8 +1,10 @@
 -- What is said of faults, in sentences for people.
 --     about job what end      a file or a folder that a command names, and what is said of it
+--     because job what text hint cause   what is said of it, and why; where that is unknown, the hint in its place
 --     sentence_of job fault   what is said of a fault of a command
 use Rattle.std.specs.Prelude.{ℕ, Bool, true, false, if◌then◌else◌, List, [], ◌∷◌, codes, decimal, nat_lt}
 use Rattle.ts_name.specs.Paths.{Path, path_text}
+use Rattle.ts_cause.specs.declared.cause.Cause.{Cause}
 use Rattle.ts_command.specs.declared.job.Job.{Job}
 use Rattle.ts_model.specs.declared.plan.PlanRule.{PlanRule}
 use Rattle.ts_model.specs.declared.plan.PlanRule.TheVariants as rule
@@ -11,8 +13,8 @@ use Rattle.ts_scan.specs.declared.fault.Refusal.{Refusal}
 use Rattle.ts_scan.specs.declared.fault.Refusal.TheVariants as refusal
 use Rattle.ts_scan.specs.declared.fault.ScanFault.{ScanFault}
 use Rattle.ts_scan.specs.declared.fault.ScanFault.TheVariants as scan
-use Rattle.ts_explain.specs.Pieces.{said}
-use Rattle.ts_explain.specs.Subjects.{name_in, noun, reason_text}
+use Rattle.ts_explain.specs.Pieces.{reason_text, said}
+use Rattle.ts_explain.specs.Subjects.{name_in, noun, why_cause, why_hint, why_text}
 use Rattle.ts_explain.specs.declared.fault.PerformFault.{PerformFault}
 use Rattle.ts_explain.specs.declared.fault.PerformFault.TheVariants as fault
 use Rattle.ts_explain.specs.declared.subject.Subject.{Subject}
@@ -20,6 +22,9 @@ use Rattle.ts_explain.specs.declared.subject.Subject.TheVariants as subject
 
 abbrev pub about : Job → Subject → List ℕ → List ℕ
 about job what end = said (noun what ∷ shown 0 (name_in job what) ∷ end ∷ [])
+
+abbrev pub because : Job → Subject → (text hint : List ℕ) → Cause → List ℕ
+because job what text hint cause = said (noun what ∷ shown 0 (name_in job what) ∷ text ∷ reason_text hint cause ∷ [])
 
 abbrev pub memory_text : List ℕ
 memory_text = codes "Memory ran out."
@@ -87,11 +92,11 @@ scan_text job what (scan.At path refusal) =
 
 abbrev pub sentence_of : Job → PerformFault → List ℕ
 sentence_of job fault.OutOfMemory = memory_text
-sentence_of job (fault.Failed what why) = about job what (reason_text why)
-sentence_of job (fault.Own what) = about job what (codes "/.twosync can't be made or used: who owns it?")
+sentence_of job (fault.Failed what why) = because job what (why_text why) (why_hint why) (why_cause why)
+sentence_of job (fault.Own what cause) = because job what (codes "/.twosync can't be made or used") (codes ": who owns it?") cause
 sentence_of job (fault.NotCanonical what) = about job what (codes " is malformed: was it cut short, or changed by hand?")
 sentence_of job fault.WrongEnd = about job subject.Archive (codes " was cut short, or changed by hand: its last line doesn't fit those before it.")
-sentence_of job (fault.Device what) = about job what (codes ": its device failed, or what a stopped run left can't be finished.")
+sentence_of job (fault.Device what cause) = because job what (codes ": its device failed, or what a stopped run left can't be finished") (codes ".") cause
 sentence_of job (fault.Locked what) = about job what (codes " is in use by another run.")
 sentence_of job (fault.NotThere what) = about job what (missing_text what)
 sentence_of job (fault.New what paths) = new_text job what paths

@@ -1,9 +1,13 @@
 -- What faults are about.
 --     noun what               what stands before the name of a file or a folder
 --     name_in job what        its name in a command, or none
---     reason_text why         what is said of one that can't be read or written
+--     why_text why            what is said of one that can't be read or written
+--     why_hint why            how that ends where no cause is known
+--     why_cause why           why the system's call failed
 use Rattle.std.specs.Prelude.{ℕ, List, [], Option, Some, None, codes}
 use Rattle.std.specs.Borrow.{Bor}
+use Rattle.ts_cause.specs.declared.cause.Cause.{Cause}
+use Rattle.ts_cause.specs.declared.cause.Cause.TheVariants.{Unknown}
 use Rattle.ts_command.specs.declared.job.Job.{Job}
 use Rattle.ts_command.specs.declared.job.Job.TheVariants as job
 use Rattle.ts_command.specs.declared.job.Pair.{Pair}
@@ -56,8 +60,20 @@ name_in (job.Check pair plan) what = name_of pair plan.now what
 name_in (job.Run pair plan) what = name_of pair plan.now what
 name_in (job.Sync pair) what = name_of pair [] what
 
-abbrev pub reason_text : Why → List ℕ
-reason_text why.Denied = codes " can't be opened: the system doesn't allow it."
-reason_text why.NotFile = codes " isn't a file."
-reason_text why.Unread = codes " can't be read."
-reason_text why.Unwritten = codes " can't be written: is its disk full or read-only, or its folder not there?"
+abbrev pub why_text : Why → List ℕ
+why_text why.Denied = codes " can't be opened"
+why_text why.NotFile = codes " isn't a file"
+why_text (why.Unread cause) = codes " can't be read"
+why_text (why.Unwritten cause) = codes " can't be written"
+
+abbrev pub why_hint : Why → List ℕ
+why_hint why.Denied = codes ": the system doesn't allow it."
+why_hint why.NotFile = codes "."
+why_hint (why.Unread cause) = codes "."
+why_hint (why.Unwritten cause) = codes ": is its disk full or read-only, or its folder not there?"
+
+abbrev pub why_cause : Why → Cause
+why_cause why.Denied = Unknown
+why_cause why.NotFile = Unknown
+why_cause (why.Unread cause) = cause
+why_cause (why.Unwritten cause) = cause

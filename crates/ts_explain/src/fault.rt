@@ -7,6 +7,7 @@ ghost use Rattle.ts_explain.specs.declared.fault.PerformFault.TheVariants as fau
 use crate::subject::{Subject, Why};
 use std::alloc::{AllocError, AllocFailed};
 use thiserror::Error;
+use ts_cause::Cause;
 use ts_model::plan::PlanRule;
 use ts_name::Path;
 use ts_scan::ScanFault;
@@ -22,7 +23,7 @@ pub enum PerformFault {
     Failed { what: Subject, why: Why },
     /// The program's own directory in a replica can't be made or used, as where it belongs to another user.
     #[error("the replica's .twosync can't be made or used")]
-    Own { what: Subject },
+    Own { what: Subject, cause: Cause },
     /// A plan or an archive isn't spelled as it has to be.
     #[error("not canonical")]
     NotCanonical { what: Subject },
@@ -31,7 +32,7 @@ pub enum PerformFault {
     WrongEnd,
     /// The device of a replica failed.
     #[error("device failed")]
-    Device { what: Subject },
+    Device { what: Subject, cause: Cause },
     /// Another run works on a replica or on the archive.
     #[error("in use by another run")]
     Locked { what: Subject },

@@ -1,8 +1,9 @@
 //! Sentences, piece after piece.
 ghost use Rattle.std.specs.Prelude.{◌≡◌, ◌++◌, OnOk, map};
-ghost use Rattle.ts_explain.specs.Pieces.{piece_text, said};
+ghost use Rattle.ts_explain.specs.Pieces.{piece_text, reason_text, said};
 
 use std::alloc::{AllocError, Global};
+use ts_cause::Cause;
 use ts_name::Path;
 use ts_preview::push_shown;
 use ts_text::push_decimal;
@@ -16,6 +17,8 @@ pub enum Piece<'a> {
     /// The same of a path in a replica. The root has no text.
     Below(&'a Path),
     Number(u64),
+    /// Why something failed, which ends a sentence; where no cause is known, a hint in its place.
+    Reason { hint: &'a [u8], cause: Cause },
 }
 
 /// Appends the pieces, one after another.
@@ -47,5 +50,19 @@ fn push_piece(alloc: Global, piece: &Piece<'_>, line: &mut Vec<u8>) -> Result<()
             push_shown(&text, line)
         }
         Piece::Number(number) => push_decimal(line, *number),
+        Piece::Reason { hint, cause } => push_reason(hint, *cause, line),
     }
+}
+
+/// Appends why something failed, or a hint.
+fn push_reason(hint: &[u8], cause: Cause, line: &mut Vec<u8>) -> Result<(), AllocError>
+    ensures { OnOk result (line.new.items ≡ line.old.items ++ reason_text hint.now cause) }
+{
+    if !cause.is_known() {
+        return line.extend_from_slice(hint);
+    }
+    line.extend_from_slice(b": ")?;
+    line.extend_from_slice(cause.text())?;
+    line.push(b'.')?;
+    Ok(())
 }

@@ -1,12 +1,14 @@
 //! What a fault means, in a sentence that names what it is about.
 ghost use Rattle.std.specs.Prelude.{◌≡◌, ◌++◌, OnOk};
-ghost use Rattle.ts_explain.specs.Sentences.{about, bad_line_text, bad_rule_text, broken_text, missing_text, new_text, refusal_text, scan_text, sentence_of, unreadable_text};
+ghost use Rattle.ts_explain.specs.Sentences.{about, bad_line_text, bad_rule_text, because, broken_text, missing_text, new_text, refusal_text, scan_text, sentence_of, unreadable_text};
+ghost use Rattle.ts_explain.specs.Subjects.{why_cause, why_hint, why_text};
 
 use crate::fault::PerformFault;
 use crate::pieces::{Piece, push_pieces};
 use crate::rules::rule_text;
-use crate::subject::Subject;
+use crate::subject::{Subject, Why};
 use std::alloc::{AllocError, Global};
+use ts_cause::Cause;
 use ts_command::Job;
 use ts_model::plan::PlanRule;
 use ts_scan::{Refusal, ScanFault};
@@ -16,14 +18,18 @@ const MOST_RULES: u64 = 4096;
 
 const MEMORY: &[u8] = b"Memory ran out.";
 
-const OWN: &[u8] = b"/.twosync can't be made or used: who owns it?";
+const OWN: &[u8] = b"/.twosync can't be made or used";
+
+const OWN_HINT: &[u8] = b": who owns it?";
 
 const MALFORMED: &[u8] = b" is malformed: was it cut short, or changed by hand?";
 
 const WRONG_END: &[u8] =
     b" was cut short, or changed by hand: its last line doesn't fit those before it.";
 
-const DEVICE: &[u8] = b": its device failed, or what a stopped run left can't be finished.";
+const DEVICE: &[u8] = b": its device failed, or what a stopped run left can't be finished";
+
+const STOP: &[u8] = b".";
 
 const LOCKED: &[u8] = b" is in use by another run.";
 
@@ -46,11 +52,15 @@ pub fn push_sentence(
 {
     match fault {
         PerformFault::OutOfMemory => line.extend_from_slice(MEMORY),
-        PerformFault::Failed { what, why } => push_about(alloc, job, *what, why.text(), line),
-        PerformFault::Own { what } => push_about(alloc, job, *what, OWN, line),
+        PerformFault::Failed { what, why } => push_failed(alloc, job, *what, *why, line),
+        PerformFault::Own { what, cause } => push_because(
+            alloc, job, *what, OWN, OWN_HINT, *cause, line,
+        ),
         PerformFault::NotCanonical { what } => push_about(alloc, job, *what, MALFORMED, line),
         PerformFault::WrongEnd => push_about(alloc, job, Subject::Archive, WRONG_END, line),
-        PerformFault::Device { what } => push_about(alloc, job, *what, DEVICE, line),
+        PerformFault::Device { what, cause } => push_because(
+            alloc, job, *what, DEVICE, STOP, *cause, line,
+        ),
         PerformFault::Locked { what } => push_about(alloc, job, *what, LOCKED, line),
         PerformFault::NotThere { what } => push_about(alloc, job, *what, missing_text(*what), line),
         PerformFault::New { what, paths } => push_new(alloc, job, *what, *paths, line),
@@ -76,6 +86,40 @@ fn push_about(
         Piece::Words(what.noun()),
         Piece::Name(what.name_in(job)),
         Piece::Words(end),
+    ];
+    push_pieces(alloc, &pieces, line)
+}
+
+/// Appends what is said of a file or a folder that can't be read or written, and why.
+fn push_failed(
+    alloc: Global,
+    job: &Job<'_>,
+    what: Subject,
+    why: Why,
+    line: &mut Vec<u8>,
+) -> Result<(), AllocError>
+    ensures { OnOk result (line.new.items ≡ line.old.items ++ because job.now what (why_text why) (why_hint why) (why_cause why)) }
+{
+    push_because(alloc, job, what, why.text(), why.hint(), why.cause(), line)
+}
+
+/// Appends what is said of a file or a folder, after its name, and why; where that is unknown, the hint in its place.
+fn push_because(
+    alloc: Global,
+    job: &Job<'_>,
+    what: Subject,
+    text: &[u8],
+    hint: &[u8],
+    cause: Cause,
+    line: &mut Vec<u8>,
+) -> Result<(), AllocError>
+    ensures { OnOk result (line.new.items ≡ line.old.items ++ because job.now what text.now hint.now cause) }
+{
+    let pieces = [
+        Piece::Words(what.noun()),
+        Piece::Name(what.name_in(job)),
+        Piece::Words(text),
+        Piece::Reason { hint, cause },
     ];
     push_pieces(alloc, &pieces, line)
 }

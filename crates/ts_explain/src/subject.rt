@@ -1,7 +1,8 @@
 //! What a fault is about.
 ghost use Rattle.std.specs.Prelude.{◌≡◌};
-ghost use Rattle.ts_explain.specs.Subjects.{name_in, name_of, name_of_archive, name_of_folder, noun, reason_text};
+ghost use Rattle.ts_explain.specs.Subjects.{name_in, name_of, name_of_archive, name_of_folder, noun, why_cause, why_hint, why_text};
 
+use ts_cause::Cause;
 use ts_command::{Job, Pair};
 
 /// A file or a folder that a command names, or what it reads or writes otherwise.
@@ -26,10 +27,10 @@ pub enum Why {
     Denied,
     /// It is a directory, a device or a pipe.
     NotFile,
-    /// It can't be read, for another reason.
-    Unread,
-    /// It can't be written.
-    Unwritten,
+    /// It can't be read, for this reason of the system.
+    Unread { cause: Cause },
+    /// It can't be written, for this reason of the system.
+    Unwritten { cause: Cause },
 }
 
 impl Subject {
@@ -100,15 +101,34 @@ impl Subject {
 impl Why {
     /// What is said of it after the name.
     pub(crate) fn text(self) -> &'static [u8]
-        ensures { result.now ≡ reason_text self }
+        ensures { result.now ≡ why_text self }
     {
         match self {
-            Why::Denied => b" can't be opened: the system doesn't allow it.",
-            Why::NotFile => b" isn't a file.",
-            Why::Unread => b" can't be read.",
-            Why::Unwritten => {
-                b" can't be written: is its disk full or read-only, or its folder not there?"
-            }
+            Why::Denied => b" can't be opened",
+            Why::NotFile => b" isn't a file",
+            Why::Unread { .. } => b" can't be read",
+            Why::Unwritten { .. } => b" can't be written",
+        }
+    }
+
+    /// How that ends where no cause is known.
+    pub(crate) fn hint(self) -> &'static [u8]
+        ensures { result.now ≡ why_hint self }
+    {
+        match self {
+            Why::Denied => b": the system doesn't allow it.",
+            Why::NotFile | Why::Unread { .. } => b".",
+            Why::Unwritten { .. } => b": is its disk full or read-only, or its folder not there?",
+        }
+    }
+
+    /// Why the system's call failed.
+    pub(crate) fn cause(self) -> Cause
+        ensures { result ≡ why_cause self }
+    {
+        match self {
+            Why::Denied | Why::NotFile => Cause::Unknown,
+            Why::Unread { cause } | Why::Unwritten { cause } => cause,
         }
     }
 }

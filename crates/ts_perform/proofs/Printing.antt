@@ -7,6 +7,7 @@ use Rattle.ts_text.specs.declared.fault.TextFault.TheVariants as text_fault
 use Rattle.ts_model.specs.Plans.{Broken, Valid}
 use Rattle.ts_model.specs.Texts.{text}
 use Rattle.ts_model.specs.declared.plan.PlanRule.{PlanRule}
+use Rattle.ts_cause.specs.declared.cause.Cause.TheVariants.{Unknown}
 use Rattle.ts_check.specs.Checkup.{Checkup, snapshot_of}
 use Rattle.ts_explain.specs.declared.subject.Subject.TheVariants.{Output}
 use Rattle.ts_explain.specs.declared.subject.Why.TheVariants.{Unwritten}
@@ -32,7 +33,7 @@ use Rattle.ts_explain.specs.declared.fault.PerformFault.TheVariants as fault
 memory_quiet : (e : PerformFault) → e ≡ fault.OutOfMemory → IsQuiet e
 memory_quiet e is = λ rule place is'. cc
 
-text_quiet : (e : TextFault) → IsQuiet (fault_of_text Output Unwritten e)
+text_quiet : (e : TextFault) → IsQuiet (fault_of_text Output (Unwritten Unknown) e)
 text_quiet text_fault.OutOfMemory = λ rule place is. cc
 text_quiet text_fault.Failed = λ rule place is. cc
 text_quiet text_fault.NotCanonical = λ rule place is. cc
@@ -49,7 +50,7 @@ pub valid_told : (k : Checkup) (old new : Option (List ℕ)) → Valid (snapshot
 valid_told k old new valid told = ((k, refl, valid), refl, told)
 
 pub valid_begun : (k : Checkup) (old new : Option (List ℕ)) (e : TextFault) → Valid (snapshot_of k) k.plan → AppendsFront old new valid_text
-    → Judges (λ k'. k' ≡ k) old new (Err (fault_of_text Output Unwritten e))
+    → Judges (λ k'. k' ≡ k) old new (Err (fault_of_text Output (Unwritten Unknown) e))
 valid_begun k old new e valid begun = record {
   broken = λ rule place is. absurd (text_quiet e rule place is);
   other = λ quiet. inr ((k, refl, valid), begun);
@@ -77,7 +78,7 @@ judges_less Is Less old new (Err e) less judged = record {
 -- a preview was written in part
 pub preview_begun : (s : Snapshot) (plan : Plan) (json : Bool) (all : List Outlook) (old new : Option (List ℕ)) (e : TextFault) → IsPlanned (checkup_of s plan)
     → AreOutlooks s.archive s.first s.second plan.entries all → AppendsFront old new (text (preview_lines (form_of json) all))
-    → Prints (IsPreviewOf s json) old new (Err (fault_of_text Output Unwritten e))
+    → Prints (IsPreviewOf s json) old new (Err (fault_of_text Output (Unwritten Unknown) e))
 preview_begun s plan json all old new e planned each begun =
     (text_quiet e, inr (text (preview_lines (form_of json) all), status_of (best_totals all), (plan, (all, planned, each, refl, refl)), begun))
 

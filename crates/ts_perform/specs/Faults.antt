@@ -3,6 +3,7 @@ use Rattle.std.specs.Prelude.{ℕ, List, ◌++◌, codes}
 use Rattle.ts_name.specs.Paths.{Path, path_text}
 use Rattle.ts_archive.specs.declared.fault.ArchiveFault.{ArchiveFault}
 use Rattle.ts_archive.specs.declared.fault.ArchiveFault.TheVariants as archive
+use Rattle.ts_cause.specs.declared.cause.Cause.TheVariants.{Unknown}
 use Rattle.ts_check.specs.declared.fault.CheckFault.{CheckFault}
 use Rattle.ts_check.specs.declared.fault.CheckFault.TheVariants as check
 use Rattle.ts_disk.specs.declared.fault.DiskFault.{DiskFault}
@@ -41,7 +42,7 @@ abbrev pub fault_of_open : Subject → OpenFault → PerformFault
 fault_of_open what opening.OutOfMemory = fault.OutOfMemory
 fault_of_open what opening.Denied = fault.Failed what Denied
 fault_of_open what opening.NotFile = fault.Failed what NotFile
-fault_of_open what opening.Failed = fault.Failed what Unread
+fault_of_open what (opening.Failed cause) = fault.Failed what (Unread cause)
 
 -- of a text about this, which is read or written
 abbrev pub fault_of_text : Subject → Why → TextFault → PerformFault
@@ -75,15 +76,15 @@ fault_of_check (check.Broken rule place) = fault.Broken rule place
 
 abbrev pub fault_of_trial : TrialFault → PerformFault
 fault_of_trial trial.OutOfMemory = fault.OutOfMemory
-fault_of_trial trial.Failed = fault.Failed Stream Unread
+fault_of_trial trial.Failed = fault.Failed Stream (Unread Unknown)
 
 -- of a replica or of the archive
 abbrev pub fault_of_disk : Subject → DiskFault → PerformFault
 fault_of_disk what disk.OutOfMemory = fault.OutOfMemory
-fault_of_disk what disk.Failed = fault.Failed what Unwritten
-fault_of_disk what disk.Device = fault.Device what
+fault_of_disk what (disk.Failed cause) = fault.Failed what (Unwritten cause)
+fault_of_disk what (disk.Device cause) = fault.Device what cause
 fault_of_disk what disk.Locked = fault.Locked what
-fault_of_disk what disk.Own = fault.Own what
+fault_of_disk what (disk.Own cause) = fault.Own what cause
 
 abbrev pub replica_on : Side → Subject
 replica_on side.First = First

@@ -13,6 +13,7 @@ use std::fs::{File, Files};
 use std::io::{ErrorKind, Read};
 use std::rt::Clock;
 use std::thread::Threads;
+use ts_cause::cause_of;
 use ts_disk::{ArchivePlace, DiskFault, DiskSite, Lock, claim_archive, flush_above, take_lock};
 use ts_folder::Folder;
 use ts_name::Path;
@@ -293,7 +294,9 @@ fn open_to_read<R: Files>(rt: &R, name: &str) -> Result<Option<R::File>, OpenFau
             ErrorKind::NotFound => Ok(None),
             ErrorKind::OutOfMemory => Err(OpenFault::OutOfMemory),
             ErrorKind::PermissionDenied => Err(OpenFault::Denied),
-            _ => Err(OpenFault::Failed),
+            _ => Err(OpenFault::Failed {
+                cause: cause_of(&e),
+            }),
         },
     }
 }

@@ -4,6 +4,7 @@ ghost use Rattle.ts_perform.specs.Faults.{fault_of_archive, fault_of_build, faul
 ghost use Rattle.ts_perform.specs.Faults.{fault_of_text, fault_of_trial, replica_on};
 
 use ts_archive::ArchiveFault;
+use ts_cause::Cause;
 use ts_check::CheckFault;
 use ts_disk::DiskFault;
 pub use ts_explain::{PerformFault, Subject, Why};
@@ -14,6 +15,16 @@ use ts_plan_build::BuildFault;
 use ts_text::TextFault;
 use ts_trial::TrialFault;
 
+/// That something can't be read, where a reader doesn't keep why.
+pub(crate) const UNREAD: Why = Why::Unread {
+    cause: Cause::Unknown,
+};
+
+/// That something can't be written, where a writer doesn't keep why.
+pub(crate) const UNWRITTEN: Why = Why::Unwritten {
+    cause: Cause::Unknown,
+};
+
 /// Why a file can't be opened.
 #[derive(Clone, Copy, Debug, PartialEq, Eq, Drop)]
 pub enum OpenFault {
@@ -23,8 +34,8 @@ pub enum OpenFault {
     Denied,
     /// It is a directory, a device or a pipe.
     NotFile,
-    /// It failed for another reason.
-    Failed,
+    /// It failed for this reason of the system.
+    Failed { cause: Cause },
 }
 
 /// The fault of a file that is opened.
@@ -35,7 +46,7 @@ pub(crate) fn of_open(fault: OpenFault, what: Subject) -> PerformFault
         OpenFault::OutOfMemory => return PerformFault::OutOfMemory,
         OpenFault::Denied => Why::Denied,
         OpenFault::NotFile => Why::NotFile,
-        OpenFault::Failed => Why::Unread,
+        OpenFault::Failed { cause } => Why::Unread { cause },
     };
     PerformFault::Failed { what, why }
 }
@@ -113,7 +124,7 @@ pub(crate) fn of_trial(fault: TrialFault) -> PerformFault
         TrialFault::OutOfMemory => PerformFault::OutOfMemory,
         TrialFault::Failed => PerformFault::Failed {
             what: Subject::Stream,
-            why: Why::Unread,
+            why: UNREAD,
         },
     }
 }
@@ -124,21 +135,21 @@ pub(crate) fn of_disk(fault: DiskFault, what: Subject) -> PerformFault
 {
     match fault {
         DiskFault::OutOfMemory => PerformFault::OutOfMemory,
-        DiskFault::Failed => PerformFault::Failed {
-            what,
-            why: Why::Unwritten,
-        },
-        DiskFault::Own => PerformFault::Own { what },
-        DiskFault::Device => PerformFault::Device { what },
+        DiskFault::Failed { cause } => {
+            let why = Why::Unwritten { cause };
+            PerformFault::Failed { what, why }
+        }
+        DiskFault::Own { cause } => PerformFault::Own { what, cause },
+        DiskFault::Device { cause } => PerformFault::Device { what, cause },
         DiskFault::Locked => PerformFault::Locked { what },
     }
 }
 
 /// The fault of what is written to standard output.
 pub(crate) fn on_output(fault: TextFault) -> PerformFault
-    ensures { result ≡ fault_of_text Subject.Output Why.Unwritten fault }
+    ensures { result ≡ fault_of_text Subject.Output (Why.Unwritten Cause.Unknown) fault }
 {
-    of_text(fault, Subject::Output, Why::Unwritten)
+    of_text(fault, Subject::Output, UNWRITTEN)
 }
 
 /// The replica on a side.

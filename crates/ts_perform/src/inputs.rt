@@ -9,7 +9,7 @@ ghost use Rattle.ts_perform.specs.Trials.{IsQuiet};
 
 use crate::counting::{Folders, scan_both_counted, scan_counted};
 use crate::disk::{Disk, Machine};
-use crate::fault::{PerformFault, Subject, Why, of_archive, of_hold, of_open, of_plan, of_text};
+use crate::fault::{PerformFault, Subject, UNREAD, of_archive, of_hold, of_open, of_plan, of_text};
 use crate::lengths::fault_below;
 use crate::snapshot::Snapshot;
 use crate::special::SpecialPaths;
@@ -57,7 +57,7 @@ pub(crate) fn read_archive<R: Disk + AllocGlobal>(
     let mut lines = lines_of(rt.alloc(), file)?;
     match ts_archive::decode(rt.alloc(), &mut lines) {
         Ok(archive) => Ok(Some(archive)),
-        Err(fault) => Err(of_archive(fault, Subject::Archive, Why::Unread)),
+        Err(fault) => Err(of_archive(fault, Subject::Archive, UNREAD)),
     }
 }
 
@@ -91,7 +91,7 @@ fn rules_in<S: Source>(alloc: Global, lines: &mut Lines<S>) -> Result<RuleReader
             Ok(true) => reader.line(lines.line()).map_err(of_hold)?,
             Ok(false) => return Ok(reader),
             Err(TextFault::NotCanonical) => return Err(PerformFault::BadRule { line }),
-            Err(fault) => return Err(of_text(fault, Subject::Holds, Why::Unread)),
+            Err(fault) => return Err(of_text(fault, Subject::Holds, UNREAD)),
         }
     }
     unreachable!()
@@ -109,7 +109,7 @@ fn read_plan<R: Disk + AllocGlobal>(rt: &R, name: &str) -> Result<Plan, PerformF
         return Err(PerformFault::NotThere { what });
     };
     let mut lines = lines_of(rt.alloc(), file)?;
-    ts_plan::decode(rt.alloc(), &mut lines).map_err(|fault| of_plan(fault, what, Why::Unread))
+    ts_plan::decode(rt.alloc(), &mut lines).map_err(|fault| of_plan(fault, what, UNREAD))
 }
 
 /// The print of a folder.

@@ -11,7 +11,7 @@ ghost use Rattle.ts_trial.specs.Answers.{WritesOne};
 
 use crate::answers::write_refusal;
 use crate::disk::{Disk, Machine};
-use crate::fault::{PerformFault, Subject, Why, of_archive, of_trial, on_output};
+use crate::fault::{PerformFault, Subject, UNWRITTEN, of_archive, of_trial, on_output};
 use crate::inputs::{read_archive, scan_folder};
 use crate::previewing::preview;
 use crate::snapshot::Snapshot;
@@ -184,7 +184,7 @@ fn print_scan<R: Machine, O: Sink>(
     ts_archive::encode(rt.alloc(), &print, out).map_err(|fault| of_archive(
         fault,
         Subject::Output,
-        Why::Unwritten,
+        UNWRITTEN,
     ))?;
     Ok(0)
 }
@@ -210,7 +210,7 @@ fn print_body<O: Sink>(alloc: Global, archive: &Print, out: &mut O) -> Result<u8
         Err(PrintFault::OutOfMemory) => Err(PerformFault::OutOfMemory),
         Err(PrintFault::Failed) => Err(PerformFault::Failed {
             what: Subject::Output,
-            why: Why::Unwritten,
+            why: UNWRITTEN,
         }),
         Err(PrintFault::TooLong | PrintFault::NotCanonical) => unreachable!(),
     }

@@ -9,7 +9,7 @@ ghost use Rattle.ts_perform.specs.Trials.{IsQuiet};
 
 use crate::acting::replica;
 use crate::fault::{
-    PerformFault, Subject, Why, of_build, of_check, of_plan, on_output, replica_on,
+    PerformFault, Subject, UNWRITTEN, of_build, of_check, of_plan, on_output, replica_on,
 };
 use crate::lengths::{first_too_long, too_long};
 use std::alloc::Global;
@@ -111,7 +111,7 @@ impl Snapshot {
         ts_plan::encode(alloc, &plan, out).map_err(|fault| of_plan(
             fault,
             Subject::Output,
-            Why::Unwritten,
+            UNWRITTEN,
         ))?;
         Ok(0)
     }
