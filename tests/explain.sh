@@ -153,7 +153,7 @@ if may_be_refused; then
   "${as[@]}" "$program" sync first second archive >../out 2>../err
   holds_true 'a file that must not be written, by its line' test "$(cat ../err)" = 'twosync: fault 8 /d/x'
   "${as[@]}" "$program" sync first second archive --explain >../out 2>../err
-  holds_true 'and in words' test "$(cat ../err)" = "/d/x isn't synchronized: the device failed, or nothing can be written there."$'\n''twosync: fault 8 /d/x'
+  holds_true 'and in words' test "$(cat ../err)" = "/d/x isn't synchronized: permission denied."$'\n''twosync: fault 8 /d/x'
   before=()
   cd ..
 else
@@ -185,10 +185,25 @@ if command -v strace >/dev/null; then
   fails getdents64 EIO
   told 'a .twosync that cannot be listed' 3 '' "first: its device failed, or what a stopped run left can't be finished: input/output error." \
     'twosync: fault 8' "${sync[@]}"
+
   before=()
 else
   echo 'skipped: strace is missing, so what the system says of a failed call is not tried'
 fi
+
+# ---- what the system says of an action that fails: its file is larger than any that the program may write
+fresh
+head -c 5000 /dev/zero >first/large
+printf a >first/small
+# limited: runs a command that may write 2,048 bytes to a file, and no more
+limited() {
+  (trap '' XFSZ && ulimit -f 2 && exec "$@")
+}
+before=(limited)
+expect 'a file that is too large' 2 $'failed first /large\ndone first /small\ntotal 2 done 1 skipped 0 failed 1 blocked 0' 'twosync: fault 8 /large' "${sync[@]}"
+expect 'a file that is too large, explained' 2 $'failed first /large\ntotal 1 done 0 skipped 0 failed 1 blocked 0' \
+  $'/large isn\'t synchronized: too large for the file system.\ntwosync: fault 8 /large' "${sync[@]}" --explain
+before=()
 
 # ---- output that can't be written
 if [ -e /dev/full ]; then

@@ -18,6 +18,7 @@ use std::alloc::Global;
 use std::fs::{Files, Metadata};
 use std::io::ErrorKind;
 use std::{fs, io};
+use ts_cause::{Cause, cause_of};
 use ts_model::items::Items;
 use ts_model::row::Row;
 use ts_name::Path;
@@ -40,6 +41,8 @@ pub struct DiskPlaces<R> {
     at_old: String,
     entry: u32,
     failures: u64,
+    // why a call failed last that changes something, as far as the system says
+    cause: Cause,
     // something couldn't be removed, and was put out of the way
     has_trash: bool,
 }
@@ -56,6 +59,7 @@ impl<R: Drop> Drop for DiskPlaces<R> {
             root: _,
             entry: _,
             failures: _,
+            cause: _,
             has_trash: _,
         } = self;
         drop(files);
@@ -98,6 +102,7 @@ impl<R: Drop> DiskPlaces<R> {
             at_old,
             entry,
             failures: 0,
+            cause: Cause::Unknown,
             has_trash: false,
         })
     }
@@ -115,11 +120,19 @@ impl<R: Drop> DiskPlaces<R> {
     {
         match done {
             Ok(()) => Ok(()),
-            Err(_) => {
+            Err(e) => {
                 self.failures = self.failures.saturating_add(1);
+                self.cause = cause_of(e);
                 Err(Failed)
             }
         }
+    }
+
+    /// Why a call failed last that changes something, as far as the system says.
+    pub(crate) fn cause(&self) -> Cause
+        ensures { result ≡ self.now.cause }
+    {
+        self.cause
     }
 
     /// The place of a spot.

@@ -211,6 +211,9 @@ fn end_swap<R: Files + AllocGlobal + Clone + Drop>(
         Ok(Aside::Cleared) => Ok(None),
         Ok(Aside::Discarded) => Ok(Some(Notice::Discarded { path })),
         Ok(Aside::Kept { place }) => Ok(Some(Notice::Kept { path, place })),
+        Err(_) if places.cause().is_known() => Err(DiskFault::Device {
+            cause: places.cause(),
+        }),
         Err(e) => Err(device_failed(e)),
     }
 }

@@ -14,6 +14,7 @@ use std::alloc::Global;
 use std::io;
 use std::io::ErrorKind;
 use std::time::Clock;
+use ts_cause::Cause;
 use ts_folder::DiskFolder;
 use ts_model::items::Items;
 use ts_model::row::Row;
@@ -86,6 +87,23 @@ impl<'a> Replacement<'a> {
         io::Error::from(ErrorKind::Other)
     }
 
+    /// Notes that the swap isn't made since the device failed, with this error.
+    fn refuse_for(&mut self, e: io::Error) -> io::Error
+        ensures noted { self.new.refusal ≡ Some Refusal.Device }
+        ensures failures { self.new.places.failures ≡ self.old.places.failures }
+        ensures same { result ≡ e }
+    {
+        self.refusal = Some(Refusal::Device);
+        e
+    }
+
+    /// Why a call of the swap failed last, as far as the system says.
+    pub(crate) fn cause(&self) -> Cause
+        ensures { result ≡ self.now.places.cause }
+    {
+        self.places.cause()
+    }
+
     /// Where the permission bits of the new tree come from.
     fn bits(&self) -> io::Result<Bits<'a>>
         ensures plain { IfOk result (λ bits. IfSome bits.kept (λ kept. kept < 512)) }
@@ -123,16 +141,20 @@ impl<'a> Replacement<'a> {
             Err(e) if e.kind() == ErrorKind::NotFound => return Err(self.refuse(Refusal::Changed)),
             Err(e) => return Err(e),
         }
-        let refusal = match self.is_untouched() {
+        match self.is_untouched() {
             Ok(true) => {
                 self.is_aside = true;
-                return Ok(());
+                Ok(())
             }
-            Ok(false) => Refusal::Changed,
-            Err(_) => Refusal::Device,
-        };
-        let _is_settled = self.go_back();
-        Err(self.refuse(refusal))
+            Ok(false) => {
+                let _is_settled = self.go_back();
+                Err(self.refuse(Refusal::Changed))
+            }
+            Err(e) => {
+                let _is_settled = self.go_back();
+                Err(self.refuse_for(e))
+            }
+        }
     }
 
     /// Looks whether the target holds what it has to, and keeps what was seen of its files.
@@ -183,13 +205,17 @@ impl<'a> Replacement<'a> {
     fn remove_aside(&mut self) -> io::Result<()>
         ensures { self.new.places.failures ≡ self.old.places.failures }
     {
-        let refusal = match self.is_untouched() {
-            Ok(true) => return self.places.clear(Spot::Old),
-            Ok(false) => Refusal::Changed,
-            Err(_) => Refusal::Device,
-        };
-        self.is_late = true;
-        Err(self.refuse(refusal))
+        match self.is_untouched() {
+            Ok(true) => self.places.clear(Spot::Old),
+            Ok(false) => {
+                self.is_late = true;
+                Err(self.refuse(Refusal::Changed))
+            }
+            Err(e) => {
+                self.is_late = true;
+                Err(self.refuse_for(e))
+            }
+        }
     }
 
     /// Removes the new tree, unless the original still lies aside: as long as the new tree is there, recovery knows that the

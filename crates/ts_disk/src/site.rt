@@ -11,6 +11,7 @@ use crate::places::DiskPlaces;
 use crate::replacement::Replacement;
 use std::alloc::Global;
 use std::snapshot::Snapshot;
+use ts_cause::Cause;
 use ts_folder::DiskFolder;
 use ts_name::Path;
 use ts_print::{Staged, SubPrint};
@@ -33,6 +34,8 @@ pub struct DiskSite<R> {
     path: Path,
     entry: u32,
     failures: u64,
+    // why the commit failed last, as far as the system says
+    cause: Cause,
 }
 
 /// Written out, so that a proof of what drops one stays short.
@@ -45,6 +48,7 @@ impl<R: Drop> Drop for DiskSite<R> {
             path,
             entry: _,
             failures: _,
+            cause: _,
         } = self;
         drop(files);
         drop(root);
@@ -67,7 +71,7 @@ impl<R: Drop> DiskSite<R> {
         ensures root { IfOk result (λ site. string_bytes site.root ≡ root.now) }
         ensures source { IfOk result (λ site. string_bytes site.source ≡ source.now) }
         ensures entry { IfOk result (λ site. (site.path ≡ path.now) × (site.entry ≡ entry)) }
-        ensures failures { IfOk result (λ site. site.failures ≡ 0) }
+        ensures failures { IfOk result (λ site. (site.failures ≡ 0) × (site.cause ≡ Cause.Unknown)) }
         ensures fault { IfErr result (λ e. e ≡ DiskFault.OutOfMemory) }
     {
         let Ok(path) = path.copy(alloc) else {
@@ -82,14 +86,29 @@ impl<R: Drop> DiskSite<R> {
             path,
             entry,
             failures: 0,
+            cause: Cause::Unknown,
         })
+    }
+
+    /// Why the commit failed last, as far as the system says.
+    pub fn cause(&self) -> Cause
+        ensures { result ≡ self.now.cause }
+    {
+        self.cause
     }
 }
 
 impl DiskSite<HostRuntime> {
-    /// Replaces what is there, which is first looked at. It is not looked at whether the staged files fit their stamps.
-    fn swap(&self, alloc: Global, before: &SubPrint<'_>, staged: &Staged) -> Result<(), SiteFault>
-        ensures { IfErr result (λ e. e ≢ SiteFault.Misfit) }
+    /// Replaces what is there, which is first looked at, and keeps why that failed. It is not looked at whether the staged files
+    /// fit their stamps.
+    fn swap(
+        &mut self,
+        alloc: Global,
+        before: &SubPrint<'_>,
+        staged: &Staged,
+    ) -> Result<(), SiteFault>
+        ensures misfit { IfErr result (λ e. e ≢ SiteFault.Misfit) }
+        ensures failures { self.new.failures ≡ self.old.failures }
     {
         let places = self.places(alloc)?;
         if is_taken(&places, Spot::New) || is_taken(&places, Spot::Old) {
@@ -101,6 +120,8 @@ impl DiskSite<HostRuntime> {
         };
         let mut swap = Replacement::new(alloc, places, &folder, before, staged, source.as_str());
         let replaced = replace(&mut swap, staged.rows());
+        // before what is left is settled, which may fail for another reason
+        self.cause = swap.cause();
         swap.settle(replaced)
     }
 

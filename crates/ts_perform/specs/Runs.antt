@@ -1,9 +1,9 @@
 -- What `run` and `sync` answer, and how a command is refused.
---     failure_lines entries actions results     the fault of each failed action, with its entry's path, in the order of the actions
+--     failure_lines entries actions results causes   the fault of each failed action, with its entry's path, in the order of the actions, and why it failed
 --     notice_line notice                        a fault where what a swap left can't be removed, its place where it was kept, a mount as such
 --     notice_lines notices                      a line for each
 --     run_report, run_faults, run_status        what is reported of a run on standard output, and on standard error but for notices, and its exit status
---     Came                                      what came of a plan: the plan and what it was checked against, how its actions ended, why the new archive wasn't written, if it wasn't, and what else is to be said
+--     Came                                      what came of a plan: the plan and what it was checked against, how its actions ended, and why, why the new archive wasn't written, if it wasn't, and what else is to be said
 --     report_of, faults_of, status_after        what is then reported, on standard output and standard error, and the exit status
 --     HasReported came                          both were written; or one of them could be written in part, and the status is 2
 --     IsCarriedOut .. pair came                 the plan is valid for the scans of the pair's replicas, and the results are those of a run of it there, whose archive was written
@@ -20,6 +20,8 @@ use Rattle.std.specs.String.{string_bytes}
 use Rattle.ts_name.specs.Paths.{Path}
 use Rattle.ts_board.specs.Archives.{LeftArchive}
 use Rattle.ts_board.specs.declared.law.Slot.{Slot}
+use Rattle.ts_cause.specs.declared.cause.Cause.{Cause}
+use Rattle.ts_cause.specs.declared.cause.Cause.TheVariants.{Unknown}
 use Rattle.ts_check.specs.Checkup.{Checkup, snapshot_of}
 use Rattle.ts_check.specs.Verdict.{IsSafe}
 use Rattle.ts_command.specs.declared.job.Command.{Command}
@@ -68,17 +70,27 @@ path_in (Some entry) = Some entry.path
 abbrev pub path_for : List Entry → Kind → Option Path
 path_for entries kind = path_in (slice_get entries (entry_of kind))
 
-abbrev pub failure_line : Bool → List Entry → Action → ActionResult → List Line
-failure_line explain entries action ended.Done = []
-failure_line explain entries action (ended.Failed fault) =
-    let path = path_for entries action.kind in with_sentence explain (failure_text fault path) (fault_line (act_number fault) path)
-failure_line explain entries action (ended.Blocked before) = []
-failure_line explain entries action ended.Left = []
+abbrev pub failure_line : Bool → List Entry → Action → ActionResult → Cause → List Line
+failure_line explain entries action ended.Done cause = []
+failure_line explain entries action (ended.Failed fault) cause =
+    let path = path_for entries action.kind in with_sentence explain (failure_text fault path cause) (fault_line (act_number fault) path)
+failure_line explain entries action (ended.Blocked before) cause = []
+failure_line explain entries action ended.Left cause = []
 
-abbrev pub failure_lines : Bool → List Entry → List Action → List ActionResult → List Line
-failure_lines explain entries [] results = []
-failure_lines explain entries (action ∷ actions) [] = []
-failure_lines explain entries (action ∷ actions) (result ∷ results) = failure_line explain entries action result ++ failure_lines explain entries actions results
+-- the cause of the first action, and those after it; where there is none, it is unknown
+abbrev pub first_cause : List Cause → Cause
+first_cause [] = Unknown
+first_cause (cause ∷ causes) = cause
+
+abbrev pub later_causes : List Cause → List Cause
+later_causes [] = []
+later_causes (cause ∷ causes) = causes
+
+abbrev pub failure_lines : Bool → List Entry → List Action → List ActionResult → List Cause → List Line
+failure_lines explain entries [] results causes = []
+failure_lines explain entries (action ∷ actions) [] causes = []
+failure_lines explain entries (action ∷ actions) (result ∷ results) causes =
+    failure_line explain entries action result (first_cause causes) ++ failure_lines explain entries actions results (later_causes causes)
 
 abbrev pub notice_line : Notice → Line
 notice_line (notice.Discarded path) = fault_line 8 (Some path)
@@ -111,8 +123,8 @@ abbrev pub run_report : Plan → List ActionResult → List ℕ
 run_report plan results = report_text (ending_at results) plan
 
 -- the fault of each failed action, and why the archive is lost, if it is
-abbrev pub run_faults : Command → Plan → List ActionResult → Option PerformFault → List Line
-run_faults command plan results lost = failure_lines command.explain plan.entries plan.actions results ++ lost_lines command lost
+abbrev pub run_faults : Command → Plan → List ActionResult → List Cause → Option PerformFault → List Line
+run_faults command plan results causes lost = failure_lines command.explain plan.entries plan.actions results causes ++ lost_lines command lost
 
 -- the status of the report's totals, or 2 where the archive is lost
 abbrev pub run_status : Plan → List ActionResult → Option PerformFault → ℕ
@@ -121,6 +133,8 @@ run_status plan results lost = status_with lost (status_of (totals_of (fates (en
 pub record Came : Type 0 where
   pub checkup : Checkup
   pub results : List ActionResult
+  -- why the failed ones failed, as far as the system says
+  pub causes : List Cause
   pub lost : Option PerformFault
   pub notices : List Notice
 
@@ -128,7 +142,7 @@ abbrev pub report_of : Came → List ℕ
 report_of came = run_report came.checkup.plan came.results
 
 abbrev pub faults_of : Command → Came → List ℕ
-faults_of command came = text (run_faults command came.checkup.plan came.results came.lost ++ notice_lines command.explain came.notices)
+faults_of command came = text (run_faults command came.checkup.plan came.results came.causes came.lost ++ notice_lines command.explain came.notices)
 
 abbrev pub status_after : Came → ℕ
 status_after came = run_status came.checkup.plan came.results came.lost

@@ -33,6 +33,7 @@ pub(crate) fn act<R: Machine>(
 ) -> Result<Outcome<R::Site>, PerformFault>
     ensures count { IfOk result (λ o. length o.results.items ≡ length checked.now.plan.actions) }
     ensures words { IfOk result (λ o. length checked.now.plan.actions ≤ slots_len o.closed.row.words) }
+    ensures slots { IfOk result (λ o. length checked.now.plan.actions ≤ slots_len o.closed.row.slots) }
     ensures ended { IfOk result (λ o. HasEnded checked.now (words_of o.closed)) }
     ensures stands { IfOk result (λ o. IsRunOf R.stand R.Site.content R.Site.failures R.is_at R.Folder.tells R.Folder.lets
         task.now.pair.now.first.now task.now.pair.now.second.now checked.now o.results.items (words_of o.closed) (slots_of o.closed)) }

@@ -7,13 +7,14 @@ ghost use Rattle.ts_explain.specs.Lines.{with_sentence};
 ghost use Rattle.ts_model.specs.Texts.{text};
 ghost use Rattle.ts_perform.specs.Faults.{kept_line, mount_line};
 ghost use Rattle.ts_perform.specs.Runs.{notice_line};
-ghost use Rattle.ts_perform.specs.Failures.{act_text, failure_text, notice_text};
+ghost use Rattle.ts_perform.specs.Failures.{act_hint, act_text, failure_text, notice_text};
 ghost use Rattle.ts_perform.specs.Trials.{IsQuiet};
 ghost use Rattle.ts_text.specs.Sources.{Writes};
 ghost use Rattle.ts_trial.specs.Answers.{refusal};
 
 use crate::fault::{PerformFault, on_output};
 use std::alloc::{AllocError, Global};
+use ts_cause::Cause;
 use ts_disk::Notice;
 use ts_exec::ActFault;
 use ts_explain::{Piece, push_fault, push_pieces, write_explained};
@@ -49,41 +50,43 @@ fn push_refusal(rule: PlanRule, place: u64, line: &mut Vec<u8>) -> Result<(), Al
     push_decimal(line, place)
 }
 
-/// Reports the fault of an action, and what it means before that where it is asked for.
+/// Reports the fault of an action, and what it means and why before that where it is asked for.
 pub(crate) fn write_failure<W: Sink>(
     alloc: Global,
     explain: bool,
     fault: ActFault,
+    cause: Cause,
     path: Option<&Path>,
     err: &mut W,
 ) -> Result<(), TextFault>
     ensures { Writes (W.holds err.old) (W.holds err.new)
-        (text (with_sentence explain (failure_text fault (option_copied path.entry)) (fault_line (act_number fault) (option_copied path.entry)))) result }
+        (text (with_sentence explain (failure_text fault (option_copied path.entry) cause) (fault_line (act_number fault) (option_copied path.entry)))) result }
 {
     let mut sentence = Vec::new(alloc);
     if explain {
-        push_failure(alloc, fault, path, &mut sentence)?;
+        push_failure(alloc, fault, cause, path, &mut sentence)?;
     }
     let mut line = Vec::new(alloc);
     push_fault(fault.number(), path, &mut line)?;
     write_explained(explain, &sentence, &line, err)
 }
 
-/// Appends what the fault of an action means.
+/// Appends what the fault of an action means, and why it failed.
 fn push_failure(
     alloc: Global,
     fault: ActFault,
+    cause: Cause,
     path: Option<&Path>,
     line: &mut Vec<u8>,
 ) -> Result<(), AllocError>
-    ensures { OnOk result (line.new.items ≡ line.old.items ++ failure_text fault (option_copied path.entry)) }
+    ensures { OnOk result (line.new.items ≡ line.old.items ++ failure_text fault (option_copied path.entry) cause) }
 {
+    let hint = act_hint(fault);
+    let text = Piece::Words(act_text(fault));
+    let reason = Piece::Reason { hint, cause };
     match path {
-        Some(path) => {
-            let pieces = [Piece::Below(path), Piece::Words(act_text(fault))];
-            push_pieces(alloc, &pieces, line)
-        }
-        None => push_pieces(alloc, &[Piece::Words(act_text(fault))], line),
+        Some(path) => push_pieces(alloc, &[Piece::Below(path), text, reason], line),
+        None => push_pieces(alloc, &[text, reason], line),
     }
 }
 
@@ -92,18 +95,22 @@ fn act_text(fault: ActFault) -> &'static [u8]
     ensures { result.now ≡ act_text fault }
 {
     match fault {
-        ActFault::OutOfMemory => b" isn't synchronized: memory ran out.",
-        ActFault::Device => {
-            b" isn't synchronized: the device failed, or nothing can be written there."
-        }
-        ActFault::NotThere => { b" isn't synchronized: it went away meanwhile. Run `sync` again." }
-        ActFault::Unreadable => b" isn't synchronized: it can't be read.",
-        ActFault::Changed => {
-            b" isn't synchronized: what it would replace has changed meanwhile. Run `sync` again."
-        }
-        ActFault::Misfit => {
-            b" isn't synchronized: it changed while it was read. Run `sync` again."
-        }
+        ActFault::Unreadable => b" isn't synchronized: it can't be read",
+        _ => b" isn't synchronized",
+    }
+}
+
+/// How that ends where no cause is known.
+fn act_hint(fault: ActFault) -> &'static [u8]
+    ensures { result.now ≡ act_hint fault }
+{
+    match fault {
+        ActFault::OutOfMemory => b": memory ran out.",
+        ActFault::Device => b": the device failed, or nothing can be written there.",
+        ActFault::NotThere => b": it went away meanwhile. Run `sync` again.",
+        ActFault::Unreadable => b".",
+        ActFault::Changed => b": what it would replace has changed meanwhile. Run `sync` again.",
+        ActFault::Misfit => b": it changed while it was read. Run `sync` again.",
     }
 }
 

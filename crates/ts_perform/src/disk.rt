@@ -8,12 +8,12 @@ ghost use denote.Param.Send.{IsSync};
 
 use crate::fault::{OpenFault, PerformFault};
 use std::alloc::Global;
-use std::fs;
 use std::fs::{File, Files};
 use std::io::{ErrorKind, Read};
 use std::rt::Clock;
 use std::thread::Threads;
-use ts_cause::cause_of;
+use std::{fs, io};
+use ts_cause::{Cause, cause_of};
 use ts_disk::{ArchivePlace, DiskFault, DiskSite, Lock, claim_archive, flush_above, take_lock};
 use ts_folder::Folder;
 use ts_name::Path;
@@ -95,6 +95,12 @@ pub trait Disk {
     ) -> Result<Self::Site, PerformFault>
         ensures stand { IfOk result (λ site. stand site ≡ record { root = root.now; source = source.now; path = path.now }) }
         ensures quiet { IfErr result IsQuiet };
+
+    /// Why the commit of a site failed last, as far as the system says.
+    fn site_cause(&self, site: &Self::Site) -> Cause;
+
+    /// Why a file can't be read, as far as the system says now.
+    fn read_cause(&self, place: &str) -> Cause;
 
     /// Locks a replica until what is answered is dropped. There is no lock where no directory is.
     fn lock(&self, alloc: Global, root: &str) -> Result<Option<Self::Lock>, DiskFault>
@@ -224,6 +230,17 @@ impl Disk for HostRuntime {
         }
     }
 
+    fn site_cause(&self, site: &DiskSite<HostRuntime>) -> Cause {
+        site.cause()
+    }
+
+    fn read_cause(&self, place: &str) -> Cause {
+        match read_byte(self, place) {
+            Ok(()) => Cause::Unknown,
+            Err(e) => cause_of(&e),
+        }
+    }
+
     fn lock(&self, alloc: Global, root: &str) -> Result<Option<Lock>, DiskFault> {
         take_lock(self, alloc, root)
     }
@@ -299,4 +316,12 @@ fn open_to_read<R: Files>(rt: &R, name: &str) -> Result<Option<R::File>, OpenFau
             }),
         },
     }
+}
+
+/// Reads the first byte of a file, if it has one.
+fn read_byte<R: Files>(rt: &R, place: &str) -> io::Result<()> {
+    let mut byte = [0];
+    let mut file = fs::open(rt, place)?;
+    let _count = file.read(&mut byte)?;
+    Ok(())
 }

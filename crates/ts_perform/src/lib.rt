@@ -3,6 +3,7 @@
 
 mod acting;
 mod answers;
+mod causes;
 mod counting;
 pub mod disk;
 pub mod fault;

@@ -1,6 +1,6 @@
 //! What is reported of a run.
 ghost use Rattle.std.specs.Option.{option_copied};
-ghost use Rattle.std.specs.Prelude.{◌≡◌, ◌≤◌, ◌++◌, Some, length, IfOk};
+ghost use Rattle.std.specs.Prelude.{◌≡◌, ◌≤◌, ◌++◌, Some, get_or, length, IfOk};
 ghost use Rattle.ts_model.specs.Plans.{action_limit};
 ghost use Rattle.ts_model.specs.Texts.{text};
 ghost use Rattle.ts_perform.specs.Runs.{failure_line, failure_lines, lost_by, lost_lines, notice_lines, path_for, run_faults, run_report, run_status};
@@ -10,6 +10,7 @@ ghost use Rattle.ts_text.specs.Sources.{Writes};
 use crate::answers::{write_failure, write_notice};
 use crate::fault::PerformFault;
 use std::alloc::Global;
+use ts_cause::Cause;
 use ts_check::Checked;
 use ts_command::Command;
 use ts_disk::Notice;
@@ -50,6 +51,7 @@ pub(crate) fn report_outcome<S: Site, O: Sink, E: Sink>(
     command: &Command<'_>,
     checked: &Checked<'_>,
     outcome: &Outcome<S>,
+    causes: &[Cause],
     kept: Result<(), PerformFault>,
     out: &mut O,
     err: &mut E,
@@ -57,14 +59,14 @@ pub(crate) fn report_outcome<S: Site, O: Sink, E: Sink>(
     requires count { length outcome.now.results.items ≡ length checked.now.plan.actions }
     ensures report { Writes (O.holds out.old) (O.holds out.new) (run_report checked.now.plan outcome.now.results.items) result }
     ensures faults { Writes (E.holds err.old) (E.holds err.new)
-        (text (run_faults command.now checked.now.plan outcome.now.results.items (lost_by kept))) result }
+        (text (run_faults command.now checked.now.plan outcome.now.results.items causes.now (lost_by kept))) result }
     ensures status { IfOk result (λ status. status ≡ run_status checked.now.plan outcome.now.results.items (lost_by kept)) }
 {
     let plan = checked.plan();
     let _count = checked.action_count();
     let results = outcome.results();
     let totals = write_report(alloc, plan, outcome, out)?;
-    report_failures(alloc, command.explain, plan, results, err)?;
+    report_failures(alloc, command.explain, plan, results, causes, err)?;
     match kept {
         Ok(()) => Ok(totals.status()),
         Err(fault) => {
@@ -80,6 +82,7 @@ pub(crate) fn report_all<S: Site, O: Sink, E: Sink>(
     command: &Command<'_>,
     checked: &Checked<'_>,
     outcome: &Outcome<S>,
+    causes: &[Cause],
     kept: Result<(), PerformFault>,
     notices: &[Notice],
     out: &mut O,
@@ -88,10 +91,10 @@ pub(crate) fn report_all<S: Site, O: Sink, E: Sink>(
     requires count { length outcome.now.results.items ≡ length checked.now.plan.actions }
     ensures report { Writes (O.holds out.old) (O.holds out.new) (run_report checked.now.plan outcome.now.results.items) result }
     ensures faults { Writes (E.holds err.old) (E.holds err.new)
-        (text (run_faults command.now checked.now.plan outcome.now.results.items (lost_by kept) ++ notice_lines command.now.explain notices.now)) result }
+        (text (run_faults command.now checked.now.plan outcome.now.results.items causes.now (lost_by kept) ++ notice_lines command.now.explain notices.now)) result }
     ensures status { IfOk result (λ status. status ≡ run_status checked.now.plan outcome.now.results.items (lost_by kept)) }
 {
-    let status = report_outcome(alloc, command, checked, outcome, kept, out, err)?;
+    let status = report_outcome(alloc, command, checked, outcome, causes, kept, out, err)?;
     report_notices(alloc, command.explain, notices, err)?;
     Ok(status)
 }
@@ -129,22 +132,34 @@ pub(crate) fn report_notices<E: Sink>(
     Ok(())
 }
 
-/// Reports the fault of each action that failed, with its entry's path, in the order of the actions.
+/// Reports the fault of each action that failed, with its entry's path, in the order of the actions, and why it failed.
 fn report_failures<E: Sink>(
     alloc: Global,
     explain: bool,
     plan: &Plan,
     results: &[ActionResult],
+    causes: &[Cause],
     err: &mut E,
 ) -> Result<(), TextFault>
     requires count { length results.now ≡ length plan.now.actions }
-    ensures told { Writes (E.holds err.old) (E.holds err.new) (text (failure_lines explain plan.now.entries plan.now.actions results.now)) result }
+    ensures told { Writes (E.holds err.old) (E.holds err.new) (text (failure_lines explain plan.now.entries plan.now.actions results.now causes.now)) result }
 {
     let actions = plan.actions.as_slice();
     for (i, ended) in results.iter().enumerate() {
-        report_failure(alloc, explain, plan, &actions[i], *ended, err)?;
+        let cause = cause_at(causes, i);
+        report_failure(alloc, explain, plan, &actions[i], *ended, cause, err)?;
     }
     Ok(())
+}
+
+/// Why the action of this number failed, if that is known.
+fn cause_at(causes: &[Cause], number: usize) -> Cause
+    ensures { result ≡ get_or causes.now number Cause.Unknown }
+{
+    match causes.get(number) {
+        Some(cause) => *cause,
+        None => Cause::Unknown,
+    }
 }
 
 /// Reports the fault of an action, if it failed.
@@ -154,14 +169,16 @@ fn report_failure<E: Sink>(
     plan: &Plan,
     action: &Action,
     ended: ActionResult,
+    cause: Cause,
     err: &mut E,
 ) -> Result<(), TextFault>
-    ensures told { Writes (E.holds err.old) (E.holds err.new) (text (failure_line explain plan.now.entries action.now ended)) result }
+    ensures told { Writes (E.holds err.old) (E.holds err.new) (text (failure_line explain plan.now.entries action.now ended cause)) result }
 {
     match ended {
         ActionResult::Done | ActionResult::Blocked(_) | ActionResult::Left => Ok(()),
         ActionResult::Failed(fault) => {
-            write_failure(alloc, explain, fault, path_of(plan, &action.kind), err)
+            let path = path_of(plan, &action.kind);
+            write_failure(alloc, explain, fault, cause, path, err)
         }
     }
 }

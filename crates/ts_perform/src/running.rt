@@ -8,6 +8,7 @@ ghost use Rattle.ts_perform.specs.Snapshots.{checkup_of, IsPlanned};
 ghost use Rattle.ts_perform.specs.Trials.{IsQuiet};
 
 use crate::acting::{act, keep_archive, replica};
+use crate::causes::causes_of;
 use crate::disk::{Disk, Machine};
 use crate::fault::{PerformFault, Subject, of_disk};
 use crate::past::{Past, is_one_new, new_one};
@@ -293,18 +294,21 @@ impl<R: Machine> Task<'_, R> {
         snapshot.look_at_lengths(alloc, self.pair, plan)?;
         self.save(alloc, plan, &*claims)?;
         match act(self, &checked) {
-            Ok(outcome) => {
+            Ok(mut outcome) => {
                 let cleared = self.clear(alloc, plan, notices);
                 let kept = keep_archive(self, &mut claims.archive, &checked, &outcome);
                 self.remove(alloc, cleared);
+                let causes = causes_of(self, &checked, &mut outcome);
                 // what can't be found out of mounts is no reason to end
                 let _ = self.add_mounts(alloc, plan, outcome.results(), notices);
                 let notices = notices.as_slice();
+                let causes = causes.as_slice();
                 let told = report_all(
                     alloc,
                     self.command,
                     &checked,
                     &outcome,
+                    causes,
                     kept,
                     notices,
                     out,

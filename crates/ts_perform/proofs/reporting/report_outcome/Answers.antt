@@ -19,10 +19,10 @@ returns-in-Ok-clause-report g c =
 pub returns-in-Ok-clause-faults : goal.returns-in-Ok-clause-faults
 returns-in-Ok-clause-faults g c =
     let plan = c.args.checked.now.plan in let results = c.args.outcome.now.results.items in
-    let same = lines_same c.args.command.now.explain plan c.plan-plan.result.now results c.results-results.result.now c.plan-plan.ensures.plan c.results-results.ensures in
+    let same = lines_same c.args.command.now.explain plan c.plan-plan.result.now results c.results-results.result.now c.args.causes.now c.plan-plan.ensures.plan c.results-results.ensures in
     rw c.in-Ok.is
-    (none_lost (g.E.Sink.holds c.args.err.now) (g.E.Sink.holds c.report_failures.new.err) (failure_lines c.args.command.now.explain plan.entries plan.actions results)
-    (failure_lines c.args.command.now.explain c.plan-plan.result.now.entries c.plan-plan.result.now.actions c.results-results.result.now) same c.in_ok-report_failures.ensures.told)
+    (none_lost (g.E.Sink.holds c.args.err.now) (g.E.Sink.holds c.report_failures.new.err) (failure_lines c.args.command.now.explain plan.entries plan.actions results c.args.causes.now)
+    (failure_lines c.args.command.now.explain c.plan-plan.result.now.entries c.plan-plan.result.now.actions c.results-results.result.now c.args.causes.now) same c.in_ok-report_failures.ensures.told)
 
 pub returns-in-Ok-clause-status : goal.returns-in-Ok-clause-status
 returns-in-Ok-clause-status g c =
@@ -39,7 +39,7 @@ pub returns-in_err-totals-clause-faults : goal.returns-in_err-totals-clause-faul
 returns-in_err-totals-clause-faults g c =
     let p = err_from_is_err_and c.from_residual.result c.from_residual.ensures.1 in
     let plan = c.args.checked.now.plan in let results = c.args.outcome.now.results.items in
-    rw p.1 (nothing_sent (g.E.Sink.holds c.args.err.now) (text (failure_lines c.args.command.now.explain plan.entries plan.actions results ++ lost_lines c.args.command.now (lost_by c.args.kept))))
+    rw p.1 (nothing_sent (g.E.Sink.holds c.args.err.now) (text (failure_lines c.args.command.now.explain plan.entries plan.actions results c.args.causes.now ++ lost_lines c.args.command.now (lost_by c.args.kept))))
 
 pub returns-in_err-report_failures-clause-report : goal.returns-in_err-report_failures-clause-report
 returns-in_err-report_failures-clause-report g c =
@@ -53,9 +53,9 @@ pub returns-in_err-report_failures-clause-faults : goal.returns-in_err-report_fa
 returns-in_err-report_failures-clause-faults g c =
     let p = err_from_is_err_and c.from_residual-in_err-report_failures.result c.from_residual-in_err-report_failures.ensures.1 in
     let plan = c.args.checked.now.plan in let results = c.args.outcome.now.results.items in
-    let same = lines_same c.args.command.now.explain plan c.plan-plan.result.now results c.results-results.result.now c.plan-plan.ensures.plan c.results-results.ensures in
+    let same = lines_same c.args.command.now.explain plan c.plan-plan.result.now results c.results-results.result.now c.args.causes.now c.plan-plan.ensures.plan c.results-results.ensures in
     let old = g.E.Sink.holds c.args.err.now in let new = g.E.Sink.holds c.report_failures.new.err in
-    rw p.1 (begun_first old new (failure_lines c.args.command.now.explain plan.entries plan.actions results) (lost_lines c.args.command.now (lost_by c.args.kept))
+    rw p.1 (begun_first old new (failure_lines c.args.command.now.explain plan.entries plan.actions results c.args.causes.now) (lost_lines c.args.command.now (lost_by c.args.kept))
     (subst (λ (l : List Line). AppendsFront old new (text l)) same c.in_err-report_failures.ensures.told))
 
 pub returns-in_err-write_lost-in-Err-clause-report : goal.returns-in_err-write_lost-in-Err-clause-report
@@ -70,9 +70,9 @@ pub returns-in_err-write_lost-in-Err-clause-faults : goal.returns-in_err-write_l
 returns-in_err-write_lost-in-Err-clause-faults g c =
     let p = err_from_is_err_and c.from_residual-in_err-write_lost-in-Err.result c.from_residual-in_err-write_lost-in-Err.ensures.1 in
     let plan = c.args.checked.now.plan in let results = c.args.outcome.now.results.items in
-    let same = lines_same c.args.command.now.explain plan c.plan-plan.result.now results c.results-results.result.now c.plan-plan.ensures.plan c.results-results.ensures in
-    rw p.1 (rw c.in-Err.is (lost_begun (g.E.Sink.holds c.args.err.now) (g.E.Sink.holds c.report_failures.new.err) (g.E.Sink.holds c.write_lost.new.err) (failure_lines c.args.command.now.explain plan.entries plan.actions results)
-    (failure_lines c.args.command.now.explain c.plan-plan.result.now.entries c.plan-plan.result.now.actions c.results-results.result.now) (lost_lines c.args.command.now (Some c.in-Err.fault)) same
+    let same = lines_same c.args.command.now.explain plan c.plan-plan.result.now results c.results-results.result.now c.args.causes.now c.plan-plan.ensures.plan c.results-results.ensures in
+    rw p.1 (rw c.in-Err.is (lost_begun (g.E.Sink.holds c.args.err.now) (g.E.Sink.holds c.report_failures.new.err) (g.E.Sink.holds c.write_lost.new.err) (failure_lines c.args.command.now.explain plan.entries plan.actions results c.args.causes.now)
+    (failure_lines c.args.command.now.explain c.plan-plan.result.now.entries c.plan-plan.result.now.actions c.results-results.result.now c.args.causes.now) (lost_lines c.args.command.now (Some c.in-Err.fault)) same
     c.in_ok-report_failures.ensures.told c.in_err-write_lost-in-Err.ensures))
 
 pub returns-in_ok-write_lost-in-Err-clause-report : goal.returns-in_ok-write_lost-in-Err-clause-report
@@ -83,7 +83,7 @@ returns-in_ok-write_lost-in-Err-clause-report g c =
 pub returns-in_ok-write_lost-in-Err-clause-faults : goal.returns-in_ok-write_lost-in-Err-clause-faults
 returns-in_ok-write_lost-in-Err-clause-faults g c =
     let plan = c.args.checked.now.plan in let results = c.args.outcome.now.results.items in
-    let same = lines_same c.args.command.now.explain plan c.plan-plan.result.now results c.results-results.result.now c.plan-plan.ensures.plan c.results-results.ensures in
-    rw c.in-Err.is (lost_told (g.E.Sink.holds c.args.err.now) (g.E.Sink.holds c.report_failures.new.err) (g.E.Sink.holds c.write_lost.new.err) (failure_lines c.args.command.now.explain plan.entries plan.actions results)
-    (failure_lines c.args.command.now.explain c.plan-plan.result.now.entries c.plan-plan.result.now.actions c.results-results.result.now) (lost_lines c.args.command.now (Some c.in-Err.fault)) same
+    let same = lines_same c.args.command.now.explain plan c.plan-plan.result.now results c.results-results.result.now c.args.causes.now c.plan-plan.ensures.plan c.results-results.ensures in
+    rw c.in-Err.is (lost_told (g.E.Sink.holds c.args.err.now) (g.E.Sink.holds c.report_failures.new.err) (g.E.Sink.holds c.write_lost.new.err) (failure_lines c.args.command.now.explain plan.entries plan.actions results c.args.causes.now)
+    (failure_lines c.args.command.now.explain c.plan-plan.result.now.entries c.plan-plan.result.now.actions c.results-results.result.now c.args.causes.now) (lost_lines c.args.command.now (Some c.in-Err.fault)) same
     c.in_ok-report_failures.ensures.told c.in_ok-write_lost-in-Err.ensures)

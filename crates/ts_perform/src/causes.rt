@@ -1,0 +1,85 @@
+//! Why actions failed, as far as the system says.
+ghost use Rattle.std.specs.Prelude.{◌≡◌, ◌≤◌, length};
+ghost use Rattle.std.specs.Mem.Slots.{slots_len};
+
+use crate::acting::replica;
+use crate::disk::Machine;
+use crate::task::Task;
+use std::alloc::AllocError;
+use ts_cause::Cause;
+use ts_check::Checked;
+use ts_exec::{ActFault, ActionResult, Outcome};
+use ts_model::plan::{Entry, Kind};
+use ts_name::Path;
+
+/// Why each action failed that did, one cause for each action, where the command asks for sentences. Where memory runs out, the
+/// last ones are left out.
+pub(crate) fn causes_of<R: Machine>(
+    task: &Task<'_, R>,
+    checked: &Checked<'_>,
+    outcome: &mut Outcome<R::Site>,
+) -> Vec<Cause>
+    requires count { length outcome.old.results.items ≡ length checked.now.plan.actions }
+    requires slots { length checked.now.plan.actions ≤ slots_len outcome.old.closed.row.slots }
+    ensures results { outcome.new.results ≡ outcome.old.results }
+{
+    let mut causes = Vec::new(task.rt.alloc());
+    if task.command.explain {
+        for i in 0..checked.action_count() {
+            let cause = cause_of_action(task, checked, outcome, i);
+            if causes.push(cause).is_err() {
+                break;
+            }
+        }
+    }
+    causes
+}
+
+/// Why an action failed, if it did, and if the system says why: a commit by what its site keeps, a piece by what the system says
+/// of its source now.
+fn cause_of_action<R: Machine>(
+    task: &Task<'_, R>,
+    checked: &Checked<'_>,
+    outcome: &mut Outcome<R::Site>,
+    i: u32,
+) -> Cause
+    requires count { length outcome.old.results.items ≡ length checked.now.plan.actions }
+    requires action { i < length checked.now.plan.actions }
+    requires slots { length checked.now.plan.actions ≤ slots_len outcome.old.closed.row.slots }
+    ensures results { outcome.new.results ≡ outcome.old.results }
+    ensures slots { slots_len outcome.new.closed.row.slots ≡ slots_len outcome.old.closed.row.slots }
+{
+    let ActionResult::Failed(ActFault::Device | ActFault::Unreadable) = outcome.result(i) else {
+        return Cause::Unknown;
+    };
+    let plan = checked.plan();
+    match plan.actions.as_slice()[i as usize].kind {
+        Kind::Commit { .. } => match outcome.take_site(i) {
+            Some(site) => task.rt.site_cause(&site),
+            None => Cause::Unknown,
+        },
+        Kind::Piece {
+            entry,
+            ref path,
+            ..
+        } => match plan.entries.as_slice().get(entry as usize) {
+            Some(entry) => source_cause(task, entry, path).unwrap_or(Cause::Unknown),
+            None => Cause::Unknown,
+        },
+        Kind::Mark { .. } => Cause::Unknown,
+    }
+}
+
+/// What the system says now of the file at this path, which an entry has in the replica that it is copied from.
+fn source_cause<R: Machine>(
+    task: &Task<'_, R>,
+    entry: &Entry,
+    path: &Path,
+) -> Result<Cause, AllocError> {
+    let Some(from) = entry.reason.source() else {
+        return Ok(Cause::Unknown);
+    };
+    let root = replica(task.pair, from).root;
+    let place = path.place_below(task.rt.alloc(), root)?;
+    Ok(task.rt.read_cause(place.as_str()))
+}
