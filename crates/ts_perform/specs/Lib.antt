@@ -8,6 +8,7 @@ pub mod Previewing
 pub mod Printouts
 pub mod Puts
 pub mod Runs
+pub mod Skips
 pub mod Snapshots
 pub mod Specials
 pub mod Staging

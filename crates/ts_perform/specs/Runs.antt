@@ -2,6 +2,7 @@
 --     failure_lines entries actions results causes   the fault of each failed action, with its entry's path, in the order of the actions, and why it failed
 --     notice_line notice                        a fault where what a swap left can't be removed, its place where it was kept, a mount as such
 --     notice_lines notices                      a line for each
+--     remark_lines command notices skips        those, and a sentence for each skipped entry where that is asked for
 --     run_report, run_faults, run_status        what is reported of a run on standard output, and on standard error but for notices, and its exit status
 --     Came                                      what came of a plan: the plan and what it was checked against, how its actions ended, and why, why the new archive wasn't written, if it wasn't, and what else is to be said
 --     report_of, faults_of, status_after        what is then reported, on standard output and standard error, and the exit status
@@ -51,10 +52,12 @@ use Rattle.ts_exec.specs.Ends.{ending_at}
 use Rattle.ts_explain.specs.Faults.{fault_line, fault_number}
 use Rattle.ts_explain.specs.Lines.{BeginsLines, fault_lines, sentence_lines, with_sentence}
 use Rattle.ts_explain.specs.Sentences.{sentence_of}
+use Rattle.ts_explain.specs.declared.skipped.Skipped.{Skipped}
 use Rattle.ts_perform.specs.Failures.{failure_text, notice_text}
 use Rattle.ts_perform.specs.Faults.{kept_line, mount_line}
 use Rattle.ts_perform.specs.Inputs.{Finds, IsReadAt, IsSeenFor}
 use Rattle.ts_perform.specs.Pasts.{IsOfBoth}
+use Rattle.ts_perform.specs.Skips.{asked_skips}
 use Rattle.ts_perform.specs.Snapshots.{IsBegun, IsBrokenAt, IsPlanned, IsValidAt, IsValidBegun, valid_text}
 use Rattle.ts_perform.specs.Specials.{FindsSpecial}
 use Rattle.ts_perform.specs.Stands.{IsAt, IsRunOf, Stand}
@@ -101,6 +104,10 @@ abbrev pub notice_lines : Bool → List Notice → List Line
 notice_lines explain [] = []
 notice_lines explain (notice ∷ notices) = with_sentence explain (notice_text notice) (notice_line notice) ++ notice_lines explain notices
 
+-- what else is said of a run
+abbrev pub remark_lines : Command → List Notice → List Skipped → List Line
+remark_lines command notices skips = notice_lines command.explain notices ++ asked_skips command skips
+
 -- some notices were reported, as far as they could be written
 abbrev pub BeginsNotices : Bool → (old new : Option (List ℕ)) → Type 0
 BeginsNotices explain old new = (notices : List Notice) × AppendsFront old new (text (notice_lines explain notices))
@@ -137,12 +144,13 @@ pub record Came : Type 0 where
   pub causes : List Cause
   pub lost : Option PerformFault
   pub notices : List Notice
+  pub skips : List Skipped
 
 abbrev pub report_of : Came → List ℕ
 report_of came = run_report came.checkup.plan came.results
 
 abbrev pub faults_of : Command → Came → List ℕ
-faults_of command came = text (run_faults command came.checkup.plan came.results came.causes came.lost ++ notice_lines command.explain came.notices)
+faults_of command came = text (run_faults command came.checkup.plan came.results came.causes came.lost ++ remark_lines command came.notices came.skips)
 
 abbrev pub status_after : Came → ℕ
 status_after came = run_status came.checkup.plan came.results came.lost

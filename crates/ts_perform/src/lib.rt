@@ -15,6 +15,7 @@ mod previewing;
 mod reporting;
 mod room;
 mod running;
+mod skips;
 mod snapshot;
 mod special;
 mod task;

@@ -3,19 +3,20 @@ ghost use Rattle.std.specs.Option.{option_copied};
 ghost use Rattle.std.specs.Prelude.{◌≡◌, ◌≤◌, ◌++◌, Some, get_or, length, IfOk};
 ghost use Rattle.ts_model.specs.Plans.{action_limit};
 ghost use Rattle.ts_model.specs.Texts.{text};
-ghost use Rattle.ts_perform.specs.Runs.{failure_line, failure_lines, lost_by, lost_lines, notice_lines, path_for, run_faults, run_report, run_status};
+ghost use Rattle.ts_perform.specs.Runs.{failure_line, failure_lines, lost_by, lost_lines, notice_lines, path_for, remark_lines, run_faults, run_report, run_status};
 ghost use Rattle.ts_report.specs.Reports.{fates, report_text, totals_of};
 ghost use Rattle.ts_text.specs.Sources.{Writes};
 
 use crate::answers::{write_failure, write_notice};
 use crate::fault::PerformFault;
+use crate::skips::report_asked_skips;
 use std::alloc::Global;
 use ts_cause::Cause;
 use ts_check::Checked;
 use ts_command::Command;
 use ts_disk::Notice;
 use ts_exec::{ActionResult, Outcome};
-use ts_explain::{push_fault, push_sentence, write_explained};
+use ts_explain::{Skipped, push_fault, push_sentence, write_explained};
 use ts_model::plan::{Action, Kind, Plan};
 use ts_name::Path;
 use ts_report::{ReportFault, Results, Totals};
@@ -76,7 +77,14 @@ pub(crate) fn report_outcome<S: Site, O: Sink, E: Sink>(
     }
 }
 
-/// The same, and then the notices.
+/// What else is said of a run: what it left, and why entries are skipped.
+#[derive(Clone, Copy, Drop)]
+pub(crate) struct Remarks<'a> {
+    pub notices: &'a [Notice],
+    pub skips: &'a [Skipped<'a>],
+}
+
+/// The same, and then the remarks.
 pub(crate) fn report_all<S: Site, O: Sink, E: Sink>(
     alloc: Global,
     command: &Command<'_>,
@@ -84,19 +92,32 @@ pub(crate) fn report_all<S: Site, O: Sink, E: Sink>(
     outcome: &Outcome<S>,
     causes: &[Cause],
     kept: Result<(), PerformFault>,
-    notices: &[Notice],
+    remarks: &Remarks<'_>,
     out: &mut O,
     err: &mut E,
 ) -> Result<u8, TextFault>
     requires count { length outcome.now.results.items ≡ length checked.now.plan.actions }
     ensures report { Writes (O.holds out.old) (O.holds out.new) (run_report checked.now.plan outcome.now.results.items) result }
     ensures faults { Writes (E.holds err.old) (E.holds err.new)
-        (text (run_faults command.now checked.now.plan outcome.now.results.items causes.now (lost_by kept) ++ notice_lines command.now.explain notices.now)) result }
+        (text (run_faults command.now checked.now.plan outcome.now.results.items causes.now (lost_by kept) ++ remark_lines command.now remarks.now.notices.now remarks.now.skips.now)) result }
     ensures status { IfOk result (λ status. status ≡ run_status checked.now.plan outcome.now.results.items (lost_by kept)) }
 {
     let status = report_outcome(alloc, command, checked, outcome, causes, kept, out, err)?;
-    report_notices(alloc, command.explain, notices, err)?;
+    report_remarks(alloc, command, remarks, err)?;
     Ok(status)
+}
+
+/// Reports notices, and then says why entries are skipped, where the command asks for that.
+fn report_remarks<E: Sink>(
+    alloc: Global,
+    command: &Command<'_>,
+    remarks: &Remarks<'_>,
+    err: &mut E,
+) -> Result<(), TextFault>
+    ensures told { Writes (E.holds err.old) (E.holds err.new) (text (remark_lines command.now remarks.now.notices.now remarks.now.skips.now)) result }
+{
+    report_notices(alloc, command.explain, remarks.notices, err)?;
+    report_asked_skips(alloc, command, remarks.skips, err)
 }
 
 /// Reports why the archive is lost. The line has the fault's number alone.

@@ -12,7 +12,8 @@ use crate::causes::causes_of;
 use crate::disk::{Disk, Machine};
 use crate::fault::{PerformFault, Subject, of_disk};
 use crate::past::{Past, is_one_new, new_one};
-use crate::reporting::{FAILED, report_all, report_notices};
+use crate::reporting::{FAILED, Remarks, report_all, report_notices};
+use crate::skips::skips_of;
 use crate::snapshot::Snapshot;
 use crate::task::Task;
 use std::alloc::Global;
@@ -301,7 +302,11 @@ impl<R: Machine> Task<'_, R> {
                 let causes = causes_of(self, &checked, &mut outcome);
                 // what can't be found out of mounts is no reason to end
                 let _ = self.add_mounts(alloc, plan, outcome.results(), notices);
-                let notices = notices.as_slice();
+                let skips = skips_of(alloc, self.command, plan, snapshot);
+                let remarks = Remarks {
+                    notices: notices.as_slice(),
+                    skips: skips.as_slice(),
+                };
                 let causes = causes.as_slice();
                 let told = report_all(
                     alloc,
@@ -310,7 +315,7 @@ impl<R: Machine> Task<'_, R> {
                     &outcome,
                     causes,
                     kept,
-                    notices,
+                    &remarks,
                     out,
                     err,
                 );

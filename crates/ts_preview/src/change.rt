@@ -23,7 +23,7 @@ pub enum Change {
 
 impl Change {
     /// The change in words.
-    pub(crate) fn word(self) -> &'static [u8]
+    pub fn word(self) -> &'static [u8]
         ensures { result.now ≡ change_word self }
     {
         match self {

@@ -2,7 +2,7 @@ use Rattle.std.proofs.Common.{◌++◌}
 use Rattle.std.proofs.lemmas.Result.{err_from_is_err_and}
 use Rattle.ts_tree.proofs.Writing.{begun_after, begun_first, sent_more}
 use Rattle.ts_exec.specs.Ends.{ending_at}
-use Rattle.ts_perform.specs.Runs.{failure_lines, notice_lines, lost_by, lost_lines}
+use Rattle.ts_perform.specs.Runs.{failure_lines, lost_by, lost_lines, remark_lines}
 use Rattle.ts_perform.proofs.Failures.{whole_begun}
 use Rattle.ts_report.specs.Reports.{report_text}
 use Rattle.ts_perform.proofs.reporting.report_all.Goals as goal
@@ -12,26 +12,26 @@ returns-in_err-status-clause-faults g c =
     let p = err_from_is_err_and c.from_residual.result c.from_residual.ensures.1 in
     let plan = c.args.checked.now.plan in
     let lines = failure_lines c.args.command.now.explain plan.entries plan.actions c.args.outcome.now.results.items c.args.causes.now ++ lost_lines c.args.command.now (lost_by c.args.kept) in
-    rw p.1 (begun_first (g.E.Sink.holds c.args.err.now) (g.E.Sink.holds c.report_outcome.new.err) lines (notice_lines c.args.command.now.explain c.args.notices.now) c.in_err-status.ensures.faults)
+    rw p.1 (begun_first (g.E.Sink.holds c.args.err.now) (g.E.Sink.holds c.report_outcome.new.err) lines (remark_lines c.args.command.now c.args.remarks.now.notices.now c.args.remarks.now.skips.now) c.in_err-status.ensures.faults)
 
-pub returns-in_err-report_notices-clause-report : goal.returns-in_err-report_notices-clause-report
-returns-in_err-report_notices-clause-report g c =
-    let p = err_from_is_err_and c.from_residual-in_err-report_notices.result c.from_residual-in_err-report_notices.ensures.1 in
+pub returns-in_err-report_remarks-clause-report : goal.returns-in_err-report_remarks-clause-report
+returns-in_err-report_remarks-clause-report g c =
+    let p = err_from_is_err_and c.from_residual-in_err-report_remarks.result c.from_residual-in_err-report_remarks.ensures.1 in
     let report = report_text (ending_at c.args.outcome.now.results.items) c.args.checked.now.plan in
     rw p.1 (whole_begun (g.O.Sink.holds c.args.out.now) (g.O.Sink.holds c.report_outcome.new.out) report c.in_ok-status.ensures.report)
 
-pub returns-in_err-report_notices-clause-faults : goal.returns-in_err-report_notices-clause-faults
-returns-in_err-report_notices-clause-faults g c =
-    let p = err_from_is_err_and c.from_residual-in_err-report_notices.result c.from_residual-in_err-report_notices.ensures.1 in
+pub returns-in_err-report_remarks-clause-faults : goal.returns-in_err-report_remarks-clause-faults
+returns-in_err-report_remarks-clause-faults g c =
+    let p = err_from_is_err_and c.from_residual-in_err-report_remarks.result c.from_residual-in_err-report_remarks.ensures.1 in
     let plan = c.args.checked.now.plan in
     let lines = failure_lines c.args.command.now.explain plan.entries plan.actions c.args.outcome.now.results.items c.args.causes.now ++ lost_lines c.args.command.now (lost_by c.args.kept) in
     rw p.1
-    (begun_after (g.E.Sink.holds c.args.err.now) (g.E.Sink.holds c.report_outcome.new.err) (g.E.Sink.holds c.report_notices.new.err) lines (notice_lines c.args.command.now.explain c.args.notices.now)
-    c.in_ok-status.ensures.faults c.in_err-report_notices.ensures.told)
+    (begun_after (g.E.Sink.holds c.args.err.now) (g.E.Sink.holds c.report_outcome.new.err) (g.E.Sink.holds c.report_remarks.new.err) lines (remark_lines c.args.command.now c.args.remarks.now.notices.now c.args.remarks.now.skips.now)
+    c.in_ok-status.ensures.faults c.in_err-report_remarks.ensures.told)
 
 pub returns-clause-faults : goal.returns-clause-faults
 returns-clause-faults g c =
     let plan = c.args.checked.now.plan in
     let lines = failure_lines c.args.command.now.explain plan.entries plan.actions c.args.outcome.now.results.items c.args.causes.now ++ lost_lines c.args.command.now (lost_by c.args.kept) in
-    sent_more (g.E.Sink.holds c.args.err.now) (g.E.Sink.holds c.report_outcome.new.err) (g.E.Sink.holds c.report_notices.new.err) lines (notice_lines c.args.command.now.explain c.args.notices.now)
-    c.in_ok-status.ensures.faults c.in_ok-report_notices.ensures.told
+    sent_more (g.E.Sink.holds c.args.err.now) (g.E.Sink.holds c.report_outcome.new.err) (g.E.Sink.holds c.report_remarks.new.err) lines (remark_lines c.args.command.now c.args.remarks.now.notices.now c.args.remarks.now.skips.now)
+    c.in_ok-status.ensures.faults c.in_ok-report_remarks.ensures.told

@@ -11,7 +11,7 @@ use Rattle.ts_perform.proofs.task.Task.carry_out.Goals as goal
 
 pub returns-in-Ok : goal.returns-in-Ok
 returns-in-Ok g c =
-    let came : Came = record { checkup = c.in_ok-checked.checked; results = c.in-Ok.outcome.results.items; causes = c.as_slice-causes.result.now; lost = lost_by c.keep_archive-kept.result; notices = c.as_slice-notices.result.now } in
+    let came : Came = record { checkup = c.in_ok-checked.checked; results = c.in-Ok.outcome.results.items; causes = c.as_slice-causes.result.now; lost = lost_by c.keep_archive-kept.result; notices = c.as_slice-notices.result.now; skips = c.as_slice-skips.result.now } in
     let same = c.in_ok-checked.ensures.checked in
     let words = words_of c.in-Ok.outcome.closed in
     record {
