@@ -28,6 +28,6 @@ pub use lock::{Lock, take_lock};
 pub use notice::{Notice, mount_above};
 pub use places::DiskPlaces;
 pub use plan_file::{remove_plan, save_plan};
-pub use recovery::{check_leftovers, clear_leftovers, recover_replica};
+pub use recovery::{awaits_recovery, check_leftovers, clear_leftovers, recover_replica};
 pub use replica::Replica;
 pub use site::DiskSite;

@@ -12,7 +12,7 @@ use crate::names::{kept_number, spot_number};
 use crate::notice::Notice;
 use crate::place::{Standing, look_at, own_place};
 use crate::places::DiskPlaces;
-use crate::plan_file::{read_plan, remove_plan};
+use crate::plan_file::{holds_plan, read_plan, remove_plan};
 use crate::replica::Replica;
 use std::alloc::Global;
 use std::fs;
@@ -42,6 +42,20 @@ pub fn check_leftovers<R: Files + AllocGlobal + Clone + Drop>(
             cause: Cause::Unknown,
         }),
     }
+}
+
+/// Whether a stopped run left something in a replica that the next run has to bring to its end first: its plan, or what lies at
+/// a spot of a swap. So it is while a run works there. Nothing is changed.
+pub fn awaits_recovery<R: Files + AllocGlobal + Clone + Drop>(
+    files: &R,
+    alloc: Global,
+    root: &str,
+) -> Result<bool, DiskFault> {
+    if holds_plan(files, alloc, root)? {
+        return Ok(true);
+    }
+    let taken = taken_spots(alloc, &own_names(files, alloc, root)?)?;
+    Ok(!taken.is_empty())
 }
 
 /// Whether the entries of these numbers are copied, into either replica.

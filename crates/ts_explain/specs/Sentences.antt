@@ -1,6 +1,7 @@
 -- What is said of faults, in sentences for people.
 --     about job what end      a file or a folder that a command names, and what is said of it
 --     because job what text hint cause   what is said of it, and why; where that is unknown, the hint in its place
+--     pending_text job what   what is said of a replica in which a stopped run isn't brought to its end yet
 --     sentence_of job fault   what is said of a fault of a command
 use Rattle.std.specs.Prelude.{ℕ, Bool, true, false, if◌then◌else◌, List, [], ◌∷◌, codes, decimal, nat_lt}
 use Rattle.ts_name.specs.Paths.{Path, path_text}
@@ -34,6 +35,10 @@ missing_text subject.Archive = codes " isn't there: `show` needs one that exists
 missing_text subject.Holds = codes " isn't there."
 missing_text subject.Plan = codes " isn't there."
 missing_text other = codes " isn't there any more: is its disk still mounted?"
+
+-- of a replica in which a stopped run isn't brought to its end yet
+abbrev pub pending_text : Job → Subject → List ℕ
+pending_text job what = about job what (codes ": a run was stopped there, or still works. The next `run` or `sync` brings it to an end first.")
 
 -- of a replica that never took part in a run, though the archive names so many paths
 abbrev pub new_text : Job → Subject → ℕ → List ℕ

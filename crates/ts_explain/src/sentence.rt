@@ -1,6 +1,6 @@
 //! What a fault means, in a sentence that names what it is about.
 ghost use Rattle.std.specs.Prelude.{◌≡◌, ◌++◌, OnOk};
-ghost use Rattle.ts_explain.specs.Sentences.{about, bad_line_text, bad_rule_text, because, broken_text, missing_text, new_text, refusal_text, scan_text, sentence_of, unreadable_text};
+ghost use Rattle.ts_explain.specs.Sentences.{about, bad_line_text, bad_rule_text, because, broken_text, missing_text, new_text, pending_text, refusal_text, scan_text, sentence_of, unreadable_text};
 ghost use Rattle.ts_explain.specs.Subjects.{why_cause, why_hint, why_text};
 
 use crate::fault::PerformFault;
@@ -30,6 +30,9 @@ const WRONG_END: &[u8] =
 const DEVICE: &[u8] = b": its device failed, or what a stopped run left can't be finished";
 
 const STOP: &[u8] = b".";
+
+const PENDING: &[u8] =
+    b": a run was stopped there, or still works. The next `run` or `sync` brings it to an end first.";
 
 const LOCKED: &[u8] = b" is in use by another run.";
 
@@ -70,6 +73,20 @@ pub fn push_sentence(
         PerformFault::Broken { rule, place } => push_broken(alloc, job, *rule, *place, line),
         PerformFault::Scan { what, fault } => push_scan(alloc, job, *what, fault, line),
     }
+}
+
+/// Appends what is said of a replica in which a stopped run isn't brought to its end yet.
+///
+/// It fails where memory runs out.
+pub fn push_pending(
+    alloc: Global,
+    job: &Job<'_>,
+    what: Subject,
+    line: &mut Vec<u8>,
+) -> Result<(), AllocError>
+    ensures { OnOk result (line.new.items ≡ line.old.items ++ pending_text job.now what) }
+{
+    push_about(alloc, job, what, PENDING, line)
 }
 
 /// Appends what is said of a file or a folder, after its name.

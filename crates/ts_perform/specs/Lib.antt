@@ -4,6 +4,7 @@ pub mod Inputs
 pub mod Jobs
 pub mod Lengths
 pub mod Pasts
+pub mod Pending
 pub mod Previewing
 pub mod Printouts
 pub mod Puts

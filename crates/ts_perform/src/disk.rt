@@ -14,7 +14,9 @@ use std::rt::Clock;
 use std::thread::Threads;
 use std::{fs, io};
 use ts_cause::{Cause, cause_of};
-use ts_disk::{ArchivePlace, DiskFault, DiskSite, Lock, claim_archive, flush_above, take_lock};
+use ts_disk::{
+    ArchivePlace, DiskFault, DiskSite, Lock, awaits_recovery, claim_archive, flush_above, take_lock,
+};
 use ts_folder::Folder;
 use ts_name::Path;
 use ts_print::Print;
@@ -60,6 +62,9 @@ pub trait Disk {
 
     // Whether it was said that a run into it was stopped.
     ghost stopped: { Self.Lock → Bool → Type 0 };
+
+    // Whether it was said of the replica with this root that a stopped run isn't brought to its end there.
+    ghost awaits: { List ℕ → Bool → Type 0 };
 
     // What was found by this name: nothing, or a file, with its bytes where it tells them.
     ghost finds: { List ℕ → Option (Option (List ℕ)) → Type 0 };
@@ -113,6 +118,10 @@ pub trait Disk {
     /// Whether a run into the replica was stopped before it was locked.
     fn was_stopped(&self, lock: &Self::Lock) -> bool
         ensures { stopped lock.now result };
+
+    /// Whether a stopped run isn't brought to its end in a replica.
+    fn awaits_recovery(&self, alloc: Global, root: &str) -> Result<bool, DiskFault>
+        ensures { IfOk result (awaits root.now) };
 
     /// Whether a locked replica is still there. It isn't where its disk was unmounted since.
     fn is_in_place(&self, lock: &Self::Lock) -> bool;
@@ -181,6 +190,8 @@ impl Disk for HostRuntime {
     ghost took = { λ _ _. ⊤ };
 
     ghost stopped = { λ _ _. ⊤ };
+
+    ghost awaits = { λ _ _. ⊤ };
 
     ghost finds = { λ _ _. ⊤ };
 
@@ -251,6 +262,10 @@ impl Disk for HostRuntime {
 
     fn was_stopped(&self, lock: &Lock) -> bool {
         lock.was_stopped()
+    }
+
+    fn awaits_recovery(&self, alloc: Global, root: &str) -> Result<bool, DiskFault> {
+        awaits_recovery(self, alloc, root)
     }
 
     fn is_in_place(&self, lock: &Lock) -> bool {

@@ -10,6 +10,7 @@ pub mod fault;
 mod inputs;
 mod lengths;
 mod past;
+mod pending;
 pub mod performing;
 mod previewing;
 mod reporting;

@@ -2,10 +2,11 @@
 ghost use Rattle.std.specs.Prelude.{◌≡◌, ◌≤◌, IfErr, None};
 ghost use Rattle.ts_model.specs.Trial.{Trial};
 ghost use Rattle.ts_perform.specs.Jobs.{IfCheck, IfPlan, IfPreview, IfRun, IfScan, IfShow, IfSync, IfTell};
+ghost use Rattle.ts_perform.specs.Pending.{AnswersPending, AnswersVerdictPending, JudgesPending, PrintsPending};
 ghost use Rattle.ts_perform.specs.Previewing.{IsPreviewAt};
 ghost use Rattle.ts_perform.specs.Printouts.{IsBodyOf, IsScanText, IsShown, IsTold};
-ghost use Rattle.ts_perform.specs.Runs.{AnswersOne, AnswersRun, AnswersVerdict, IsRun, IsSynced, Ran, Refuses};
-ghost use Rattle.ts_perform.specs.Snapshots.{IsCheckupAt, IsPrintoutAt, Judges, JudgesAlone, Prints, PrintsAlone};
+ghost use Rattle.ts_perform.specs.Runs.{AnswersOne, AnswersRun, IsRun, IsSynced, Ran, Refuses};
+ghost use Rattle.ts_perform.specs.Snapshots.{IsCheckupAt, IsPrintoutAt, Judges, Prints, PrintsAlone};
 ghost use Rattle.ts_perform.specs.Trials.{Answers, IfApart, IsQuiet};
 ghost use Rattle.ts_trial.specs.Answers.{WritesOne};
 
@@ -13,6 +14,7 @@ use crate::answers::write_refusal;
 use crate::disk::{Disk, Machine};
 use crate::fault::{PerformFault, Subject, UNWRITTEN, of_archive, of_trial, on_output};
 use crate::inputs::{read_archive, scan_folder};
+use crate::pending::report_pending;
 use crate::previewing::preview;
 use crate::snapshot::Snapshot;
 use crate::task::Task;
@@ -46,11 +48,11 @@ pub fn perform<R: Machine, I: Source + Drop, O: Sink, E: Sink>(
         (O.holds out.old) (O.holds out.new) (E.holds err.old) (E.holds err.new) result) }
     ensures show { IfShow command.now.job (λ name. AnswersOne command.now (IsShown R.finds name)
         (O.holds out.old) (O.holds out.new) (E.holds err.old) (E.holds err.new) result) }
-    ensures plan { IfPlan command.now.job (λ pair. AnswersOne command.now (IsPrintoutAt R.is_at R.Folder.tells R.finds R.finds_special pair)
+    ensures plan { IfPlan command.now.job (λ pair. AnswersPending R.awaits command.now pair (IsPrintoutAt R.is_at R.Folder.tells R.finds R.finds_special pair)
         (O.holds out.old) (O.holds out.new) (E.holds err.old) (E.holds err.new) result) }
-    ensures preview { IfPreview command.now.job (λ pair json. AnswersOne command.now (IsPreviewAt R.is_at R.Folder.tells R.finds R.finds_special pair json)
+    ensures preview { IfPreview command.now.job (λ pair json. AnswersPending R.awaits command.now pair (IsPreviewAt R.is_at R.Folder.tells R.finds R.finds_special pair json)
         (O.holds out.old) (O.holds out.new) (E.holds err.old) (E.holds err.new) result) }
-    ensures check { IfCheck command.now.job (λ pair plan. AnswersVerdict command.now (IsCheckupAt R.is_at R.Folder.tells R.finds R.finds_special pair plan)
+    ensures check { IfCheck command.now.job (λ pair plan. AnswersVerdictPending R.awaits command.now pair (IsCheckupAt R.is_at R.Folder.tells R.finds R.finds_special pair plan)
         (O.holds out.old) (O.holds out.new) (E.holds err.old) (E.holds err.new) result) }
     ensures run { IfRun command.now.job (λ pair plan. AnswersRun command.now (IsRun
         R.stand R.Site.content R.Site.failures R.is_at R.Folder.tells R.Folder.lets R.is_named R.has R.finds R.finds_special pair plan)
@@ -105,11 +107,11 @@ fn answer<R: Machine, I: Source + Drop, O: Sink, E: Sink>(
         (O.holds out.old) (O.holds out.new) (E.holds err.old) (E.holds err.new) result) }
     ensures show { IfShow command.now.job (λ name. PrintsAlone (IsShown R.finds name)
         (O.holds out.old) (O.holds out.new) (E.holds err.old) (E.holds err.new) result) }
-    ensures plan { IfPlan command.now.job (λ pair. PrintsAlone (IsPrintoutAt R.is_at R.Folder.tells R.finds R.finds_special pair)
+    ensures plan { IfPlan command.now.job (λ pair. PrintsPending R.awaits command.now pair (IsPrintoutAt R.is_at R.Folder.tells R.finds R.finds_special pair)
         (O.holds out.old) (O.holds out.new) (E.holds err.old) (E.holds err.new) result) }
-    ensures preview { IfPreview command.now.job (λ pair json. PrintsAlone (IsPreviewAt R.is_at R.Folder.tells R.finds R.finds_special pair json)
+    ensures preview { IfPreview command.now.job (λ pair json. PrintsPending R.awaits command.now pair (IsPreviewAt R.is_at R.Folder.tells R.finds R.finds_special pair json)
         (O.holds out.old) (O.holds out.new) (E.holds err.old) (E.holds err.new) result) }
-    ensures check { IfCheck command.now.job (λ pair plan. JudgesAlone (IsCheckupAt R.is_at R.Folder.tells R.finds R.finds_special pair plan)
+    ensures check { IfCheck command.now.job (λ pair plan. JudgesPending R.awaits command.now pair (IsCheckupAt R.is_at R.Folder.tells R.finds R.finds_special pair plan)
         (O.holds out.old) (O.holds out.new) (E.holds err.old) (E.holds err.new) result) }
     ensures run { IfRun command.now.job (λ pair plan. Ran command.now (IsRun
         R.stand R.Site.content R.Site.failures R.is_at R.Folder.tells R.Folder.lets R.is_named R.has R.finds R.finds_special pair plan)
@@ -128,9 +130,21 @@ fn answer<R: Machine, I: Source + Drop, O: Sink, E: Sink>(
             print_scan(rt, &progress, folder, workers, out)
         }
         Job::Show { archive } => show(rt, archive, out),
-        Job::Plan { pair } => print_plan(&Task::new(rt, command, pair), out),
-        Job::Preview { pair, json } => preview(&Task::new(rt, command, pair), *json, out),
-        Job::Check { pair, plan } => check_plan(&Task::new(rt, command, pair), plan, out),
+        Job::Plan { pair } => {
+            let task = Task::new(rt, command, pair);
+            report_pending(&task, err);
+            print_plan(&task, out)
+        }
+        Job::Preview { pair, json } => {
+            let task = Task::new(rt, command, pair);
+            report_pending(&task, err);
+            preview(&task, *json, out)
+        }
+        Job::Check { pair, plan } => {
+            let task = Task::new(rt, command, pair);
+            report_pending(&task, err);
+            check_plan(&task, plan, out)
+        }
         Job::Run { pair, plan } => Task::new(rt, command, pair).run_plan(plan, out, err),
         Job::Sync { pair } => Task::new(rt, command, pair).sync(out, err),
     }

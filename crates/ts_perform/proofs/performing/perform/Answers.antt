@@ -1,4 +1,4 @@
-use Rattle.std.proofs.Common.{inl}
+use Rattle.std.proofs.Common.{inl, refl}
 use Rattle.ts_perform.proofs.Pairs.{in_check, in_plan, in_preview, in_run, in_scan, in_show, in_sync, in_tell}
 use Rattle.ts_perform.proofs.Reported.{answers_fault, answers_refusal, answers_verdict, quiet_or_broken, verdict_told}
 use Rattle.ts_perform.proofs.Trials.{told_refusal}
@@ -14,13 +14,13 @@ pub returns-in-Ok-clause-show : goal.returns-in-Ok-clause-show
 returns-in-Ok-clause-show g c = in_show c.args.command.now.job _ _ (λ name printed. inl printed) c.in-Ok.ensures.show
 
 pub returns-in-Ok-clause-plan : goal.returns-in-Ok-clause-plan
-returns-in-Ok-clause-plan g c = in_plan c.args.command.now.job _ _ (λ pair printed. inl printed) c.in-Ok.ensures.plan
+returns-in-Ok-clause-plan g c = in_plan c.args.command.now.job _ _ (λ pair printed. (_, printed.1, inl (printed.0, refl))) c.in-Ok.ensures.plan
 
 pub returns-in-Ok-clause-preview : goal.returns-in-Ok-clause-preview
-returns-in-Ok-clause-preview g c = in_preview c.args.command.now.job _ _ (λ pair json printed. inl printed) c.in-Ok.ensures.preview
+returns-in-Ok-clause-preview g c = in_preview c.args.command.now.job _ _ (λ pair json printed. (_, printed.1, inl (printed.0, refl))) c.in-Ok.ensures.preview
 
 pub returns-in-Ok-clause-check : goal.returns-in-Ok-clause-check
-returns-in-Ok-clause-check g c = in_check c.args.command.now.job _ _ (λ pair plan judged. verdict_told c.args.command.now _ (g.O.Sink.holds c.args.out.now) (g.O.Sink.holds c.answer.new.out) (g.E.Sink.holds c.args.err.now) (g.E.Sink.holds c.answer.new.err) c.in-Ok.status judged) c.in-Ok.ensures.check
+returns-in-Ok-clause-check g c = in_check c.args.command.now.job _ _ (λ pair plan judged. (_, judged.1, verdict_told c.args.command.now _ (g.O.Sink.holds c.args.out.now) (g.O.Sink.holds c.answer.new.out) (g.E.Sink.holds c.answer.new.err) (g.E.Sink.holds c.answer.new.err) c.in-Ok.status (judged.0, refl))) c.in-Ok.ensures.check
 
 pub returns-in-Ok-clause-run : goal.returns-in-Ok-clause-run
 returns-in-Ok-clause-run g c = in_run c.args.command.now.job _ _ (λ pair plan ran. inl ran) c.in-Ok.ensures.run
@@ -39,9 +39,9 @@ returns-in-Err g c =
       tell = in_tell job _ _ (λ printed. answers_fault c.args.command.now _ old mid new old_faults mid_faults new_faults fault c.refuse.result printed is refuses) ensures.tell;
       scan = in_scan job _ _ (λ root printed. answers_fault c.args.command.now _ old mid new old_faults mid_faults new_faults fault c.refuse.result printed is refuses) ensures.scan;
       show = in_show job _ _ (λ name printed. answers_fault c.args.command.now _ old mid new old_faults mid_faults new_faults fault c.refuse.result printed is refuses) ensures.show;
-      plan = in_plan job _ _ (λ pair printed. answers_fault c.args.command.now _ old mid new old_faults mid_faults new_faults fault c.refuse.result printed is refuses) ensures.plan;
-      preview = in_preview job _ _ (λ pair json printed. answers_fault c.args.command.now _ old mid new old_faults mid_faults new_faults fault c.refuse.result printed is refuses) ensures.preview;
-      check = in_check job _ _ (λ pair plan judged. answers_verdict c.args.command.now _ old mid new old_faults mid_faults new_faults fault c.refuse.result judged is (quiet_or_broken fault) refuses) ensures.check;
+      plan = in_plan job _ _ (λ pair printed. (mid_faults, printed.1, answers_fault c.args.command.now _ old mid new mid_faults mid_faults new_faults fault c.refuse.result (printed.0, refl) is refuses)) ensures.plan;
+      preview = in_preview job _ _ (λ pair json printed. (mid_faults, printed.1, answers_fault c.args.command.now _ old mid new mid_faults mid_faults new_faults fault c.refuse.result (printed.0, refl) is refuses)) ensures.preview;
+      check = in_check job _ _ (λ pair plan judged. (mid_faults, judged.1, answers_verdict c.args.command.now _ old mid new mid_faults mid_faults new_faults fault c.refuse.result (judged.0, refl) is (quiet_or_broken fault) refuses)) ensures.check;
       run = in_run job _ _ (λ pair plan ran. answers_refusal c.args.command.now _ old mid new old_faults mid_faults new_faults fault c.refuse.result ran is refuses) ensures.run;
       sync = in_sync job _ _ (λ pair ran. answers_refusal c.args.command.now _ old mid new old_faults mid_faults new_faults fault c.refuse.result ran is refuses) ensures.sync;
     }
