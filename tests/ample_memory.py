@@ -91,6 +91,9 @@ preview.sh: expect 'a first look' 0: ts_preview::outlooks ts_preview::write
 explain.sh: told 'no archive to show' 3: ts_explain::write_fault ts_explain::push_sentence ts_explain::push_pieces
 explain.sh: told 'no archive to show' 3: ts_preview::push_shown ts_explain::push_fault ts_explain::write_explained
 explain.sh: expect 'such a path, explained' 3: ts_explain::write_sentence
+explain.sh: skips 'a file that was changed in both': ts_explain::push_skip
+explain.sh: looks 'a plan is left in the second folder': ts_disk::awaits_recovery ts_perform::HostRuntime::awaits_recovery
+explain.sh: looks 'a plan is left in the second folder': ts_explain::push_pending
 special.sh: expect 'links in three folders' 1: ts_perform::HostRuntime::specials ts_special::search ts_special::union
 special.sh: expect 'links in three folders' 1: ts_special::HoldingFolder::new ts_special::HoldingFolder::list
 special.sh: expect 'links in three folders' 1: ts_special::HoldingFolder::open_file ts_special::HoldingFolder::fill

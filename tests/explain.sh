@@ -129,11 +129,99 @@ else
   echo 'skipped: there is no flock, so what another run holds is not tried'
 fi
 
+# ---- what is skipped, and why
+# skips NAME OUT SENTENCE WORDS..: these words skip this, with this sentence where it is asked for
+skips() {
+  local name=$1 out=$2 sentence=$3
+  shift 3
+  expect "$name" 1 "$out" '' "$@"
+  expect "$name, explained" 1 "$out" "$sentence" "$@" --explain
+}
+fresh
+printf a >first/f
+printf a >first/g
+mkdir first/d
+printf a >first/d/x
+"$program" "${sync[@]}" >out
+printf bb >first/f
+printf ccc >second/f
+skips 'a file that was changed in both' $'skip conflict /f\ntotal 1 done 0 skipped 1 failed 0 blocked 0' '/f is a conflict: changed in first, changed in second.' "${sync[@]}"
+"$program" plan first second archive >plan
+skips 'the same of a plan' $'skip conflict /f\ntotal 1 done 0 skipped 1 failed 0 blocked 0' '/f is a conflict: changed in first, changed in second.' run first second archive plan
+rm second/f
+skips 'a file that was changed and deleted' $'skip conflict /f\ntotal 1 done 0 skipped 1 failed 0 blocked 0' '/f is a conflict: changed in first, deleted in second.' "${sync[@]}"
+skips 'the other way round' $'skip conflict /f\ntotal 1 done 0 skipped 1 failed 0 blocked 0' '/f is a conflict: deleted in second, changed in first.' sync second first archive
+mkdir second/f
+skips 'a file that became a folder' $'skip conflict /f\ntotal 1 done 0 skipped 1 failed 0 blocked 0' '/f is a conflict: changed in first, file becomes directory in second.' "${sync[@]}"
+rm -r second/f
+printf bb >second/f
+"$program" "${sync[@]}" >out
+printf a >first/n
+printf b >second/n
+skips 'files that are new in both' $'skip conflict /n\ntotal 1 done 0 skipped 1 failed 0 blocked 0' '/n is a conflict: new in first, new in second.' "${sync[@]}"
+rm first/n second/n
+printf 'path /g\n' >my.rules
+printf bb >first/g
+skips 'a path that a rule names' $'skip held /g\ntotal 1 done 0 skipped 1 failed 0 blocked 0' '/g is held: a rule or --hold-special holds /g.' "${sync[@]}" --holds my.rules
+printf a >first/g
+printf 'path /d\n' >my.rules
+printf bb >first/d/x
+skips 'a path below one that a rule names' $'skip held /d/x\ntotal 1 done 0 skipped 1 failed 0 blocked 0' '/d/x is held: a rule or --hold-special holds /d.' "${sync[@]}" --holds my.rules
+printf a >first/d/x
+printf 'name *.o\n' >my.rules
+mkdir first/e
+printf a >first/e/x.o
+skips 'a path above one that a rule names' $'skip held /e\ntotal 1 done 0 skipped 1 failed 0 blocked 0' '/e is held: a rule or --hold-special holds /e/x.o.' "${sync[@]}" --holds my.rules
+rm -r first/e
+ln -s a first/l
+skips 'a link' $'skip held /l\ntotal 1 done 0 skipped 1 failed 0 blocked 0' '/l is held: a rule or --hold-special holds /l.' "${sync[@]}" --hold-special
+rm first/l
+
 # ---- what lies in .twosync that no plan explains
 fresh
 mkdir -m 700 second/.twosync
 printf x >second/.twosync/old-0
 told 'what a stopped run left' 3 '' "second: its device failed, or what a stopped run left can't be finished." 'twosync: fault 8' "${sync[@]}"
+
+# ---- a run that was stopped and isn't brought to its end yet, for commands that only look
+fresh
+printf a >first/a
+"$program" plan first second archive >plan
+sums="what       change                    files             bytes  path
+to second  new                           1                 1  /a
+total 1: to first 0, to second 1, agreed 0, conflicts 0, held 0; files lost in first 0, in second 0"
+PENDING=': a run was stopped there, or still works. The next `run` or `sync` brings it to an end first.'
+# looks NAME SENTENCES: plan, check and preview say this, where it is asked for, and print what they print anyway
+looks() {
+  expect "$1: plan" 0 "$(cat plan)" '' plan first second archive
+  expect "$1: plan, explained" 0 "$(cat plan)" "$2" plan first second archive --explain
+  expect "$1: check" 0 valid '' check first second archive plan
+  expect "$1: check, explained" 0 valid "$2" check first second archive plan --explain
+  expect "$1: preview" 0 "$sums" '' preview first second archive
+  expect "$1: preview, explained" 0 "$sums" "$2" preview first second archive --explain
+}
+looks 'no run was stopped' ''
+mkdir -m 700 first/.twosync second/.twosync
+looks 'no run has left anything' ''
+cp plan second/.twosync/plan
+looks 'a plan is left in the second folder' "second$PENDING"
+cp plan first/.twosync/plan
+looks 'a plan is left in both' "first$PENDING"$'\n'"second$PENDING"
+rm second/.twosync/plan
+looks 'a plan is left in the first folder' "first$PENDING"
+rm first/.twosync/plan
+printf x >second/.twosync/old-0
+looks 'something lies aside in the second folder' "second$PENDING"
+holds_true 'it is still there' test "$(cat second/.twosync/old-0)" = x
+rm second/.twosync/old-0
+cp plan second/.twosync/plan
+expect 'a run brings it to its end, and says nothing of it' 0 $'done first /a\ntotal 1 done 1 skipped 0 failed 0 blocked 0' '' "${sync[@]}" --explain
+rm first/a
+mkfifo first/p
+cp plan second/.twosync/plan
+expect 'a command that is refused says it first' 3 '' "second$PENDING
+first$UNREAD$ALONE
+twosync: fault 10" plan first second archive --explain
 
 # ---- what must not be read or written; who may do everything runs this part as nobody
 if may_be_refused; then
