@@ -1,5 +1,5 @@
 //! Why actions failed, as far as the system says.
-ghost use Rattle.std.specs.Prelude.{◌≡◌, ◌≤◌, length};
+ghost use Rattle.std.specs.Prelude.{◌≡◌, ◌<◌, ◌≤◌, length};
 ghost use Rattle.std.specs.Mem.Slots.{slots_len};
 
 use crate::acting::replica;

@@ -1,5 +1,5 @@
 //! Why entries are skipped, where a run says it.
-ghost use Rattle.std.specs.Prelude.{◌∷◌, [], IfOk, IfSome};
+ghost use Rattle.std.specs.Prelude.{◌≡◌, ◌∷◌, [], IfOk, IfSome};
 ghost use Rattle.ts_model.specs.Holds.{Names};
 ghost use Rattle.ts_model.specs.Texts.{text};
 ghost use Rattle.ts_perform.specs.Skips.{IsSkippedSo, asked_skips, skip_lines};
@@ -48,7 +48,19 @@ fn skip_of<'a>(
     entry: &'a Entry,
     snapshot: &Snapshot,
 ) -> Result<Option<Skipped<'a>>, AllocError>
-    ensures { IfOk result (λ found. IfSome found (IsSkippedSo snapshot.now entry.entry.now)) }
+    ensures so { IfOk result (λ found. IfSome found (IsSkippedSo snapshot.now entry.entry.now)) }
+{
+    match entry.reason {
+        Reason::Conflict => Ok(Some(conflict(entry, snapshot))),
+        Reason::Held => held(alloc, entry, snapshot),
+        Reason::First | Reason::Second | Reason::Same | Reason::Dir => Ok(None),
+    }
+}
+
+/// What became of an entry that is a conflict.
+fn conflict<'a>(entry: &'a Entry, snapshot: &Snapshot) -> Skipped<'a>
+    requires { entry.now.reason ≡ Reason.Conflict }
+    ensures so { IsSkippedSo snapshot.now entry.entry.now result }
 {
     let Snapshot {
         archive,
@@ -57,18 +69,30 @@ fn skip_of<'a>(
         ..
     } = snapshot;
     let path = &entry.path;
-    let why = match entry.reason {
-        Reason::Conflict => Skip::Conflict {
-            first: change_between(archive, first, path),
-            second: change_between(archive, second, path),
-        },
-        Reason::Held => match held_by(alloc, path, snapshot)? {
-            Some(by) => Skip::Held { by },
-            None => return Ok(None),
-        },
-        Reason::First | Reason::Second | Reason::Same | Reason::Dir => return Ok(None),
+    let why = Skip::Conflict {
+        first: change_between(archive, first, path),
+        second: change_between(archive, second, path),
     };
-    Ok(Some(Skipped { path, why }))
+    Skipped { path, why }
+}
+
+/// What holds an entry that is held, if it is found.
+fn held<'a>(
+    alloc: Global,
+    entry: &'a Entry,
+    snapshot: &Snapshot,
+) -> Result<Option<Skipped<'a>>, AllocError>
+    requires { entry.now.reason ≡ Reason.Held }
+    ensures so { IfOk result (λ found. IfSome found (IsSkippedSo snapshot.now entry.entry.now)) }
+{
+    let path = &entry.path;
+    match held_by(alloc, path, snapshot)? {
+        Some(by) => {
+            let why = Skip::Held { by };
+            Ok(Some(Skipped { path, why }))
+        }
+        None => Ok(None),
+    }
 }
 
 /// The path that is named by a rule, above this one, its own, or below it in the archive or in a replica.

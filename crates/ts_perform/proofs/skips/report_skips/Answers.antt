@@ -12,7 +12,7 @@ loop-i-preserved g c =
     let job = c.args.job.now in
     let within : c.loop-i.i < length skips = omega arith in
     wrote_item (λ (skipped : Skipped). skip_text job skipped ∷ []) (skip_lines job) (λ l more. refl) skips c.loop-i.i c.index-skips-i.result within c.index-skips-i.is
-    (g.E.Sink.holds c.args.err.now) (g.E.Sink.holds c.loop-i.err) (g.E.Sink.holds c.write_skip.new.err) (skip_lines job skips) c.loop-i.invariant c.in_ok-write_skip.ensures
+    (g.E.Sink.holds c.args.err.now) (g.E.Sink.holds c.loop-i.err) (g.E.Sink.holds c.write_skip.new.err) (skip_lines job skips) c.loop-i.invariant c.in_ok-write_skip.ensures.told
 
 pub returns-in_err-write_skip : goal.returns-in_err-write_skip
 returns-in_err-write_skip g c =
@@ -23,5 +23,5 @@ returns-in_err-write_skip g c =
     rw p.1
     (record {
       told = begun_item (λ (skipped : Skipped). skip_text job skipped ∷ []) (skip_lines job) (λ l more. refl) skips c.loop-i.i c.index-skips-i.result within c.index-skips-i.is
-          (g.E.Sink.holds c.args.err.now) (g.E.Sink.holds c.loop-i.err) (g.E.Sink.holds c.write_skip.new.err) (skip_lines job skips) c.loop-i.invariant c.in_err-write_skip.ensures;
+          (g.E.Sink.holds c.args.err.now) (g.E.Sink.holds c.loop-i.err) (g.E.Sink.holds c.write_skip.new.err) (skip_lines job skips) c.loop-i.invariant c.in_err-write_skip.ensures.told;
     })

@@ -11,7 +11,7 @@ use Rattle.ts_perform.proofs.task.Task.carry_out.Goals as goal
 
 pub returns-in-Ok : goal.returns-in-Ok
 returns-in-Ok g c =
-    let came : Came = record { checkup = c.in_ok-checked.checked; results = c.in-Ok.outcome.results.items; causes = c.as_slice-causes.result.now; lost = lost_by c.keep_archive-kept.result; notices = c.as_slice-notices.result.now; skips = c.as_slice-skips.result.now } in
+    let came : Came = record { checkup = c.in_ok-checked.checked; results = c.causes_of-causes.new.outcome.results.items; causes = c.as_slice-causes.result.now; lost = lost_by c.keep_archive-kept.result; notices = c.as_slice.result.now; skips = c.as_slice-in-Ok.result.now } in
     let same = c.in_ok-checked.ensures.checked in
     let words = words_of c.in-Ok.outcome.closed in
     record {
@@ -25,7 +25,7 @@ returns-in-Ok g c =
             safe = subst (λ (k : Checkup). IsSafe (snapshot_of k) k.plan) (sym same) c.in_ok-checked.ensures.safe;
             words = words;
             slots = slots_of c.in-Ok.outcome.closed;
-            run = c.in-Ok.ensures.stands;
+            run = rw c.causes_of-causes.ensures.results c.in-Ok.ensures.stands;
             archive = kept_in g.R.Disk.is_named g.R.Disk.has came.checkup words c.keep_archive-kept.new.place c.args.self.now.pair.now.archive.now c.keep_archive-kept.result
                 (c.keep_archive-kept.ensures.named c.args.self.now.pair.now.archive.now c.requires.named) c.keep_archive-kept.ensures.kept;
           };
