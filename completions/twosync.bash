@@ -7,6 +7,10 @@ _twosync() {
       mapfile -t COMPREPLY < <(compgen -W '1 2 4 8 16 32 64' -- "$word")
       return
       ;;
+    --checkpoint)
+      mapfile -t COMPREPLY < <(compgen -W '1000 10000 100000' -- "$word")
+      return
+      ;;
     --holds)
       mapfile -t COMPREPLY < <(compgen -f -- "$word")
       return
@@ -17,7 +21,8 @@ _twosync() {
       mapfile -t COMPREPLY < <(compgen -W 'trial scan show plan preview check run sync --help --version' -- "$word")
       return
       ;;
-    plan | check | run | sync) options='--holds --hold-special --workers --explain --quiet --help' ;;
+    plan | check) options='--holds --hold-special --workers --explain --quiet --help' ;;
+    run | sync) options='--holds --hold-special --workers --checkpoint --explain --quiet --help' ;;
     preview) options='--json --holds --hold-special --workers --explain --quiet --help' ;;
     trial) options='--workers --explain --help' ;;
     scan) options='--workers --explain --quiet --help' ;;

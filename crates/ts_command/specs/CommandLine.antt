@@ -19,6 +19,13 @@ workers_rule = record (new_rule (codes "workers")) {
   defaults = codes "4" ∷ [];
 }
 
+abbrev pub checkpoint_rule : Rule
+checkpoint_rule = record (new_rule (codes "checkpoint")) {
+  long = Some (codes "checkpoint");
+  value_names = 1;
+  parser = Some (parser.Signed (pos 1) (pos 1048576));
+}
+
 abbrev pub holds_rule : Rule
 holds_rule = record (new_rule (codes "holds")) { long = Some (codes "holds"); value_names = 1; parser = Some parser.NonEmptyString }
 
@@ -57,6 +64,15 @@ planned_pair_rules = place_rule (codes "FIRST") ∷ place_rule (codes "SECOND") 
 abbrev pub previewed_pair_rules : List Rule
 previewed_pair_rules = place_rule (codes "FIRST") ∷ place_rule (codes "SECOND") ∷ place_rule (codes "ARCHIVE") ∷ holds_rule ∷ hold_special_rule ∷ workers_rule
     ∷ explain_rule ∷ quiet_rule ∷ json_rule ∷ []
+
+-- of the commands that change something
+abbrev pub run_rules : List Rule
+run_rules = place_rule (codes "FIRST") ∷ place_rule (codes "SECOND") ∷ place_rule (codes "ARCHIVE") ∷ holds_rule ∷ hold_special_rule ∷ workers_rule
+    ∷ explain_rule ∷ quiet_rule ∷ place_rule (codes "PLAN") ∷ checkpoint_rule ∷ []
+
+abbrev pub sync_rules : List Rule
+sync_rules = place_rule (codes "FIRST") ∷ place_rule (codes "SECOND") ∷ place_rule (codes "ARCHIVE") ∷ holds_rule ∷ hold_special_rule ∷ workers_rule
+    ∷ explain_rule ∷ quiet_rule ∷ checkpoint_rule ∷ []
 
 -- the subcommands that work on no pair
 abbrev pub trial_shape : Shape
@@ -112,7 +128,7 @@ command_line = record {
       ∷ taking (codes "plan") pair_rules
       ∷ taking (codes "check") planned_pair_rules
       ∷ taking (codes "preview") previewed_pair_rules
-      ∷ taking (codes "run") planned_pair_rules
-      ∷ taking (codes "sync") pair_rules
+      ∷ taking (codes "run") run_rules
+      ∷ taking (codes "sync") sync_rules
       ∷ [];
 }

@@ -1,6 +1,7 @@
 -- Which command a reading of the words gives.
 --     IsJob name rows job       the subcommand of this name, with these values, asks for the job
 --     HasWorkers rows n         n threads are asked for
+--     HasCheckpoint rows every  the archive is asked for after so many actions of a thread, or nothing is said of that
 --     Gives reading command     the reading gives the command
 use Rattle.std.specs.Prelude.{◌≡◌, ◌≢◌, ◌⊎◌, ◌↔◌, ◌≤◌, ℕ, IsTrue, List, Option, Some, None, true, codes, option_map}
 use Rattle.std.specs.Str.Parse.{IsNumeral, digits_value, without_leading_plus}
@@ -51,10 +52,27 @@ pub record AreWorkers (told : Option Text) (n : ℕ) : Type 0 where
 abbrev pub HasWorkers : List Row → ℕ → Type 0
 HasWorkers rows = AreWorkers (first_of (codes "workers") rows)
 
+-- the number of actions, 1 to 1,048,576, that a text tells
+pub record IsEvery (digits : Text) (every : ℕ) : Type 0 where
+  pub some : 1 ≤ every
+  pub few : every ≤ 1048576
+  pub numeral : IsNumeral 10 (without_leading_plus digits)
+  pub told_so : digits_value 10 (without_leading_plus digits) ≡ every
+
+-- the number that is told, or none where none is
+abbrev pub TellsEvery : Option Text → Option ℕ → Type 0
+TellsEvery None every = every ≡ None
+TellsEvery (Some digits) None = ⊥
+TellsEvery (Some digits) (Some every) = IsEvery digits every
+
+abbrev pub HasCheckpoint : List Row → Option ℕ → Type 0
+HasCheckpoint rows = TellsEvery (first_of (codes "checkpoint") rows)
+
 abbrev pub Gives : Option (Text × List Row) → Command → Type 0
 Gives None command = ⊥
 Gives (Some (name, rows)) command =
-    IsJob name rows command.job × HasWorkers rows command.workers × (IsTrue command.explain ↔ IsFlagged (codes "explain") rows)
+    IsJob name rows command.job × HasWorkers rows command.workers × HasCheckpoint rows command.checkpoint
+    × (IsTrue command.explain ↔ IsFlagged (codes "explain") rows)
     × (IsTrue command.quiet ↔ IsFlagged (codes "quiet") rows)
 
 abbrev pub reading_of_words : List Text → Option (Text × List Row)

@@ -1,10 +1,10 @@
 //! The command line as clap reads it, with its help.
-ghost use Rattle.std.specs.Prelude.{◌≡◌, [], false, IfOk};
+ghost use Rattle.std.specs.Prelude.{◌≡◌, [], false, codes, IfOk};
 ghost use Rattle.clap.specs.Words.{app_of, rule_of};
-ghost use Rattle.ts_command.specs.CommandLine.{IsLocal, command_line, explain_rule, flag_rule, hold_special_rule, holds_rule};
+ghost use Rattle.ts_command.specs.CommandLine.{IsLocal, checkpoint_rule, command_line, explain_rule, flag_rule, hold_special_rule, holds_rule};
 ghost use Rattle.ts_command.specs.CommandLine.{json_rule, line_head, pair_rules, place_rule, quiet_rule};
-ghost use Rattle.ts_command.specs.CommandLine.{planned_pair_rules, planning_line, previewed_pair_rules, previewing_line};
-ghost use Rattle.ts_command.specs.CommandLine.{scan_shape, show_shape, single_line, taking, trial_shape, workers_rule};
+ghost use Rattle.ts_command.specs.CommandLine.{planned_pair_rules, planning_line, previewed_pair_rules, previewing_line, run_rules};
+ghost use Rattle.ts_command.specs.CommandLine.{scan_shape, show_shape, single_line, sync_rules, taking, trial_shape, workers_rule};
 
 use clap::builder::ValueParser;
 use clap::{Arg, ArgAction, Command, value_parser};
@@ -78,6 +78,18 @@ fn workers<'a>(alloc: Global) -> Arg<'a>
         .value_parser(value_parser!(u32).range(1..=64))
         .default_value("4")
         .help("How many threads work, 1 to 64")
+}
+
+/// `--checkpoint`.
+fn checkpoint<'a>(alloc: Global) -> Arg<'a>
+    ensures rule { rule_of result ≡ checkpoint_rule }
+    ensures local { result.global ≡ false }
+{
+    Arg::new(alloc, "checkpoint")
+        .long("checkpoint")
+        .value_name("N")
+        .value_parser(value_parser!(u32).range(1..=1048576))
+        .help("Writes the archive after each N actions of a thread, too, 1 to 1048576")
 }
 
 /// `--holds`.
@@ -225,6 +237,24 @@ fn show<'a>(alloc: Global) -> Result<Command<'a>, AllocError>
         .arg(explain(alloc))
 }
 
+/// The subcommand that carries out a plan.
+fn run<'a>(alloc: Global) -> Result<Command<'a>, AllocError>
+    ensures shape { IfOk result (λ c. app_of c ≡ record { top = taking (codes "run") run_rules; subs = [] }) }
+    ensures local { IfOk result IsLocal }
+{
+    let about = "Checks a plan, carries it out, and writes the archive";
+    on_pair_with_plan(alloc, "run", about, RUN_EXAMPLE)?.arg(checkpoint(alloc))
+}
+
+/// The subcommand that makes a plan and carries it out.
+fn sync<'a>(alloc: Global) -> Result<Command<'a>, AllocError>
+    ensures shape { IfOk result (λ c. app_of c ≡ record { top = taking (codes "sync") sync_rules; subs = [] }) }
+    ensures local { IfOk result IsLocal }
+{
+    let about = "Plans and runs: makes both folders alike";
+    on_pair(alloc, "sync", about, SYNC_EXAMPLE)?.arg(checkpoint(alloc))
+}
+
 /// The command line before its subcommands.
 fn head<'a>(alloc: Global) -> Command<'a>
     ensures { app_of result ≡ line_head }
@@ -269,13 +299,6 @@ fn with_preview<'a>(alloc: Global) -> Result<Command<'a>, AllocError>
 pub(crate) fn described<'a>(alloc: Global) -> Result<Command<'a>, AllocError>
     ensures { IfOk result (λ c. app_of c ≡ command_line) }
 {
-    let about = "Checks a plan, carries it out, and writes the archive";
-    let line = with_preview(alloc)?.subcommand(on_pair_with_plan(
-        alloc,
-        "run",
-        about,
-        RUN_EXAMPLE,
-    )?)?;
-    let about = "Plans and runs: makes both folders alike";
-    line.subcommand(on_pair(alloc, "sync", about, SYNC_EXAMPLE)?)
+    let line = with_preview(alloc)?.subcommand(run(alloc)?)?;
+    line.subcommand(sync(alloc)?)
 }

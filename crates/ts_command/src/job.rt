@@ -1,5 +1,6 @@
 //! What the program may be asked to do.
-ghost use Rattle.std.specs.Prelude.{◌≤◌};
+ghost use Rattle.std.proofs.Props.{props};
+ghost use Rattle.std.specs.Prelude.{◌≤◌, IfSome};
 
 /// The two replicas, their archive, and the hold rules. Each is a path of the file system.
 #[derive(Drop)]
@@ -37,13 +38,16 @@ pub enum Job<'a> {
     Sync { pair: Pair<'a> },
 }
 
-/// A job, by how many threads it is done, 1 to 64, whether faults are put in words, too, and whether no progress line is drawn.
+/// A job, by how many threads it is done, 1 to 64, after how many actions of a thread the archive is written meanwhile, where
+/// that is said, 1 to 1,048,576, whether faults are put in words, too, and whether no progress line is drawn.
 #[derive(Drop)]
 pub struct Command<'a> {
     pub job: Job<'a>,
     pub workers: u32,
+    pub checkpoint: Option<u32>,
     pub explain: bool,
     pub quiet: bool,
     pub ghost some: { 1 ≤ workers },
     pub ghost few: { workers ≤ 64 },
+    pub ghost spaced: { IfSome checkpoint (λ every. (1 ≤ every) × (every ≤ 1048576)) } by { Prim.hlevel props },
 }

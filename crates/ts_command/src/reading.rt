@@ -1,8 +1,9 @@
 //! From words to commands.
-ghost use Rattle.std.specs.Prelude.{◌≡◌, ◌≢◌, ◌≤◌, ◌↔◌, ℕ, List, Some, true, map, IfErr, IfNone, IfOk, IfSome, IsTrue, option_map};
+ghost use Rattle.std.specs.Prelude.{◌≡◌, ◌≢◌, ◌≤◌, ◌↔◌, ℕ, List, Option, Some, true, map, IfErr, IfNone, IfOk, IfSome, IsTrue, option_map};
 ghost use Rattle.clap.specs.Words.{first_of, found_of, kind_of, rows_of, subcommand_rows_of, takes};
 ghost use Rattle.ts_command.specs.CommandLine.{command_line};
-ghost use Rattle.ts_command.specs.Readings.{AreWorkers, AsksToTell, Gives, HasWorkers, IsAsked, IsFlagged, IsJob, IsNoCommand, IsPair};
+ghost use Rattle.ts_command.specs.Readings.{AreWorkers, AsksToTell, Gives, HasCheckpoint, HasWorkers, IsAsked};
+ghost use Rattle.ts_command.specs.Readings.{IsEvery, IsFlagged, IsJob, IsNoCommand, IsPair};
 ghost use Rattle.ts_command.specs.declared.fault.CommandFault.TheVariants.{OutOfMemory};
 ghost use Rattle.ts_command.specs.declared.job.Command.{Command};
 ghost use Rattle.ts_command.specs.declared.job.Job.{Job};
@@ -18,6 +19,9 @@ use std::convert::AsStr;
 
 /// How many threads work where the words don't say.
 const USUAL_WORKERS: u32 = 4;
+
+/// After how many actions at most the archive may be asked for.
+const MOST_ACTIONS: u32 = 1_048_576;
 
 /// The command that the words name; the first word is the program's name. Words that ask for help or the version are a
 /// command that tells it.
@@ -69,6 +73,7 @@ fn tell<'a>(message: clap::Error) -> Result<Command<'a>, CommandFault>
         ErrorKind::DisplayHelp | ErrorKind::DisplayVersion => Ok(Command {
             job: Job::Tell { text: message },
             workers: USUAL_WORKERS,
+            checkpoint: None,
             explain: false,
             quiet: false,
         }),
@@ -84,11 +89,13 @@ fn read_command<'a>(matches: &ArgMatches<'a>) -> Option<Command<'a>>
     let (name, inner) = matches.subcommand()?;
     let job = read_job(name, inner)?;
     let workers = read_workers(inner)?;
+    let checkpoint = read_checkpoint(inner)?;
     let explain = is_flagged(inner, "explain");
     let quiet = is_flagged(inner, "quiet");
     Some(Command {
         job,
         workers,
+        checkpoint,
         explain,
         quiet,
     })
@@ -119,6 +126,31 @@ fn read_count(text: &str) -> Option<u32>
 {
     match text.parse::<u32>() {
         Ok(count) if count >= 1 && count <= 64 => Some(count),
+        _ => None,
+    }
+}
+
+/// After how many actions of a thread the archive is to be written, where that is asked for.
+fn read_checkpoint(matches: &ArgMatches<'_>) -> Option<Option<u32>>
+    ensures some { IfSome result (HasCheckpoint (rows_of (found_of matches.now))) }
+    ensures none { IfNone result ((every : Option ℕ) → ¬ HasCheckpoint (rows_of (found_of matches.now)) every) }
+{
+    match value(matches, "checkpoint") {
+        None => Some(None),
+        Some(text) => match read_every(text) {
+            Some(every) => Some(Some(every)),
+            None => None,
+        },
+    }
+}
+
+/// The number from 1 to 1,048,576 that a text tells.
+fn read_every(text: &str) -> Option<u32>
+    ensures some { IfSome result (IsEvery text.now) }
+    ensures none { IfNone result ((every : ℕ) → ¬ IsEvery text.now every) }
+{
+    match text.parse::<u32>() {
+        Ok(every) if every >= 1 && every <= MOST_ACTIONS => Some(every),
         _ => None,
     }
 }
