@@ -1,5 +1,5 @@
 //! The place of an archive, and the lock on it.
-ghost use Rattle.std.specs.Prelude.{◌≡◌, ◌++◌, false, true, IfOk, OnOk, codes};
+ghost use Rattle.std.specs.Prelude.{◌≡◌, ◌++◌, ◌↔◌, false, true, IfOk, IsTrue, OnOk, codes};
 ghost use Rattle.std.specs.String.{string_bytes};
 ghost use Rattle.ts_disk.specs.Names.{StandsIn};
 
@@ -9,7 +9,7 @@ use crate::modes::{PRIVATE_FILE, permissions};
 use crate::place::{Standing, flush_dir, kind_at};
 use std::alloc::Global;
 use std::fs::{File, Files, OpenOptions, Permissions};
-use std::io::{BufWriter, ErrorKind, Read, Write};
+use std::io::{BufWriter, ErrorKind, Read, Seek, Write};
 use std::os::unix::fs::{OpenOptionsExt, PermissionsExt};
 use std::{fs, io};
 use ts_archive::ArchiveFault;
@@ -24,13 +24,18 @@ const BEGINNING: &[u8] = b"twosync-archive ";
 const LINKS: u32 = 40;
 
 /// The place of an archive that one run may write. The new archive is written beside it, under its name with `.new` added, which
-/// is made at the start and locked until the end.
+/// is made at the start and locked until the end. After a checkpoint has taken its place the next one is made and locked at once.
 #[derive(Drop)]
 pub struct ArchivePlace {
+    // what lies beside the archive; where it is done, the archive itself
     file: File,
+    name: String,
     place: String,
     new: String,
-    // the new archive has taken its place, or was never this run's
+    mode: u32,
+    // something was written into it
+    is_begun: bool,
+    // the new archive has taken its place, and no other one was made since
     is_done: bool,
 }
 
@@ -45,9 +50,11 @@ pub fn claim_archive<R: Files<File = File> + AllocGlobal>(
     name: &str,
 ) -> Result<ArchivePlace, DiskFault>
     ensures new { IfOk result (λ claimed. string_bytes claimed.new ≡ string_bytes claimed.place ++ codes ".new") }
+    ensures name { IfOk result (λ claimed. string_bytes claimed.name ≡ name.now) }
     ensures begun { IfOk result (λ claimed. claimed.is_done ≡ false) }
 {
     let place = followed(files, alloc, name)?;
+    let name = String::from_str(alloc, name)?;
     let mode = match kind_at(files, place.as_str()).map_err(failed)? {
         Standing::Nothing => PRIVATE_FILE,
         Standing::File => mode_at(files, place.as_str())?,
@@ -59,23 +66,22 @@ pub fn claim_archive<R: Files<File = File> + AllocGlobal>(
         Standing::CutOff | Standing::Other => return Err(unusable()),
     };
     let new = format!(in alloc; "{place}.new")?;
-    clear_stale(files, new.as_str())?;
-    let file = make_locked(files, new.as_str())?;
-    if mode != PRIVATE_FILE {
-        let _ = file.set_permissions(Permissions::from_mode(mode));
-    }
+    let file = make_new(files, new.as_str(), mode)?;
     Ok(ArchivePlace {
         file,
+        name,
         place,
         new,
+        mode,
+        is_begun: false,
         is_done: false,
     })
 }
 
 impl ArchivePlace {
     /// Writes the archive and puts it in its place, and waits until it has reached the device. After a fault the archive that
-    /// was there is there as it was.
-    pub fn write<R: Files>(
+    /// was there is there as it was, or the new one is, which may not have reached the device.
+    pub fn write<R: Files<File = File> + AllocGlobal>(
         &mut self,
         files: &R,
         alloc: Global,
@@ -84,11 +90,93 @@ impl ArchivePlace {
         ensures done { OnOk result (self.exit.now.is_done ≡ true) }
         ensures kept { (self.exit.now.place ≡ self.entry.now.place) × (self.exit.now.new ≡ self.entry.now.new) }
     {
+        self.put(files, alloc, archive)?;
+        self.flush(files)
+    }
+
+    /// Does what `write` does while the run goes on, and takes the place again for what is written next. Between the rename and
+    /// that another run may take the place; then nothing more is written by this one.
+    pub fn write_checkpoint<R: Files<File = File> + AllocGlobal>(
+        &mut self,
+        files: &R,
+        alloc: Global,
+        archive: &Print,
+    ) -> Result<(), DiskFault>
+        ensures claimed { OnOk result (self.exit.now.is_done ≡ false) }
+        ensures kept { (self.exit.now.place ≡ self.entry.now.place) × (self.exit.now.new ≡ self.entry.now.new) }
+    {
+        self.put(files, alloc, archive)?;
+        let renewed = self.renew(files);
+        self.flush(files)?;
+        renewed
+    }
+
+    /// Writes the archive to the device, and puts it in its place. Where the place was lost after a checkpoint it is first taken
+    /// again.
+    fn put<R: Files<File = File> + AllocGlobal>(
+        &mut self,
+        files: &R,
+        alloc: Global,
+        archive: &Print,
+    ) -> Result<(), DiskFault>
+        ensures done { OnOk result (self.exit.now.is_done ≡ true) }
+        ensures kept { (self.exit.now.place ≡ self.entry.now.place) × (self.exit.now.new ≡ self.entry.now.new) }
+    {
+        if self.is_lost(files)? {
+            self.renew(files)?;
+        }
+        if self.is_begun {
+            empty(&self.file).map_err(failed)?;
+        }
+        self.is_begun = true;
         write_text(&self.file, alloc, archive)?;
         self.file.sync_all().map_err(failed)?;
         fs::rename(files, self.new.as_str(), self.place.as_str()).map_err(failed)?;
         self.is_done = true;
+        Ok(())
+    }
+
+    /// Whether what was written last doesn't lie beside the archive any more. A rename that was reported as failed may have put
+    /// it in place all the same; then it must not be emptied.
+    fn is_lost<R: Files<File = File>>(&self, files: &R) -> Result<bool, DiskFault>
+        ensures done { IfOk result (λ lost. self.now.is_done ≡ true → lost ≡ true) }
+    {
+        if self.is_done {
+            return Ok(true);
+        }
+        if !self.is_begun {
+            return Ok(false);
+        }
+        let is_there = is_at(files, &self.file, self.new.as_str()).map_err(failed)?;
+        Ok(!is_there)
+    }
+
+    /// Makes and locks the next new archive after one has taken its place, unless another run has put its own there meanwhile.
+    fn renew<R: Files<File = File> + AllocGlobal>(&mut self, files: &R) -> Result<(), DiskFault>
+        ensures claimed { OnOk result (self.exit.now.is_done ≡ false) }
+        ensures kept { (self.exit.now.place ≡ self.entry.now.place) × (self.exit.now.new ≡ self.entry.now.new) }
+    {
+        let file = make_new(files, self.new.as_str(), self.mode)?;
+        if !is_at(files, &self.file, self.place.as_str()).unwrap_or(false) {
+            let _ = fs::remove_file(files, self.new.as_str());
+            return Err(DiskFault::Locked);
+        }
+        self.file = file;
+        self.is_begun = false;
+        self.is_done = false;
+        Ok(())
+    }
+
+    /// Waits until the directory of the archive has reached the device.
+    fn flush<R: Files>(&self, files: &R) -> Result<(), DiskFault> {
         flush_dir(files, above(self.place.as_str())).map_err(failed)
+    }
+
+    /// Whether the place was claimed by this name.
+    pub fn is_of(&self, name: &str) -> bool
+        ensures name { IsTrue result ↔ (string_bytes self.now.name ≡ name.now) }
+    {
+        self.name.as_str() == name
     }
 
     /// Gives the place up. What was begun beside the archive is removed.
@@ -97,6 +185,13 @@ impl ArchivePlace {
             let _ = fs::remove_file(files, self.new.as_str());
         }
     }
+}
+
+/// Takes away all that was written to a file.
+fn empty(file: &File) -> io::Result<()> {
+    let mut file = file;
+    file.set_len(0)?;
+    file.rewind()
 }
 
 /// Writes the text of an archive to a file, line by line through a buffer.
@@ -190,6 +285,21 @@ fn begins_as_archive(alloc: Global, file: &File) -> io::Result<bool> {
     let mut bytes = Vec::new(alloc);
     file.take(BEGINNING.len() as u64).read_to_end(&mut bytes)?;
     Ok(BEGINNING.starts_with(bytes.as_slice()))
+}
+
+/// Makes the file of a new archive and locks it, in place of what a stopped run left there. It gets these permission bits, as far
+/// as that can be done.
+fn make_new<R: Files<File = File> + AllocGlobal>(
+    files: &R,
+    new: &str,
+    mode: u32,
+) -> Result<File, DiskFault> {
+    clear_stale(files, new)?;
+    let file = make_locked(files, new)?;
+    if mode != PRIVATE_FILE {
+        let _ = file.set_permissions(Permissions::from_mode(mode));
+    }
+    Ok(file)
 }
 
 /// Makes a file that others may not read, where nothing is, and locks it.
