@@ -48,6 +48,23 @@ pub fn flush_above<R: Threads + Sync>(
     Ok(())
 }
 
+/// Does what `flush_above` does by the calling thread.
+pub fn flush_above_alone<R: Files>(
+    files: &R,
+    alloc: Global,
+    root: &str,
+    paths: &[&Path],
+) -> Result<(), DiskFault>
+    ensures fault { IfErr result (λ e. (e ≡ DiskFault.OutOfMemory) ⊎ (e ≡ DiskFault.Failed)) }
+{
+    let places = places_above(alloc, root, paths)?;
+    if flush_each(files, places.as_slice(), 0, 1) {
+        Ok(())
+    } else {
+        Err(DiskFault::Failed)
+    }
+}
+
 /// The places of the directories in which these paths stand, each once.
 fn places_above(alloc: Global, root: &str, paths: &[&Path]) -> Result<Vec<String>, DiskFault>
     ensures all { IfOk result (λ places. All (λ path. (path.now ≡ []) ⊎ Any (λ dir. IsAboveAt root.now path.now (string_bytes dir)) places.items) paths.now) }

@@ -23,7 +23,7 @@ mod staging;
 
 pub use archive::{ArchivePlace, claim_archive};
 pub use fault::DiskFault;
-pub use flushing::flush_above;
+pub use flushing::{flush_above, flush_above_alone};
 pub use lock::{Lock, take_lock};
 pub use notice::{Notice, mount_above};
 pub use places::DiskPlaces;
