@@ -230,6 +230,10 @@ usage 'no command of this name' synchronize first second archive
 usage 'no workers' "${sync[@]}" --workers 0
 usage 'too many workers' "${sync[@]}" --workers 65
 usage 'workers that are no number' "${sync[@]}" --workers four
+usage 'a checkpoint after no action' "${sync[@]}" --checkpoint 0
+usage 'a checkpoint after too many actions' "${sync[@]}" --checkpoint 1048577
+usage 'a checkpoint that is no number' "${sync[@]}" --checkpoint many
+usage 'a checkpoint of a plan' plan first second archive --checkpoint 1
 usage 'too few files' sync first second
 usage 'too many files' scan first second
 usage 'an option of no command' scan first --holds holds

@@ -71,7 +71,7 @@ completed() {
 }
 mkdir folder
 completed 'scan show sync' twosync s
-completed '--holds --hold-special --workers --explain --quiet --help' twosync sync --
+completed '--holds --hold-special --workers --checkpoint --explain --quiet --help' twosync sync --
 completed '--holds --hold-special' twosync run --hold
 completed '--workers --explain --quiet --help' twosync scan --
 completed '--explain --help' twosync show --
