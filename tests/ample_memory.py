@@ -87,6 +87,8 @@ commands.sh: expect 'first sync' 0: ts_disk::save_plan ts_disk::DiskSite::new ts
 commands.sh: alike 'first sync': ts_disk::Lock::release ts_disk::clear_leftovers ts_disk::remove_plan
 commands.sh: holds_true 'the archive file': ts_perform::HostRuntime::claim ts_perform::HostRuntime::write_archive
 commands.sh: holds_true 'the archive file': ts_disk::claim_archive ts_disk::ArchivePlace::write
+checkpoints.sh: holds_true 'a checkpoint after each of three actions': ts_perform::HostRuntime::flush_alone ts_perform::HostRuntime::write_checkpoint
+checkpoints.sh: holds_true 'a checkpoint after each of three actions': ts_disk::flush_above_alone ts_disk::ArchivePlace::write_checkpoint
 preview.sh: expect 'a first look' 0: ts_preview::outlooks ts_preview::write
 explain.sh: told 'no archive to show' 3: ts_explain::write_fault ts_explain::push_sentence ts_explain::push_pieces
 explain.sh: told 'no archive to show' 3: ts_preview::push_shown ts_explain::push_fault ts_explain::write_explained

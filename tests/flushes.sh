@@ -206,11 +206,13 @@ E
 calls=open,openat,creat,mkdir,mkdirat,write,writev,pwrite64,pwritev,ftruncate,sendfile,copy_file_range,splice
 calls+=,rename,renameat,renameat2,link,linkat,unlink,unlinkat,rmdir,fsync,fdatasync,sync,syncfs
 
-# judged NAME WORKERS STATUS TARGETS..: runs the program on the pair as it stands, and looks at its trace
+# judged NAME WORKERS STATUS TARGETS..: runs the program on the pair as it stands, by so many workers and with what stands
+# behind that, and looks at its trace
 judged() {
-  local name=$1 workers=$2 status=$3 got verdict what
+  local name=$1 status=$3 got verdict what workers
+  read -ra workers <<<"$2"
   shift 3
-  strace -qq -f -y -s 1 -e signal=none -e trace="$calls" -o log "$program" "${sync[@]}" --workers "$workers" >out 2>err
+  strace -qq -f -y -s 1 -e signal=none -e trace="$calls" -o log "$program" "${sync[@]}" --workers "${workers[@]}" >out 2>err
   got=$?
   holds_true "$name: its status is $got" test "$got" = "$status" -a ! -s err
   python3 judge.py log "$(pwd -P)" "$@" >judged
@@ -220,7 +222,8 @@ judged() {
   holds_true "$name: the trace was judged" test "$(wc -l <judged)" = 13
 }
 
-for workers in 1 4; do
+# each checkpoint of one worker's run is judged as the last archive is
+for workers in 1 4 '1 --checkpoint 1'; do
   fresh
   mkdir -p first/d/e/f first/d/g second/h/i first/both second/both
   : >first/d/empty

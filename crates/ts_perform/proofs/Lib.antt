@@ -8,6 +8,7 @@ mod Pairs
 mod Printing
 mod Putting
 mod Staged
+mod Copied
 mod Adding
 mod Counted
 mod Scanning

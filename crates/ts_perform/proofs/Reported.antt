@@ -97,9 +97,9 @@ ran_told command Is old new old_faults mid_faults new_faults (Ok status) told ra
 ran_told command Is old new old_faults mid_faults new_faults (Err fault) told ran same quiet left =
     subst (Ran command Is old new old_faults new_faults) (sym same) (ran.0, ran.1, subst (λ z. BeginsNotices command.explain z new_faults) ran.2 left)
 
--- the archive of a run was written in its place, unless it is lost
+-- the archive of a run was written in its place, which was claimed by this name, unless it is lost
 pub kept_in : {A B : Type 0} (is_named : A → List ℕ → Type 0) (has : A → Listing Stamp → Type 0) (k : Checkup) (words : List ℕ) (place : A) (name : List ℕ) (kept : Result B PerformFault)
-    → is_named place name → OnOk kept (HasKept has k words place) → IfNone (lost_by kept) ((at : A) × is_named at name × HasKept has k words at)
+    → OnOk kept (is_named place name) → OnOk kept (HasKept has k words place) → IfNone (lost_by kept) ((at : A) × is_named at name × HasKept has k words at)
 kept_in is_named has k words place name (Ok x) named is = (place, named, is)
 kept_in is_named has k words place name (Err e) named is = tt
 

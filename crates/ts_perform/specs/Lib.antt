@@ -11,6 +11,7 @@ pub mod Puts
 pub mod Runs
 pub mod Skips
 pub mod Snapshots
+pub mod Spacing
 pub mod Specials
 pub mod Staging
 pub mod Stands

@@ -1,5 +1,5 @@
 //! What a checked plan comes to on two folders.
-ghost use Rattle.std.specs.Prelude.{◌≡◌, ◌≤◌, ℕ, List, length, map, IfErr, IfOk, OnOk};
+ghost use Rattle.std.specs.Prelude.{◌≡◌, ◌≤◌, length, map, IfErr, IfOk, OnOk};
 ghost use Rattle.std.specs.Option.{option_copied};
 ghost use Rattle.std.specs.Mem.Slots.{slots_items, slots_len};
 ghost use Rattle.ts_board.specs.Archives.{HasEnded};
@@ -14,21 +14,24 @@ ghost use Rattle.ts_perform.specs.Trials.{IsQuiet};
 use crate::counting::{Folders, run_counted};
 use crate::disk::{Disk, Machine};
 use crate::fault::{PerformFault, Subject, of_disk, replica_on};
+use crate::keeping::PlaceKeeper;
 use crate::room::{largest_commit, workers_with_room};
+use crate::spacing::usual_spacing;
 use crate::task::Task;
 use std::alloc::Global;
 use ts_check::Checked;
 use ts_command::Pair;
-use ts_disk::Replica;
+use ts_disk::{DiskFault, Replica};
 use ts_exec::{ActionResult, Outcome};
 use ts_model::plan::{Action, Entry, Kind, Plan, Reason, Side};
 use ts_name::Path;
 use ts_special::Specials;
 
-/// Carries out a checked plan by the task's workers, or by fewer where commits are large. The outcome is that of commits each of
-/// which is made in the replica that its entry is copied to.
+/// Carries out a checked plan by the task's workers, or by fewer where commits are large, and writes its archive to its place
+/// from time to time. The outcome is that of commits each of which is made in the replica that its entry is copied to.
 pub(crate) fn act<R: Machine>(
     task: &Task<'_, R>,
+    place: &mut R::Archive,
     checked: &Checked<'_>,
 ) -> Result<Outcome<R::Site>, PerformFault>
     ensures count { IfOk result (λ o. length o.results.items ≡ length checked.now.plan.actions) }
@@ -42,12 +45,17 @@ pub(crate) fn act<R: Machine>(
     let Task {
         rt,
         pair,
+        command,
         workers,
         progress,
         ..
     } = task;
     let alloc = rt.alloc();
     let workers = workers_with_room(largest_commit(checked), *workers);
+    let every = match command.checkpoint {
+        Some(every) => every,
+        None => usual_spacing(checked, workers),
+    };
     let sites = sites(*rt, *pair, checked)?;
     let first = rt.folder(alloc, pair.first, Specials::none(alloc))?;
     let second = rt.folder(alloc, pair.second, Specials::none(alloc))?;
@@ -55,7 +63,14 @@ pub(crate) fn act<R: Machine>(
         first: &first,
         second: &second,
     };
-    run_counted(*rt, progress, checked, &folders, sites, workers)
+    let keeper = PlaceKeeper {
+        task,
+        place,
+        plan: checked.plan(),
+    };
+    run_counted(
+        *rt, progress, checked, &folders, sites, workers, keeper, every,
+    )
 }
 
 /// The places of a plan's commits, in the order of the actions: each in the replica that its entry is copied to.
@@ -114,7 +129,7 @@ pub(crate) fn keep_archive<R: Machine>(
     requires words { length checked.now.plan.actions ≤ slots_len outcome.now.closed.row.words }
     requires ended { HasEnded checked.now (slots_items outcome.now.closed.row.words) }
     ensures kept { OnOk result (HasKept R.has checked.now (words_of outcome.now.closed) place.new) }
-    ensures named { (name : List ℕ) → R.is_named place.old name → R.is_named place.new name }
+    ensures named { OnOk result (R.is_named place.new task.now.pair.now.archive.now) }
 {
     let Task {
         rt,
@@ -123,6 +138,10 @@ pub(crate) fn keep_archive<R: Machine>(
         ..
     } = task;
     let alloc = rt.alloc();
+    // while checkpoints were written the place was out of hand
+    if !rt.is_claim_of(&*place, pair.archive) {
+        return Err(of_disk(DiskFault::Failed, Subject::Archive));
+    }
     for side in [Side::First, Side::Second] {
         let root = replica(*pair, side).root;
         let paths = paths_put(alloc, checked.plan(), outcome.results(), side)?;
@@ -137,7 +156,7 @@ pub(crate) fn keep_archive<R: Machine>(
 }
 
 /// The paths of the entries that were put in place in a replica.
-fn paths_put<'a>(
+pub(crate) fn paths_put<'a>(
     alloc: Global,
     plan: &'a Plan,
     results: &[ActionResult],

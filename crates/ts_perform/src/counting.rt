@@ -10,10 +10,11 @@ ghost use Rattle.ts_perform.specs.Trials.{IsQuiet};
 
 use crate::disk::Machine;
 use crate::fault::PerformFault;
+use crate::spacing::plan_bytes;
 use std::rt::Clock;
 use ts_check::Checked;
-use ts_exec::{Gate, Outcome, RunFault, run};
-use ts_model::plan::{Kind, Plan};
+use ts_exec::{Gate, Keeper, Outcome, RunFault, run_keeping};
+use ts_model::plan::Plan;
 use ts_print::Print;
 use ts_progress::{Amount, CountingFolder, Meter, Phase, Progress, Screen};
 use ts_scan::{ScanFault, scan, scan_both};
@@ -86,29 +87,25 @@ pub(crate) fn scan_both_counted<R: Machine>(
 
 /// What carrying a plan out comes to: its actions, and the bytes of its pieces.
 fn amount_of(plan: &Plan) -> Amount {
-    let actions = plan.actions.as_slice();
-    let mut bytes = 0u64;
-    for action in actions {
-        if let Kind::Piece { length, .. } = action.kind {
-            bytes = bytes.saturating_add(length);
-        }
-    }
     Amount {
-        steps: actions.len() as u64,
-        bytes,
+        steps: plan.actions.as_slice().len() as u64,
+        bytes: plan_bytes(plan),
     }
 }
 
-/// Carries a checked plan out over these folders and sites, as `ts_exec::run` does.
-pub(crate) fn run_counted<R: Machine>(
+/// Carries a checked plan out over these folders and sites, as `ts_exec::run_keeping` does.
+pub(crate) fn run_counted<R: Machine, K: Keeper>(
     rt: &R,
     progress: &Progress<'_, R>,
     checked: &Checked<'_>,
     folders: &Folders<'_, R::Folder>,
     sites: Vec<R::Site>,
     workers: u32,
+    keeper: K,
+    every: u32,
 ) -> Result<Outcome<R::Site>, PerformFault>
     requires few { workers ≤ 64 }
+    requires every { (1 ≤ every) × (every ≤ 1048576) }
     requires sites { length sites.items ≡ commit_count checked.now.plan.actions }
     ensures outcome { IfOk result (IsOutcomeOf (setting_for R.Site.Site R.Folder.Folder checked.now folders.now.first.now folders.now.second.now sites.items)) }
     ensures ended { IfOk result (λ o. HasEnded checked.now (words_of o.closed)) }
@@ -125,7 +122,7 @@ pub(crate) fn run_counted<R: Machine>(
         meter: &meter,
     };
     let gate = CountingGate { meter: &meter };
-    let outcome = run(
+    let (outcome, _keeper) = run_keeping(
         rt,
         rt.alloc(),
         checked,
@@ -134,6 +131,8 @@ pub(crate) fn run_counted<R: Machine>(
         sites,
         workers,
         &gate,
+        keeper,
+        every,
     );
     meter.end();
     match outcome {

@@ -1,5 +1,5 @@
 //! The file system as commands see it.
-ghost use Rattle.std.specs.Prelude.{◌≡◌, ℕ, Bool, List, Option, IfErr, IfOk, OnOk, option_map};
+ghost use Rattle.std.specs.Prelude.{◌≡◌, ℕ, Bool, List, Option, IfErr, IfOk, IsTrue, OnOk, option_map};
 ghost use Rattle.ts_model.specs.declared.row.Row.{Row};
 ghost use Rattle.ts_model.specs.declared.row.Stamp.{Stamp};
 ghost use Rattle.ts_perform.specs.Stands.{Stand};
@@ -15,7 +15,8 @@ use std::thread::Threads;
 use std::{fs, io};
 use ts_cause::{Cause, cause_of};
 use ts_disk::{
-    ArchivePlace, DiskFault, DiskSite, Lock, awaits_recovery, claim_archive, flush_above, take_lock,
+    ArchivePlace, DiskFault, DiskSite, Lock, awaits_recovery, claim_archive, flush_above,
+    flush_above_alone, take_lock,
 };
 use ts_folder::Folder;
 use ts_name::Path;
@@ -149,6 +150,18 @@ pub trait Disk {
         ensures written { OnOk result (has place.new archive.now) }
         ensures named { (name : List ℕ) → is_named place.old name → is_named place.new name };
 
+    /// Writes an archive in its place while a run goes on, and keeps the place for the next one.
+    fn write_checkpoint(
+        &self,
+        alloc: Global,
+        place: &mut Self::Archive,
+        archive: &Print,
+    ) -> Result<(), DiskFault>;
+
+    /// Whether the place of an archive was claimed by this name.
+    fn is_claim_of(&self, place: &Self::Archive, name: &str) -> bool
+        ensures { IsTrue result → is_named place.now name.now };
+
     /// Gives the place of an archive up.
     fn release(&self, place: Self::Archive);
 
@@ -162,6 +175,9 @@ pub trait Disk {
         workers: u32,
     ) -> Result<(), DiskFault>
         requires { IsSync T.row };
+
+    /// The same by the calling thread, while others are at work.
+    fn flush_alone(&self, alloc: Global, root: &str, paths: &[&Path]) -> Result<(), DiskFault>;
 }
 
 /// What commands ask of a machine: its file system, its memory, a screen and a clock for what is drawn while they work, and that
@@ -297,6 +313,19 @@ impl Disk for HostRuntime {
         place.write(self, alloc, archive)
     }
 
+    fn write_checkpoint(
+        &self,
+        alloc: Global,
+        place: &mut ArchivePlace,
+        archive: &Print,
+    ) -> Result<(), DiskFault> {
+        place.write_checkpoint(self, alloc, archive)
+    }
+
+    fn is_claim_of(&self, place: &ArchivePlace, name: &str) -> bool {
+        place.is_of(name)
+    }
+
     fn release(&self, place: ArchivePlace) {
         place.release(self);
     }
@@ -310,6 +339,10 @@ impl Disk for HostRuntime {
         workers: u32,
     ) -> Result<(), DiskFault> {
         flush_above(rt, self, alloc, root, paths, workers)
+    }
+
+    fn flush_alone(&self, alloc: Global, root: &str, paths: &[&Path]) -> Result<(), DiskFault> {
+        flush_above_alone(self, alloc, root, paths)
     }
 }
 

@@ -8,6 +8,7 @@ mod counting;
 pub mod disk;
 pub mod fault;
 mod inputs;
+mod keeping;
 mod lengths;
 mod past;
 mod pending;
@@ -18,6 +19,7 @@ mod room;
 mod running;
 mod skips;
 mod snapshot;
+mod spacing;
 mod special;
 mod task;
 

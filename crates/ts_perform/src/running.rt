@@ -236,7 +236,6 @@ impl<R: Machine> Task<'_, R> {
         out: &mut O,
         err: &mut E,
     ) -> Result<u8, PerformFault>
-        requires named { R.is_named claims.old.archive self.now.pair.now.archive.now }
         ensures ran { RanQuietly self.now.command.now (IsRun
             R.stand R.Site.content R.Site.failures R.is_at R.Folder.tells R.Folder.lets R.is_named R.has R.finds R.finds_special self.now.pair.now plan.now)
             (O.holds out.old) (O.holds out.new) (E.holds err.old) (E.holds err.new) result }
@@ -257,7 +256,6 @@ impl<R: Machine> Task<'_, R> {
     ) -> Result<u8, PerformFault>
         requires first { R.is_locked claims.old.first self.now.pair.now.first.now }
         requires second { R.is_locked claims.old.second self.now.pair.now.second.now }
-        requires named { R.is_named claims.old.archive self.now.pair.now.archive.now }
         ensures ran { RanQuietly self.now.command.now (IsSynced
             R.stand R.Site.content R.Site.failures R.is_at R.Folder.tells R.Folder.lets R.is_named R.has
             R.finds R.finds_special R.is_locked R.took R.stopped self.now.pair.now)
@@ -285,7 +283,6 @@ impl<R: Machine> Task<'_, R> {
         requires plan { IsPlan plan.now }
         requires seen { IsSeenFor R.is_at R.Folder.tells R.finds R.finds_special self.now.pair.now
             snapshot.now.archive snapshot.now.holds snapshot.now.first snapshot.now.second }
-        requires named { R.is_named claims.old.archive self.now.pair.now.archive.now }
         ensures ran { RanQuietly self.now.command.now (IsCarriedOutFor (checkup_of snapshot.now plan.now)
             R.stand R.Site.content R.Site.failures R.is_at R.Folder.tells R.Folder.lets R.is_named R.has R.finds R.finds_special self.now.pair.now)
             (O.holds out.old) (O.holds out.new) (E.holds err.old) (E.holds err.new) result }
@@ -294,7 +291,7 @@ impl<R: Machine> Task<'_, R> {
         let checked = snapshot.check_drawn(self.rt, alloc, &self.progress, plan)?;
         snapshot.look_at_lengths(alloc, self.pair, plan)?;
         self.save(alloc, plan, &*claims)?;
-        match act(self, &checked) {
+        match act(self, &mut claims.archive, &checked) {
             Ok(mut outcome) => {
                 let cleared = self.clear(alloc, plan, notices);
                 let kept = keep_archive(self, &mut claims.archive, &checked, &outcome);

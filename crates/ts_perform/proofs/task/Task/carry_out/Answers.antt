@@ -27,7 +27,7 @@ returns-in-Ok g c =
             slots = slots_of c.in-Ok.outcome.closed;
             run = rw c.causes_of-causes.ensures.results c.in-Ok.ensures.stands;
             archive = kept_in g.R.Disk.is_named g.R.Disk.has came.checkup words c.keep_archive-kept.new.place c.args.self.now.pair.now.archive.now c.keep_archive-kept.result
-                (c.keep_archive-kept.ensures.named c.args.self.now.pair.now.archive.now c.requires.named) c.keep_archive-kept.ensures.kept;
+                c.keep_archive-kept.ensures.named c.keep_archive-kept.ensures.kept;
           };
         },
         reported c.args.self.now.command.now came (g.O.Sink.holds c.args.out.now) (g.O.Sink.holds c.report_all-told.new.out) (g.E.Sink.holds c.args.err.now) (g.E.Sink.holds c.report_all-told.new.err) c.report_all-told.result c.unwrap_or.result

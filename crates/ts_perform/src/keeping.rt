@@ -1,0 +1,53 @@
+//! Archives that are written while a run goes on.
+ghost use Rattle.std.specs.Prelude.{◌≡◌};
+
+use crate::acting::{paths_put, replica};
+use crate::disk::Disk;
+use crate::fault::PerformFault;
+use crate::task::Task;
+use std::alloc::Global;
+use ts_exec::{ActionResult, Keeper};
+use ts_model::plan::{Plan, Side};
+use ts_name::Path;
+use ts_print::Print;
+
+/// Writes the archives of a run to their place.
+#[derive(Drop)]
+pub(crate) struct PlaceKeeper<'a, 'b, R: Disk> {
+    pub task: &'a Task<'b, R>,
+    pub place: &'a mut R::Archive,
+    pub plan: &'a Plan,
+}
+
+impl<R: Disk + AllocGlobal> Keeper for PlaceKeeper<'_, '_, R> {
+    ghost use Rattle.std.specs.Prelude.{None};
+
+    ghost kept = { λ _. None };
+
+    /// Writes an archive. Before it says so, all that the run may have put in place by now has reached its device. Where that
+    /// fails it is done without: the archive before it stands, and that of the whole run is still to come.
+    fn keep(&mut self, archive: Print) {
+        let rt = self.task.rt;
+        let alloc = rt.alloc();
+        for side in [Side::First, Side::Second] {
+            let root = replica(self.task.pair, side).root;
+            let Ok(paths) = paths_of_all(alloc, self.plan, side) else {
+                return;
+            };
+            if rt.flush_alone(alloc, root, paths.as_slice()).is_err() {
+                return;
+            }
+        }
+        let _ = rt.write_checkpoint(alloc, self.place, &archive);
+    }
+}
+
+/// The paths of all entries that may have been put in place in a replica: which actions are done isn't known here.
+fn paths_of_all<'a>(
+    alloc: Global,
+    plan: &'a Plan,
+    side: Side,
+) -> Result<Vec<&'a Path>, PerformFault> {
+    let done = vec![in alloc; ActionResult::Done; plan.actions.as_slice().len()]?;
+    paths_put(alloc, plan, done.as_slice(), side)
+}
