@@ -55,13 +55,12 @@ pub fn flush_above_alone<R: Files>(
     root: &str,
     paths: &[&Path],
 ) -> Result<(), DiskFault>
-    ensures fault { IfErr result (λ e. (e ≡ DiskFault.OutOfMemory) ⊎ (e ≡ DiskFault.Failed)) }
+    ensures fault { IfErr result (λ e. (e ≡ DiskFault.OutOfMemory) ⊎ ((cause : Cause) × (e ≡ DiskFault.Failed cause))) }
 {
     let places = places_above(alloc, root, paths)?;
-    if flush_each(files, places.as_slice(), 0, 1) {
-        Ok(())
-    } else {
-        Err(DiskFault::Failed)
+    match flush_each(files, places.as_slice(), 0, 1) {
+        None => Ok(()),
+        Some(cause) => Err(DiskFault::Failed { cause }),
     }
 }
 

@@ -19,6 +19,7 @@ use crate::room::{largest_commit, workers_with_room};
 use crate::spacing::usual_spacing;
 use crate::task::Task;
 use std::alloc::Global;
+use ts_cause::Cause;
 use ts_check::Checked;
 use ts_command::Pair;
 use ts_disk::{DiskFault, Replica};
@@ -140,7 +141,8 @@ pub(crate) fn keep_archive<R: Machine>(
     let alloc = rt.alloc();
     // while checkpoints were written the place was out of hand
     if !rt.is_claim_of(&*place, pair.archive) {
-        return Err(of_disk(DiskFault::Failed, Subject::Archive));
+        let cause = Cause::Unknown;
+        return Err(of_disk(DiskFault::Failed { cause }, Subject::Archive));
     }
     for side in [Side::First, Side::Second] {
         let root = replica(*pair, side).root;
