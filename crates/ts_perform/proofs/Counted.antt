@@ -1,5 +1,6 @@
 -- A run over folders that count is one over the folders that they count.
-use Rattle.std.proofs.Common.{◌≡◌, ℕ, List, Option, subst₂}
+use Rattle.std.proofs.Common.{◌≡◌, ℕ, List, Option, Ok, Result, subst, subst₂}
+use Rattle.std.specs.Prelude.{IfOk}
 use Rattle.ts_check.specs.Checkup.{Checkup}
 use Rattle.ts_exec.specs.Outcomes.{IsOutcomeOf}
 use Rattle.ts_exec.specs.declared.outcome.Outcome.{Outcome}
@@ -33,3 +34,7 @@ pub of_others : {S : Type 0} {site : Ghosts S} {k : Checkup} {t u : Tells} {l m 
 of_others {S} {site} {k} {t} {u} {l} {m} {told} {breaks} {stops} o is t_first t_second l_first l_second =
     subst₂ (λ (a : Tells) (b : Lets). IsOutcomeOf {S = S} {site = site} (record { checkup = k; tells = a; lets = b; told = told; breaks = breaks; stops = stops }) o)
     (λ i s. same_tells t u t_first t_second s i) (λ i s. same_lets l m l_first l_second s i) is
+
+-- what is said of an answer that is right holds of what was answered
+pub of_answered : {A E : Type 0} (r : Result A E) (a : A) (P : A → Type 0) → r ≡ Ok a → IfOk r P → P a
+of_answered r a P is h = subst (λ z. IfOk z P) is h

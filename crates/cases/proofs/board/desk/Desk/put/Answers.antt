@@ -15,7 +15,7 @@ done-requires-clause-acted g c κs within =
     let own = mine c.args.pass.now in let now = c.commit.new.self in let i = c.args.held.action in
     let action : now.action ≡ i = c.commit.ensures.action in
     let suits : Suits t (Act now.action (work_of now)) = c.in-Ok.ensures.suits t (d.plan, d.first, d.second) in
-    acted_by content t own now i (work_of now) c.in-Ok.ensures.ok.0 action refl (
+    acted_by content t own now i (work_of now) c.in-Ok.ensures.acted action refl (
       commit_may t own i (work_of now) c.requires.held (λ k piece. c.requires.taken k (subst (λ (z : Plan). IsPieceOf z i k) d.plan piece)),
       subst (λ (n : ℕ). Suits t (Act n (work_of now))) action suits,
     )
