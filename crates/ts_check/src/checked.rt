@@ -11,7 +11,7 @@ ghost use Rattle.ts_model.specs.Runs.{IsPieceOf};
 ghost use Rattle.ts_model.specs.Sync.{listed_snapshot};
 ghost use Rattle.ts_model.specs.declared.plan.Entry.{Entry};
 ghost use Rattle.ts_model.specs.declared.plan.Kind.TheVariants.{Commit};
-ghost use Rattle.ts_print.specs.Assemblies.{assembly_of};
+ghost use Rattle.ts_stage.specs.Assemblies.{assembly_of};
 ghost use Rattle.ts_print.specs.Parts.{Part};
 
 use crate::census::NO_ACTION;
@@ -22,7 +22,8 @@ use std::alloc::{AllocError, Global};
 use std::marker::Model;
 use ts_hold::Holds;
 use ts_model::plan::{Plan, Side};
-use ts_print::{Print, Staged, SubPrint};
+use ts_print::{Print, SubPrint};
+use ts_stage::Staged;
 
 /// A plan that is valid for what it was checked against. Its answers take no memory, but for `staged`.
 pub struct Checked<'a> {

@@ -1,4 +1,3 @@
-pub mod Assembling
 pub mod Lent
 pub mod NextRows
 pub mod NoPrint

@@ -1,4 +1,3 @@
-pub mod Assemblies
 pub mod Decoding
 pub mod Faults
 pub mod Fields

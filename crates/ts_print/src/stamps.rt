@@ -71,7 +71,7 @@ pub(crate) fn content_fits(content: &Content<Stamp>)
 }
 
 /// The numbers of a slice of bytes are bytes, and no memory holds 2^64 of them.
-pub(crate) fn are_bytes(bytes: &[u8])
+pub fn are_bytes(bytes: &[u8])
     ensures bytes { IsBytes bytes.now }
     ensures fewer { length bytes.now < 2 ^ 64 }
 {

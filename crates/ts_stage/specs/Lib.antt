@@ -1,0 +1,3 @@
+pub mod Assemblies
+pub mod Faults
+pub mod Stagings
