@@ -3,7 +3,7 @@ use Rattle.std.proofs.Common.{◌≢◌, ℕ, List, refl, sym, ◌∙◌}
 use Rattle.ts_model.specs.Trees.{IsSubListing, Listing, listed, print_of, stamped}
 use Rattle.ts_model.specs.declared.row.Stamp.{Stamp}
 use Rattle.ts_print.specs.Prints.{stamped_rows}
-use Rattle.ts_print.proofs.Assembling.{IsSubListing-changed, print-listed}
+use Rattle.ts_stage.proofs.Assembling.{IsSubListing-changed, print-listed}
 use Rattle.ts_table.proofs.Uses.{one_sub_listing}
 use Rattle.ts_model.proofs.Rows.{stamped_absent}
 

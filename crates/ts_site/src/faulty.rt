@@ -1,15 +1,16 @@
 //! A site over memory that fails when told.
 ghost use Rattle.std.specs.Prelude.{◌≡◌, ◌≤◌, ◌<◌, ◌+◌, ◌↔◌, ℕ, List, Option, cond, true, slice_get, IfOk, IsErrOf, IsTrue, OnErr, Some};
 ghost use Rattle.ts_model.specs.declared.row.Row.{Row};
-ghost use Rattle.ts_print.specs.Assemblies.{IsComplete};
-ghost use Rattle.ts_site.specs.Sites.{Differs, Replaces};
+ghost use Rattle.ts_stage.specs.Assemblies.{IsComplete};
+ghost use Rattle.ts_site.specs.Sites.{Differs, RefusesMisfits, Replaces};
 
 use crate::fault::SiteFault;
 use crate::memory::MemSite;
 use crate::site::Site;
 use std::alloc::Global;
 use std::snapshot::Snapshot;
-use ts_print::{Staged, SubPrint};
+use ts_print::SubPrint;
+use ts_stage::Staged;
 use ts_tree::SubTree;
 
 /// A site over memory whose device fails at the commits that it was told, for tests.
@@ -79,13 +80,16 @@ impl Site for FaultySite {
     ) -> Result<Snapshot<Staged>, SiteFault>
         ensures ok { IfOk result (λ put. Replaces (Some self.old.site) (Some self.new.site) before.now.rows put.value.made) }
         ensures put { IfOk result (λ put. (put.value ≡ staged) × IsComplete put.value) }
-        ensures misfit { IsErrOf result SiteFault.Misfit ↔ (¬ IsComplete staged) }
+        ensures misfit { RefusesMisfits (Some self.old.site) staged (IsErrOf result SiteFault.Misfit) }
         ensures changed { IsErrOf result SiteFault.Changed → Differs (Some self.old.site) before.now.rows }
         ensures device { IsErrOf result SiteFault.Device → self.old.failures < self.new.failures }
-        ensures told { IsErrOf result SiteFault.Device ↔ IsComplete staged × (slice_get self.old.fails.items self.old.commits ≡ Some true) }
+        ensures told { staged.held ≡ true → (IsErrOf result SiteFault.Device ↔ IsComplete staged × (slice_get self.old.fails.items self.old.commits ≡ Some true)) }
         ensures err { OnErr result (◌≡◌ {A = Option (List (Row (List ℕ)))} (Some self.new.site) (Some self.old.site)) }
     {
         let fails = self.fails_now();
+        if !staged.is_held() {
+            return Err(SiteFault::OutOfMemory);
+        }
         if !staged.is_complete() {
             return Err(SiteFault::Misfit);
         }

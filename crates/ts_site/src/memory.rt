@@ -6,10 +6,12 @@ use crate::site::Site;
 use std::alloc::Global;
 use std::marker::Model;
 use std::snapshot::Snapshot;
-use ts_print::{Staged, SubPrint};
+use ts_print::SubPrint;
+use ts_stage::Staged;
 use ts_tree::SubTree;
 
-/// A site whose content lies in memory. Its device never fails.
+/// A site whose content lies in memory. Its device never fails. What it puts in place has to be in memory, too: for all else it
+/// answers out of memory.
 #[derive(Drop)]
 pub struct MemSite {
     content: SubTree,
@@ -52,16 +54,24 @@ impl Site for MemSite {
         before: &SubPrint<'_>,
         staged: Staged,
     ) -> Result<Snapshot<Staged>, SiteFault> {
+        // of what is stored elsewhere nothing can be put in memory
+        if !staged.is_held() {
+            return Err(SiteFault::OutOfMemory);
+        }
         if !staged.is_complete() {
             return Err(SiteFault::Misfit);
         }
         match before.is_print_of(alloc, self.content.rows()) {
-            Ok(true) => {
-                let put = Snapshot::of(&staged);
-                self.content = staged.into_tree();
+            Ok(true) => {}
+            Ok(false) => return Err(SiteFault::Changed),
+            Err(_) => return Err(SiteFault::OutOfMemory),
+        }
+        let put = Snapshot::of(&staged);
+        match staged.into_tree(alloc) {
+            Ok(tree) => {
+                self.content = tree;
                 Ok(put)
             }
-            Ok(false) => Err(SiteFault::Changed),
             Err(_) => Err(SiteFault::OutOfMemory),
         }
     }

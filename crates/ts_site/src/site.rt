@@ -6,7 +6,8 @@ ghost use Rattle.ts_site.specs.Sites.{Differs, IsPutFor, RefusesMisfits, Replace
 use crate::fault::SiteFault;
 use std::alloc::Global;
 use std::snapshot::Snapshot;
-use ts_print::{Staged, SubPrint};
+use ts_print::SubPrint;
+use ts_stage::Staged;
 
 /// The place of one commit in the target replica.
 pub trait Site: Send + Drop {
@@ -20,9 +21,9 @@ pub trait Site: Send + Drop {
     /// Replaces what is there, which must have the print `before`, by what was staged, in one change, and answers what it has
     /// put in place. Each of its files fits its stamp.
     ///
-    /// `Misfit` comes first, where a file doesn't fit its stamp: a staged one, where the site tells its content; else one as the
-    /// site reads it back. Then `Changed` comes where what is there hasn't the print, and `Device` where the device failed in
-    /// this call. After each of these, and where memory runs out, what is there is what it was.
+    /// `Misfit` comes first, where a file doesn't fit its stamp: a staged one, where the site tells its content; else one as it
+    /// was read back from where it is stored. Then `Changed` comes where what is there hasn't the print, and `Device` where the
+    /// device failed in this call. After each of these, and where memory runs out, what is there is what it was.
     fn commit(
         &mut self,
         alloc: Global,
