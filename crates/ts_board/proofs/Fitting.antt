@@ -18,9 +18,9 @@ use Rattle.ts_model.specs.Runs as model
 use Rattle.ts_model.specs.declared.step.Step.TheVariants.{Act}
 use Rattle.ts_model.specs.declared.step.Work.{Work}
 use Rattle.ts_model.specs.declared.step.Work.TheVariants.{Put}
-use Rattle.ts_print.specs.Assemblies.{Assembly, IsComplete}
+use Rattle.ts_stage.specs.Assemblies.{Assembly, IsComplete}
 use Rattle.ts_print.specs.Parts.{Part}
-use Rattle.ts_print.proofs.Assembling.{print-listed}
+use Rattle.ts_stage.proofs.Assembling.{print-listed}
 use Rattle.ts_check.specs.Checkup.{Checkup, IsSourcePart, snapshot_of}
 use Rattle.ts_board.specs.declared.law.Terms.{Terms}
 use Rattle.ts_board.specs.declared.law.Slot.{Slot}
@@ -62,7 +62,7 @@ content_at content (Bytes bytes) site is = absurd (none-some site is)
 
 same_refusal : (A B : Type 0) (told : Option (Listing (List ℕ))) (staged : Assembly) (f : SiteFault) → RefusesMisfits told staged (IsErrOf {T = A} (Err f) Misfit) → RefusesMisfits told staged (IsErrOf {T = B} (Err f) Misfit)
 same_refusal A B None staged f h = tt
-same_refusal A B (Some rows) staged f h = ((λ e. h.0 (ap Err (inner B e))), λ n. ap Err (inner A (h.1 n)))
+same_refusal A B (Some rows) staged f h = ((λ e. h.0 (ap Err (inner B e))), λ held n. ap Err (inner A (h.1 held n)))
   where
     inner : (U : Type 0) → ◌≡◌ {A = Result U SiteFault} (Err f) (Err Misfit) → f ≡ Misfit
     inner U e = cc

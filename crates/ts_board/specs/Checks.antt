@@ -9,7 +9,7 @@ use Rattle.ts_check.specs.Checkup.{Checkup, IsTargetPart}
 use Rattle.ts_model.specs.Trees.{Listing}
 use Rattle.ts_print.specs.Parts.{Part}
 use Rattle.ts_model.specs.declared.step.Work.TheVariants.{Put}
-use Rattle.ts_print.specs.Assemblies.{Assembly}
+use Rattle.ts_stage.specs.Assemblies.{Assembly}
 use Rattle.ts_site.specs.Sites.{Differs, IsPutFor, Replaces}
 use Rattle.ts_board.specs.declared.law.Terms.{Terms}
 use Rattle.ts_board.specs.declared.law.Slot.{Slot}

@@ -48,14 +48,14 @@ abbrev pub told_in : {S : Type 0} → (S → Option (Listing (List ℕ))) → Sl
 told_in content Empty = None
 told_in content (Place site) = Some (content site)
 told_in content (Committed site staged) = Some (content site)
-told_in content (Bytes bytes) = None
+told_in content (Bytes piece) = None
 
 -- the work that was done with what lies in a slot
 abbrev pub work_in : {S : Type 0} → Slot S → Work
 work_in Empty = Marked
 work_in (Place site) = Marked
 work_in (Committed site staged) = Put staged.value.made
-work_in (Bytes bytes) = Staged bytes.items
+work_in (Bytes piece) = Staged piece.bytes
 
 -- what a site tells after its commit: a site that told nothing still doesn't
 abbrev pub told_after : Option (Listing (List ℕ)) → Listing (List ℕ) → Option (Listing (List ℕ))
@@ -67,7 +67,7 @@ abbrev pub IsToldIn : {S : Type 0} → (S → Option (Listing (List ℕ))) → O
 IsToldIn content opening Empty = opening ≡ None
 IsToldIn content opening (Place site) = opening ≡ Some (content site)
 IsToldIn content opening (Committed site staged) = (before : Option (Listing (List ℕ))) × (opening ≡ Some before) × (content site ≡ told_after before staged.value.made)
-IsToldIn content opening (Bytes bytes) = opening ≡ None
+IsToldIn content opening (Bytes piece) = opening ≡ None
 
 -- the slot of this action
 abbrev pub IsTold : {S : Type 0} → (S → Option (Listing (List ℕ))) → Terms → ℕ → Slot S → Type 0
@@ -108,7 +108,7 @@ abbrev pub IsUntouched : {S : Type 0} → Slot S → Type 0
 IsUntouched Empty = Unit {0}
 IsUntouched (Place site) = Unit {0}
 IsUntouched (Committed site staged) = ⊥
-IsUntouched (Bytes bytes) = ⊥
+IsUntouched (Bytes piece) = ⊥
 
 -- what a board with these slots is opened for
 abbrev pub terms_with : {S : Type 0} → (S → Option (Listing (List ℕ))) → Plan → Listing Stamp → Listing Stamp → List (Slot S) → Terms
@@ -123,7 +123,7 @@ abbrev pub site_in : {S : Type 0} → Slot S → Option S
 site_in Empty = None
 site_in (Place site) = Some site
 site_in (Committed site staged) = Some site
-site_in (Bytes bytes) = None
+site_in (Bytes piece) = None
 
 -- the sites in these slots, in order
 abbrev pub sites_in : {S : Type 0} → List (Slot S) → List S
@@ -135,27 +135,27 @@ abbrev pub is_place : {S : Type 0} → Slot S → Bool
 is_place Empty = false
 is_place (Place site) = true
 is_place (Committed site staged) = false
-is_place (Bytes bytes) = false
+is_place (Bytes piece) = false
 
 abbrev pub has_site : {S : Type 0} → Slot S → Bool
 has_site Empty = false
 has_site (Place site) = true
 has_site (Committed site staged) = true
-has_site (Bytes bytes) = false
+has_site (Bytes piece) = false
 
 -- the content that the site in a slot tells
 abbrev pub content_of : {S : Type 0} → (S → Option (Listing (List ℕ))) → Slot S → Option (Listing (List ℕ))
 content_of content Empty = None
 content_of content (Place site) = content site
 content_of content (Committed site staged) = content site
-content_of content (Bytes bytes) = None
+content_of content (Bytes piece) = None
 
 -- how often the device of the site in a slot failed
 abbrev pub failures_of : {S : Type 0} → (S → ℕ) → Slot S → ℕ
 failures_of failures Empty = 0
 failures_of failures (Place site) = failures site
 failures_of failures (Committed site staged) = failures site
-failures_of failures (Bytes bytes) = 0
+failures_of failures (Bytes piece) = 0
 
 -- the slot of a commit has a site, that of a piece has none
 abbrev pub IsSited : {S : Type 0} → Plan → ℕ → Slot S → Type 0

@@ -17,8 +17,9 @@ use std::alloc::Global;
 use std::mem;
 use std::snapshot::Snapshot;
 use ts_check::Checked;
-use ts_print::{Staged, SubPrint};
+use ts_print::SubPrint;
 use ts_site::{Site, SiteFault};
+use ts_stage::{Piece, Staged};
 
 /// The words of a plan's actions, and what lies in their slots.
 #[derive(Drop)]
@@ -60,16 +61,16 @@ impl<S: Site> Held<S> {
         self.action
     }
 
-    /// The act of a piece: it has staged these bytes.
-    pub fn stage(&mut self, bytes: Vec<u8>)
+    /// The act of a piece: it has staged this.
+    pub fn stage(&mut self, piece: Piece)
         requires acted { self.old.acted ≡ false }
         requires site { has_site self.old.slot ≡ false }
         ensures action { self.new.action ≡ self.old.action }
         ensures acted { self.new.acted ≡ true }
-        ensures work { work_in self.new.slot ≡ work.Staged bytes.items }
+        ensures work { work_in self.new.slot ≡ work.Staged piece.bytes }
         ensures told { (t : Terms) → IsTold S.content t self.old.action self.old.slot → IsTold S.content t self.new.action self.new.slot }
     {
-        self.slot = Slot::Bytes(bytes);
+        self.slot = Slot::Bytes(piece);
         self.mark();
     }
 

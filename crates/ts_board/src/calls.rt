@@ -15,6 +15,7 @@ use crate::law::{
 };
 use std::marker::Brand;
 use ts_site::Site;
+use ts_stage::Piece;
 
 /// The bit of a word that says that its action is claimed. The 32 bits below count its open predecessors.
 pub const CLAIMED: u64 = 1 << 32;
@@ -83,8 +84,8 @@ impl<S: Site> Board<S> {
         slot
     }
 
-    /// The bytes that a piece of the held commit has staged. They are taken once.
-    pub fn take(&self, pass: &mut Pass<S>, held: &mut Held<S>, k: u32) -> Vec<u8>
+    /// What a piece of the held commit has staged. It is taken once.
+    pub fn take(&self, pass: &mut Pass<S>, held: &mut Held<S>, k: u32) -> Piece
         requires pass { IsPassOf S.content self.now pass.old }
         requires action { k < length (plan_of self.now).actions }
         requires held { IsPending (mine pass.old) held.old.action }
@@ -92,11 +93,11 @@ impl<S: Site> Board<S> {
         requires untaken { HasNot (mine pass.old) (takes k) }
         ensures pass { IsPassOf S.content self.now pass.new × IsSamePart pass.old pass.new }
         ensures taken { Makes (terms_of S.content self.now) pass.old (Take held.old.action k ∷ []) pass.new }
-        ensures bytes { Contains (seen pass.new) (Act k (work.Staged result.items)) }
+        ensures bytes { Contains (seen pass.new) (Act k (work.Staged result.bytes)) }
         ensures held { held.new ≡ held.old }
     {
         match self.take_out::<Brand>(pass, held.action, k) {
-            Slot::Bytes(bytes) => bytes,
+            Slot::Bytes(piece) => piece,
             _ => unreachable!(),
         }
     }

@@ -9,16 +9,17 @@ use ts_model::items::Items;
 use ts_model::plan::Plan;
 use ts_model::row::{Row, Stamp};
 use ts_model::step::Step;
-use ts_print::{Print, Staged};
+use ts_print::Print;
 use ts_site::Site;
+use ts_stage::{Piece, Staged};
 
-/// What lies in the slot of an action: the site of a commit, after its act with what it has put in place, or the bytes that a piece staged.
+/// What lies in the slot of an action: the site of a commit, after its act with what it has put in place, or what a piece staged.
 #[derive(Drop)]
 pub enum Slot<S> {
     Empty,
     Place(S),
     Committed(S, Snapshot<Staged>),
-    Bytes(Vec<u8>),
+    Bytes(Piece),
 }
 
 impl<S: Drop> Slot<S> {
@@ -31,7 +32,7 @@ impl<S: Drop> Slot<S> {
         match self {
             Slot::Place(site) => Some(site),
             Slot::Committed(site, _staged) => Some(site),
-            Slot::Bytes(_bytes) => None,
+            Slot::Bytes(_piece) => None,
             Slot::Empty => None,
         }
     }
