@@ -13,10 +13,14 @@ use ts_board::Pass;
 use ts_folder::Folder;
 use ts_print::Print;
 use ts_site::Site;
+use ts_stage::Stage;
 
-/// A checkpoint also waits until its worker has claimed this part of its actions since the last one: they grow rarer as the
-/// archive grows, so what they cost stays in proportion to the run.
-const SHARE: u32 = 32;
+/// After an archive of more paths than this the next checkpoint also waits for actions in proportion to them: it looks at all
+/// marks and copies the archive, and the other workers are to get further meanwhile than this one falls behind.
+const SMALL: usize = 1_024;
+
+/// It waits for this part of the paths.
+const SHARE: usize = 4;
 
 /// Is handed archives of a run while it goes on.
 pub trait Keeper: Drop {
@@ -44,10 +48,8 @@ pub struct Keeping<K> {
     pub keeper: K,
     /// No archive is made where this is missing.
     every: Option<u32>,
-    /// How many actions its worker has claimed.
-    count: u32,
-    /// At which count the next archive is due.
-    next: u32,
+    /// How many actions its worker has still to claim until the next archive is due.
+    left: u32,
 }
 
 impl Keeping<NoKeeper> {
@@ -56,8 +58,7 @@ impl Keeping<NoKeeper> {
         Keeping {
             keeper: NoKeeper,
             every: None,
-            count: 0,
-            next: 0,
+            left: 0,
         }
     }
 }
@@ -70,8 +71,7 @@ impl<K> Keeping<K> {
         Keeping {
             keeper,
             every: Some(every),
-            count: 0,
-            next: every,
+            left: every,
         }
     }
 
@@ -89,16 +89,35 @@ impl<K> Keeping<K> {
         let Some(every) = self.every else {
             return false;
         };
-        self.count = self.count.saturating_add(1);
-        if self.count < self.next {
+        self.left = self.left.saturating_sub(1);
+        if self.left > 0 {
             return false;
         }
-        self.next = self.count.saturating_add(every.max(self.count / SHARE));
+        self.left = every;
         true
     }
 }
 
-impl<'a, 'b, S: Site, F: Folder + Sync, G: Gate + Stop + Sync> Shared<'a, 'b, S, F, G> {
+impl<K: Keeper> Keeping<K> {
+    /// Hands an archive to the keeper. After a large one the next has to wait.
+    fn keep(&mut self, archive: Print)
+        ensures { Keeps (K.kept self.old.keeper) (K.kept self.new.keeper) archive }
+    {
+        let paths = archive.rows().len();
+        if paths > SMALL {
+            let wait = u32::try_from(paths / SHARE).unwrap_or(u32::MAX);
+            self.left = self.left.max(wait);
+        }
+        self.keeper.keep(archive);
+    }
+}
+
+impl<'a, 'b, S: Site, F, G, P> Shared<'a, 'b, S, F, G, P>
+where
+    F: Folder + Sync,
+    G: Gate + Stop + Sync,
+    P: Stage,
+{
     /// Counts an action that was claimed, and makes a checkpoint where one is due. One that finds no memory is left out.
     pub fn keep_up<K: Keeper>(&self, pass: &mut Pass<S>, keeping: &mut Keeping<K>)
         requires pass { IsPassOf S.content self.now.board.now pass.old }
@@ -110,7 +129,7 @@ impl<'a, 'b, S: Site, F: Folder + Sync, G: Gate + Stop + Sync> Shared<'a, 'b, S,
             return;
         }
         if let Ok(archive) = self.board.checkpoint(self.alloc, pass, self.checked) {
-            keeping.keeper.keep(archive);
+            keeping.keep(archive);
         }
     }
 }

@@ -12,7 +12,7 @@ all_counted actions actions' i bytes same past counted =
     counted ∙ ap (λ (l : List Action). min (sum_by size_of l) (2 ^ 64 - 1)) (take_all i actions' past ∙ same)
 
 -- the number of actions that is cut to its limits
-pub between : (actions bytes workers exact every : ℕ) → 1 ≤ workers → 0 < bytes → exact ≡ 268435456 * actions / workers / bytes → every ≡ max 1024 (min exact 65536)
+pub between : (actions bytes workers exact every : ℕ) → 1 ≤ workers → 0 < bytes → exact ≡ 268435456 * actions / workers / bytes → every ≡ max 1 (min exact 65536)
     → IsBetween actions bytes workers every
 between actions bytes workers exact every some copied is cut =
     let all : 0 < workers * bytes = mul-pos some copied in

@@ -8,9 +8,7 @@ use ts_model::plan::{Action, Kind, Plan};
 /// How many bytes all workers copy from one checkpoint to the next: 256 MiB.
 const COPIED: u64 = 268_435_456;
 
-/// How many actions of a worker there are at least, and at most: of small files a worker does about as many in 30 seconds.
-const LEAST: u32 = 1_024;
-
+/// How many actions of a worker there are at most: of small files a worker does about as many in 30 seconds.
 const MOST: u32 = 65_536;
 
 /// After how many actions of a worker a checkpoint is made where nobody says so. By then all workers together have copied
@@ -35,7 +33,7 @@ fn spacing(actions: u32, bytes: u64, workers: u32) -> u32
         return MOST;
     };
     match u32::try_from(every) {
-        Ok(every) => every.clamp(LEAST, MOST),
+        Ok(every) => every.clamp(1, MOST),
         Err(_) => MOST,
     }
 }
