@@ -13,5 +13,5 @@ use Rattle.ts_board.proofs.Crossing.{board_sync, checked_sync}
 pub member_field_send : IsSend (Member.the_field).row
 member_field_send = search (sendable, crosses, rows.the_send, rows.the_sync, row_seat.the_send) depth 60 fits 5000
 
-pub shared_sync : (a b : NamedLft) (S F G : RattleType) (g : Ghosts S.Denot) → IsSend S → IsSync F → IsSync G → IsSync (Shared.the_row a b S F G g)
-shared_sync a b S F G g s f h = let k = checked_sync a in let d = board_sync S g s in search (sendable, crosses) depth 60 fits 5000
+pub shared_sync : (a b : NamedLft) (S F G P : RattleType) (g : Ghosts S.Denot) → IsSend S → IsSync F → IsSync G → IsSync P → IsSync (Shared.the_row a b S F G P g)
+shared_sync a b S F G P g s f h p = let k = checked_sync a in let d = board_sync S g s in search (sendable, crosses) depth 60 fits 5000

@@ -16,7 +16,7 @@ use Rattle.ts_board.specs.Kept.{HasLeft}
 use Rattle.ts_board.specs.Checks.{IsFromCheck}
 use Rattle.ts_folder.specs.declared.folder.Call.{Call}
 use Rattle.ts_folder.specs.declared.fault.Trouble.{Trouble}
-use Rattle.ts_exec.specs.Failures.{MayFail, Setting, or_stopped, setting_with}
+use Rattle.ts_exec.specs.Failures.{MayFail, Setting, or_jammed, or_stopped, setting_with}
 use Rattle.ts_exec.specs.Outcomes.{IsEnd, IsOutcome, IsReady, ResultFits, ResultIs}
 use Rattle.ts_exec.specs.Stores.{IsKept, Store}
 use Rattle.ts_exec.specs.Tidy.{IsTidy, Noted, Swept}
@@ -67,10 +67,10 @@ result_fits x r faults noted i left Left is = (is.0, is.1, left is.0 is.1)
 module _ {S F : Type 0} (content : S → Option (Listing (List ℕ))) (failures : S → ℕ) (tells : F → Option (Listing (List ℕ))) (lets : F → Call → Path → Trouble → Type 0)
     (k : Checkup) (valid : Valid (snapshot_of k) k.plan) (first second : F) (t opened : Terms) (same : t ≡ opened) (checked : IsFromCheck opened k)
     (p : Pass S) (words : List ℕ) (slots : List (Slot S)) (faults : List (Option ActFault)) (ends : Ends content t p words slots) (whole : IsWhole p)
-    (stops : Type 0) (tidy : IsTidy k.plan (mine p)) (noted : Noted (or_stopped stops (setting_with failures tells lets k first second t.told)) (mine p) (seen p) faults)
+    (jams stops : Type 0) (tidy : IsTidy k.plan (mine p)) (noted : Noted (or_jammed jams (or_stopped stops (setting_with failures tells lets k first second t.told))) (mine p) (seen p) faults)
     (swept : Swept k.plan (length k.plan.actions) (mine p) (seen p) ⊎ stops) where
   abbrev pub setting : Terms → Setting
-  setting z = or_stopped stops (setting_with failures tells lets k first second z.told)
+  setting z = or_jammed jams (or_stopped stops (setting_with failures tells lets k first second z.told))
 
   from : IsFromCheck t k
   from = subst (λ (z : Terms). IsFromCheck z k) (sym same) checked

@@ -1,10 +1,10 @@
 -- Which faults acts may have, and what acts leave.
-use Rattle.std.proofs.Common.{◌≡◌, ◌≢◌, ℕ, ◌+◌, ◌<◌, ◌≤◌, true, List, ◌++◌, length, take, drop, Option, Some, None, IfSome, slice_get, Result, Ok, Err, sym, refl, ap, ◌∙◌, subst, ⊎_elim, arith, length-take, length-drop}
+use Rattle.std.proofs.Common.{◌≡◌, ◌≢◌, ℕ, ◌+◌, ◌<◌, ◌≤◌, true, List, ◌++◌, length, take, drop, Option, Some, None, IfSome, slice_get, Result, Ok, Err, inl, inr, sym, refl, ap, ◌∙◌, subst, ⊎_elim, arith, length-take, length-drop}
 use Rattle.std.specs.Prelude.{IfErr, OnErr, OnOk, IsErrOf}
 use Rattle.std.specs.Result.{IsErrAnd}
 use Rattle.std.proofs.lemmas.Bool.{true≢false, cases_lt}
 use Rattle.std.proofs.lemmas.Option.{same_Some}
-use Rattle.ts_print.specs.Assemblies.{Assembly, IsComplete}
+use Rattle.ts_stage.specs.Assemblies.{Assembly, IsComplete}
 use Rattle.ts_site.specs.Sites.{IsPutFor, RefusesMisfits}
 use Rattle.ts_name.specs.Paths.{Path}
 use Rattle.ts_model.specs.Trees.{Listing, at}
@@ -27,6 +27,8 @@ use Rattle.ts_model.specs.declared.step.Work.TheVariants.{Staged, Marked}
 use Rattle.ts_check.specs.Checkup.{Checkup}
 use Rattle.ts_site.specs.declared.fault.SiteFault.{SiteFault}
 use Rattle.ts_site.specs.declared.fault.SiteFault.TheVariants as site
+use Rattle.ts_stage.specs.declared.fault.StageFault.{StageFault}
+use Rattle.ts_stage.specs.declared.fault.StageFault.TheVariants as stage
 use Rattle.ts_folder.specs.Folders.{IsFile, MayAnswer, Reads}
 use Rattle.ts_folder.specs.declared.fault.FolderFault.{FolderFault}
 use Rattle.ts_folder.specs.declared.fault.FolderFault.TheVariants as folder
@@ -37,7 +39,7 @@ use Rattle.ts_board.specs.declared.law.Slot.TheVariants.{Empty, Place, Committed
 use Rattle.ts_board.specs.Terms.{IsToldIn, Suits, content_of, failures_of, is_place}
 use Rattle.ts_board.specs.Checks.{IsFromCheck}
 use Rattle.ts_exec.specs.declared.fault.ActFault.TheVariants.{Misfit}
-use Rattle.ts_exec.specs.Faults.{of_folder, of_site}
+use Rattle.ts_exec.specs.Faults.{of_folder, of_site, of_stage}
 use Rattle.ts_exec.specs.Failures.{Setting, PieceFails, CommitFails, IsChanged, IsMisfit, MayBreak}
 use Rattle.ts_laws.proofs.Cuts.{any_in_longer, none_in_both}
 
@@ -73,16 +75,21 @@ piece_copied s plan valid i e offset size p is = go (slice_get plan.entries e) r
 pub piece_small : (s : Snapshot) (plan : Plan) → Valid s plan → (i e offset size : ℕ) (p : Path) → KindIs plan i (Piece e offset size p) → size ≤ 1048576
 piece_small s plan valid i e offset size p is = ⊎_elim (λ (g : 1048576 < size). absurd (valid PiecesLawful i (e, offset, size, p, is, λ piece. (let range = piece.6 in let full = range.full in absurd (omega arith))))) (λ (l : size ≤ 1048576). l) (cases_lt 1048576 size)
 
-pub read_fails : (lets : Trouble → Type 0) (tells : Option (Listing (List ℕ))) (end : ℕ) (p : Path) (e : FolderFault) → MayAnswer lets (IfSome tells (λ rows. ¬ IsFile (at rows p))) e → PieceFails lets tells end p (of_folder e)
-read_fails lets tells end p folder.OutOfMemory h = h
-read_fails lets tells end p folder.Device h = h
-read_fails lets tells end p folder.NotThere h = h
-read_fails lets tells end p folder.Unreadable h = h
+pub read_fails : (lets : Trouble → Type 0) (jams : Type 0) (tells : Option (Listing (List ℕ))) (end : ℕ) (p : Path) (e : FolderFault) → MayAnswer lets (IfSome tells (λ rows. ¬ IsFile (at rows p))) e → PieceFails lets jams tells end p (of_folder e)
+read_fails lets jams tells end p folder.OutOfMemory h = h
+read_fails lets jams tells end p folder.Device h = inl h
+read_fails lets jams tells end p folder.NotThere h = h
+read_fails lets jams tells end p folder.Unreadable h = h
 
-pub read_short : (lets : Trouble → Type 0) (tells : Option (Listing (List ℕ))) (offset size : ℕ) (p : Path) (bytes : List ℕ) → length bytes ≢ size
-    → IfSome tells (λ rows. Reads (at rows p) offset size bytes) → PieceFails lets tells (offset + size) p Misfit
-read_short lets None offset size p bytes n h = h
-read_short lets (Some rows) offset size p bytes n h = (h.bytes, h.file, short)
+-- a piece whose stage fails
+pub store_fails : (lets : Trouble → Type 0) (jams : Type 0) (tells : Option (Listing (List ℕ))) (end : ℕ) (p : Path) (e : StageFault) → (e ≡ stage.Device → jams) → PieceFails lets jams tells end p (of_stage e)
+store_fails lets jams tells end p stage.OutOfMemory h = tt
+store_fails lets jams tells end p stage.Device h = inr (h refl)
+
+pub read_short : (lets : Trouble → Type 0) (jams : Type 0) (tells : Option (Listing (List ℕ))) (offset size : ℕ) (p : Path) (bytes : List ℕ) → length bytes ≢ size
+    → IfSome tells (λ rows. Reads (at rows p) offset size bytes) → PieceFails lets jams tells (offset + size) p Misfit
+read_short lets jams None offset size p bytes n h = h
+read_short lets jams (Some rows) offset size p bytes n h = (h.bytes, h.file, short)
   where
     short : length h.bytes < offset + size
     short =

@@ -18,9 +18,9 @@ use Rattle.ts_model.specs.declared.row.Content.TheVariants.{Absent, Dir, File}
 use Rattle.ts_model.specs.declared.row.Stamp.{Stamp}
 use Rattle.ts_laws.proofs.Lists.{Among, Among-left, Among-last, Among-push_cases}
 use Rattle.ts_laws.proofs.Steps.{same_kind}
-use Rattle.ts_print.specs.Assemblies.{begun, begun_rows, more, with_more}
+use Rattle.ts_stage.specs.Assemblies.{begun, begun_rows, more, with_more}
 use Rattle.ts_print.specs.Prints.{stamped_rows}
-use Rattle.ts_print.proofs.Assembling.{KeepsKinds, listed-changed}
+use Rattle.ts_stage.proofs.Assembling.{KeepsKinds, listed-changed}
 use Rattle.ts_print.proofs.Stamping.{ascend-stamped, listed-stamped}
 use Rattle.ts_check.specs.Pieces.{IsEarlierPiece}
 use Rattle.ts_exec.proofs.Rows.{among_take}

@@ -1,5 +1,5 @@
 -- Over folders that tell trees of the checked prints nothing misfits, and where nothing else is wrong actions fail only where memory runs out.
-use Rattle.std.proofs.Common.{◌≡◌, ℕ, ◌+◌, ◌<◌, List, length, Option, IfSome, refl, ap, ◌∙◌, subst, arith}
+use Rattle.std.proofs.Common.{◌≡◌, ℕ, ◌+◌, ◌<◌, List, length, Option, IfSome, refl, ap, ◌∙◌, subst, arith, ⊎_elim}
 use Rattle.ts_model.specs.Trees.{Listing, at}
 use Rattle.ts_model.specs.Plans.{KindIs, Valid}
 use Rattle.ts_model.specs.Runs.{Run}
@@ -42,7 +42,7 @@ module _ (x : Setting) (valid : Valid (snapshot_of x.checkup) x.checkup.plan) (r
   -- why an action may fail where all is steady
   steady_fails : IsSteady x → (i : ℕ) (kind : Kind) (f : ActFault) → KindIs x.checkup.plan i kind → KindFails x r i kind f → f ≡ OutOfMemory
   steady_fails steady i (Piece e offset size p) OutOfMemory is h = refl
-  steady_fails steady i (Piece e offset size p) Device is h = absurd (steady.readable h.1 p trouble.Device h.3)
+  steady_fails steady i (Piece e offset size p) Device is h = ⊎_elim (λ l. absurd (steady.readable h.1 p trouble.Device l)) (λ j. absurd (steady.unjammed j)) h.3
   steady_fails steady i (Piece e offset size p) NotThere is h =
       let told = steady.tells h.1 in
       let c = lawful (snapshot_of x.checkup) x.checkup.plan valid e h.0 h.1 h.2 (at told.0) told.2 i offset size p is in

@@ -23,7 +23,8 @@ use Rattle.ts_laws.proofs.Steps.{same_entry, same_kind}
 use Rattle.ts_check.specs.Checkup.{IsSourcePart, snapshot_of}
 use Rattle.ts_check.specs.Pieces.{IsEarlierPiece}
 use Rattle.ts_folder.specs.Folders.{Reads}
-use Rattle.ts_print.specs.Assemblies.{Assembly, HasSoFar, IsComplete, assembly_of, with_more}
+use Rattle.ts_stage.specs.Assemblies.{Assembly, HasSoFar, IsComplete, assembly_of, put_in, with_more}
+use Rattle.ts_stage.specs.Stagings.{Staging, both}
 use Rattle.ts_print.specs.Parts.{Part}
 use Rattle.ts_print.specs.Prints.{stamped_rows}
 use Rattle.ts_exec.specs.Failures.{Setting, AreRead, AreTold, HasPut, HasRead, HasTold, IsRead, IsTold, IsToldStep, TellsTree}
@@ -134,8 +135,8 @@ module _ (x : Setting) (valid : Valid (snapshot_of x.checkup) x.checkup.plan) (c
       put_at p false same = put_other (snapshot_of x.checkup) plan valid e of.entry of.from of.of_commit.2 tree told.2 (take n xs) k offset size path (part.top ++ p) (f.had p) kind
           (λ e_path. true≢false (sym (ap (λ (z : Path). same_path z path) e_path ∙ same_path_itself path) ∙ same)) (f.put p)
 
-      next : IsFilled plan e tree (take n xs ++ k ∷ []) part (record a { made = with_more a.top path bytes a.made })
-      next = record {
+      next : (held : Bool) → IsFilled plan e tree (take n xs ++ k ∷ []) part (record a { made = with_more a.top path bytes a.made; held = held })
+      next held = record {
         top = f.top;
         wanted = f.wanted;
         had = with_bytes part.top path bytes f.had;
@@ -143,14 +144,14 @@ module _ (x : Setting) (valid : Valid (snapshot_of x.checkup) x.checkup.plan) (c
         put = λ p. put_at p (same_path (part.top ++ p) path) refl;
       }
 
-    pub filled_next : (n : ℕ) → n < length xs → (r : Run) (bytes : List ℕ) → AreRead x r → Contains r (Act (get_or xs n 0) (Staged bytes)) → (a b : Assembly) → IsFilled plan e tree (take n xs) part a
-        → ((e offset size : ℕ) (path : Path) → KindIs plan (get_or xs n 0) (Piece e offset size path) → HasSoFar a path offset → b ≡ record a { made = with_more a.top path bytes a.made })
+    pub filled_next : (n : ℕ) → n < length xs → (r : Run) (staging : Staging) → AreRead x r → Contains r (Act (get_or xs n 0) (Staged staging.bytes)) → (a b : Assembly) → IsFilled plan e tree (take n xs) part a
+        → ((e offset size : ℕ) (path : Path) → KindIs plan (get_or xs n 0) (Piece e offset size path) → HasSoFar a path offset → b ≡ put_in a path staging)
         → Contains xs (get_or xs n 0) → IsFilled plan e tree (take (n + 1) xs) part b
-    filled_next n within r bytes reads there a b f put among =
+    filled_next n within r staging reads there a b f put among =
         subst (λ (z : List ℕ). IsFilled plan e tree z part b) (sym (take_more xs n 0 within))
         (subst (λ (z : Assembly). IsFilled plan e tree (take n xs ++ get_or xs n 0 ∷ []) part z)
-        (sym (put e piece.offset piece.size piece.path kind (far n within (get_or xs n 0) here piece.offset piece.size piece.path kind bytes read a f)))
-        (next n within (get_or xs n 0) here piece.offset piece.size piece.path kind bytes read a f))
+        (sym (put e piece.offset piece.size piece.path kind (far n within (get_or xs n 0) here piece.offset piece.size piece.path kind staging.bytes read a f)))
+        (next n within (get_or xs n 0) here piece.offset piece.size piece.path kind staging.bytes read a f (both a.held staging.held)))
       where
         here : get_or xs n (get_or xs n 0) ≡ get_or xs n 0
         here = any_default n (get_or xs n 0) 0 xs within
@@ -161,8 +162,8 @@ module _ (x : Setting) (valid : Valid (snapshot_of x.checkup) x.checkup.plan) (c
         kind : KindIs plan (get_or xs n 0) (Piece e piece.offset piece.size piece.path)
         kind = subst (λ (z : ℕ). KindIs plan (get_or xs n 0) (Piece z piece.offset piece.size piece.path)) (ap commit_in (same_kind plan c (Commit piece.entry) (Commit e) piece.commit of.of_commit.1)) piece.piece
 
-        read : Reads (at told.0 piece.path) piece.offset piece.size bytes
-        read = read_range x (get_or xs n 0) e piece.offset piece.size piece.path of.entry of.from told.0 bytes of.of_commit.2 told.1 kind (read_act x r (get_or xs n 0) (Staged bytes) reads there)
+        read : Reads (at told.0 piece.path) piece.offset piece.size staging.bytes
+        read = read_range x (get_or xs n 0) e piece.offset piece.size piece.path of.entry of.from told.0 staging.bytes of.of_commit.2 told.1 kind (read_act x r (get_or xs n 0) (Staged staging.bytes) reads there)
 
     whole_file : {a : Assembly} (rest : Path) (bytes : List ℕ) (f : IsFilled plan e tree xs part a) → tree (part.top ++ rest) ≡ File bytes → f.had rest ≡ bytes
     whole_file rest bytes f there = put_all (snapshot_of x.checkup) plan valid e of.entry of.from of.of_commit.2 tree told.2 xs (λ k offset size p kind. Among-from_Contains xs k (each_piece k offset size p kind))

@@ -2,7 +2,7 @@
 --     IsActed content t h         it has acted, as its kind asks
 --     MayGoOn content t own h     it has not acted, and may still fail
 --     HasAll, HasNone plan c own  all pieces of the commit were taken, or none
---     IsAppended, IsPut           bytes were put at the end of a file of an assembly
+--     IsAppended, IsPut           a piece was put at the end of a file of an assembly
 --     IsMadeWhole x r c old new   an assembly has become what the source's folder tells
 use Rattle.std.specs.Prelude.{◌≡◌, ℕ, List, Option, true}
 use Rattle.ts_name.specs.Paths.{Path}
@@ -17,7 +17,8 @@ use Rattle.ts_board.specs.Terms.{IsTold, Suits}
 use Rattle.ts_board.specs.declared.board.Held.{Held}
 use Rattle.ts_board.specs.declared.law.Terms.{Terms}
 use Rattle.ts_check.specs.Checkup.{IsSourcePart}
-use Rattle.ts_print.specs.Assemblies.{Assembly, HasSoFar, IsComplete, assembly_of, with_more}
+use Rattle.ts_stage.specs.Assemblies.{Assembly, HasSoFar, IsComplete, assembly_of, put_in}
+use Rattle.ts_stage.specs.Stagings.{Staging}
 use Rattle.ts_print.specs.Parts.{Part}
 use Rattle.ts_exec.specs.Failures.{Setting, AreRead, TellsTree}
 
@@ -33,13 +34,13 @@ HasAll plan c own = (k : ℕ) → IsPieceOf plan c k → Has own (takes k)
 abbrev pub HasNone : Plan → ℕ → Run → Type 0
 HasNone plan c own = (k : ℕ) → IsPieceOf plan c k → HasNot own (takes k)
 
--- the bytes now stand at the end of the file at this path
-abbrev pub IsAppended : Path → List ℕ → Assembly → Assembly → Type 0
-IsAppended path bytes old new = new ≡ record old { made = with_more old.top path bytes old.made }
+-- what a piece staged now stands at the end of the file at this path
+abbrev pub IsAppended : Path → Staging → Assembly → Assembly → Type 0
+IsAppended path piece old new = new ≡ put_in old path piece
 
 -- of piece k, where its file had all bytes before them so far
-abbrev pub IsPut : Plan → ℕ → List ℕ → Assembly → Assembly → Type 0
-IsPut plan k bytes old new = (e offset size : ℕ) (path : Path) → KindIs plan k (Piece e offset size path) → HasSoFar old path offset → IsAppended path bytes old new
+abbrev pub IsPut : Plan → ℕ → Staging → Assembly → Assembly → Type 0
+IsPut plan k piece old new = (e offset size : ℕ) (path : Path) → KindIs plan k (Piece e offset size path) → HasSoFar old path offset → IsAppended path piece old new
 
 -- an assembly that was begun for the commit's source is complete, and just what the source's folder tells at the entry's path and below, where that
 -- folder tells a tree of the checked print, and pieces staged in these steps what folders tell

@@ -2,12 +2,13 @@
 --     Setting             what folders and sites tell, and may fail with
 --     setting_for ..      that of a run, by the sites of its commits at the start
 --     setting_until ..    the same of a run that may be stopped
+--     setting_over ..     the same of a run over a stage that may fail
 --     TellsTree x from    the folder of this side tells a tree, of the print that the plan was checked with
 --     TellsSite x c       the site of this commit told its content at the start
 --     AreRead x r         in these steps, what pieces staged is what their folders tell
 --     AreTold x r own     and what commits put in place, where pieces did so in the steps r
 --     MayFail x r i f     after these steps, the fault is one that the folder or the site of action i may have given
-use Rattle.std.specs.Prelude.{◌≡◌, ℕ, ◌+◌, ◌<◌, List, Option, Some, IfSome, length, slice_index_or, None}
+use Rattle.std.specs.Prelude.{◌≡◌, ◌⊎◌, ℕ, ◌+◌, ◌<◌, List, Option, Some, IfSome, length, slice_index_or, None}
 use Rattle.std.specs.List.{AllByRecursion}
 use Rattle.ts_name.specs.Paths.{Path}
 use Rattle.ts_model.specs.Trees.{Listing, at, listed, print_of, sub}
@@ -27,10 +28,11 @@ use Rattle.ts_model.specs.declared.step.Work.{Work}
 use Rattle.ts_model.specs.declared.step.Work.TheVariants.{Staged, Put}
 use Rattle.ts_check.specs.Checkup.{Checkup, IsSourcePart, snapshot_of}
 use Rattle.ts_print.specs.Parts.{Part}
-use Rattle.ts_print.specs.Assemblies.{Assembly, IsComplete}
+use Rattle.ts_stage.specs.Assemblies.{Assembly, IsComplete}
 use Rattle.ts_board.specs.Checks.{DiffersFromTarget, terms_for}
 use Rattle.ts_site.specs.declared.site.Site as sites
 use Rattle.ts_folder.specs.declared.folder.Folder as folders
+use Rattle.ts_stage.specs.declared.stage.Stage as stages
 use Rattle.ts_folder.specs.Folders.{IsFile, Reads}
 use Rattle.ts_folder.specs.declared.folder.Call.{Call}
 use Rattle.ts_folder.specs.declared.folder.Call.TheVariants.{Read}
@@ -41,13 +43,14 @@ use Rattle.ts_exec.specs.declared.fault.ActFault.{ActFault}
 use Rattle.ts_exec.specs.declared.fault.ActFault.TheVariants as fault
 
 -- the checked plan; which tree the folder of a side tells, and how its reads may fail; what each site told at the start;
--- that a site's device may fail at all; and that the run may be stopped
+-- that a site's device may fail at all; that the stage may; and that the run may be stopped
 pub record Setting : Type 1 where
   pub checkup : Checkup
   pub tells : Side → Option (Listing (List ℕ))
   pub lets : Side → Path → Trouble → Type 0
   pub told : List (Option (Option (Listing (List ℕ))))
   pub breaks : Type 0
+  pub jams : Type 0
   pub stops : Type 0
 
 -- of each side its own
@@ -67,6 +70,7 @@ setting_with failures tells lets checkup first second told = record {
   lets = λ from p t. lets (of_side first second from) Read p t;
   told = told;
   breaks = MayBreak failures;
+  jams = ⊥;
   stops = ⊥;
 }
 
@@ -81,6 +85,13 @@ or_stopped may x = record x { stops = may }
 
 abbrev pub setting_until : {S F File T : Type 0} → sites.Ghosts S → folders.Ghosts F File → stopping.Ghosts T → Checkup → F → F → List S → T → Setting
 setting_until site folder stopped k first second starts stop = or_stopped (stopped.stops stop) (setting_for site folder k first second starts)
+
+-- the same, where the stage of pieces may fail
+abbrev pub or_jammed : Type 0 → Setting → Setting
+or_jammed may x = record x { jams = may }
+
+abbrev pub setting_over : {S F File P : Type 0} → sites.Ghosts S → folders.Ghosts F File → stages.Ghosts P → Checkup → F → F → List S → P → Setting
+setting_over site folder stages k first second starts stage = or_jammed (stages.fails stage) (setting_for site folder k first second starts)
 
 -- the entry is copied
 abbrev pub IsCopied : Plan → ℕ → Type 0
@@ -147,14 +158,14 @@ IsToldStep x r (Release i j) = Unit {0}
 abbrev pub AreTold : Setting → Run → Run → Type 0
 AreTold x r own = AllByRecursion (IsToldStep x r) own
 
--- a piece that is read from this path: a file that is too short doesn't fit
-abbrev pub PieceFails : (Trouble → Type 0) → Option (Listing (List ℕ)) → ℕ → Path → ActFault → Type 0
-PieceFails lets tells end p fault.OutOfMemory = Unit {0}
-PieceFails lets tells end p fault.Device = lets trouble.Device
-PieceFails lets tells end p fault.NotThere = IfSome tells (λ rows. ¬ IsFile (at rows p))
-PieceFails lets tells end p fault.Unreadable = lets trouble.Unreadable
-PieceFails lets tells end p fault.Changed = ⊥
-PieceFails lets tells end p fault.Misfit = IfSome tells (λ rows. (bytes : List ℕ) × (at rows p ≡ File bytes) × (length bytes < end))
+-- a piece that is read from this path: a file that is too short doesn't fit, and its stage may fail
+abbrev pub PieceFails : (Trouble → Type 0) → Type 0 → Option (Listing (List ℕ)) → ℕ → Path → ActFault → Type 0
+PieceFails lets jams tells end p fault.OutOfMemory = Unit {0}
+PieceFails lets jams tells end p fault.Device = lets trouble.Device ⊎ jams
+PieceFails lets jams tells end p fault.NotThere = IfSome tells (λ rows. ¬ IsFile (at rows p))
+PieceFails lets jams tells end p fault.Unreadable = lets trouble.Unreadable
+PieceFails lets jams tells end p fault.Changed = ⊥
+PieceFails lets jams tells end p fault.Misfit = IfSome tells (λ rows. (bytes : List ℕ) × (at rows p ≡ File bytes) × (length bytes < end))
 
 -- of a commit whose site tells its content: an assembly of the commit's source, of which a file doesn't fit its stamp. Where the source's folder
 -- tells such a tree, some piece in these steps has staged what no folder tells
@@ -179,7 +190,7 @@ CommitFails x r c fault.Misfit = IsMisfit x r c
 
 -- marks don't fail
 abbrev pub KindFails : Setting → Run → ℕ → Kind → ActFault → Type 0
-KindFails x r i (Piece e offset size p) f = (entry : Entry) × (from : Side) × Copies x.checkup.plan e entry from × PieceFails (x.lets from p) (x.tells from) (offset + size) p f
+KindFails x r i (Piece e offset size p) f = (entry : Entry) × (from : Side) × Copies x.checkup.plan e entry from × PieceFails (x.lets from p) x.jams (x.tells from) (offset + size) p f
 KindFails x r i (Commit e) f = CommitFails x r i f
 KindFails x r i (Mark e) f = ⊥
 

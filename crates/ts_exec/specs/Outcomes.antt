@@ -108,13 +108,15 @@ IsCopiedFrom plan i from = (entry : Entry) × (entry_of plan i ≡ Some entry) �
 abbrev pub MisfitsAreUntold : Setting → List ActionResult → Type 0
 MisfitsAreUntold x results = (i : ℕ) → slice_get results i ≡ Some (Failed Misfit) → (IsCommit x.checkup.plan i → TellsSite x i) → (from : Side) × IsCopiedFrom x.checkup.plan i from × (¬ TellsTree x from)
 
--- folders tell trees of the checked prints, each commit's site told just its target's checked print at the start, and no device fails
+-- folders tell trees of the checked prints, each commit's site told just its target's checked print at the start, and no device fails, nor does
+-- the stage
 pub record IsSteady (x : Setting) : Type 0 where
   pub tells : (from : Side) → TellsTree x from
   pub sited : (c : ℕ) → IsCommit x.checkup.plan c → TellsSite x c
   pub readable : (from : Side) (p : Path) (t : Trouble) → ¬ x.lets from p t
   pub unchanged : (c : ℕ) → ¬ IsChanged x c
   pub unbroken : ¬ x.breaks
+  pub unjammed : ¬ x.jams
 
 abbrev pub OnlyMemoryRanOut : List ActionResult → Type 0
 OnlyMemoryRanOut results = (i : ℕ) (f : ActFault) → slice_get results i ≡ Some (Failed f) → f ≡ OutOfMemory

@@ -11,8 +11,8 @@ ghost use Rattle.ts_exec.specs.Sharing.{setting_of};
 ghost use Rattle.ts_exec.specs.declared.fault.ActFault.TheVariants as fault;
 ghost use Rattle.ts_model.specs.Plans.{KindIs};
 ghost use Rattle.ts_model.specs.Runs.{IsPending, Run};
-ghost use Rattle.ts_model.specs.declared.plan.Kind.TheVariants.{Piece};
-ghost use Rattle.ts_print.specs.Assemblies.{HasSoFar};
+ghost use Rattle.ts_model.specs.declared.plan.Kind.TheVariants as kinds;
+ghost use Rattle.ts_stage.specs.Assemblies.{HasSoFar};
 
 use crate::fault::ActFault;
 use crate::gate::Gate;
@@ -23,10 +23,15 @@ use ts_board::{Held, Pass};
 use ts_folder::Folder;
 use ts_model::plan::Kind;
 use ts_name::Path;
-use ts_print::Staged;
 use ts_site::Site;
+use ts_stage::{Piece, Stage, Staged};
 
-impl<'a, 'b, S: Site, F: Folder + Sync, G: Gate + Stop + Sync> Shared<'a, 'b, S, F, G> {
+impl<'a, 'b, S: Site, F, G, P> Shared<'a, 'b, S, F, G, P>
+where
+    F: Folder + Sync,
+    G: Gate + Stop + Sync,
+    P: Stage,
+{
     /// Makes the act of a claimed action, of which nothing was taken yet. After a fault it has not acted.
     pub fn act(&self, pass: &mut Pass<S>, held: &mut Held<S>) -> Result<(), ActFault>
         requires pass { IsPassOf S.content self.now.board.now pass.old }
@@ -40,9 +45,9 @@ impl<'a, 'b, S: Site, F: Folder + Sync, G: Gate + Stop + Sync> Shared<'a, 'b, S,
         ensures steps { (more : Run) × (mine pass.new ≡ mine pass.old ++ more) × AreTakes self.now.checked.now.plan held.old.action more }
         ensures action { held.new.action ≡ held.old.action }
         ensures ok { OnOk result (HasActed S.content (terms_of S.content self.now.board.now) (mine pass.new) held.new) }
-        ensures told { OnOk result (IsTold (setting_of S.Site F.Folder G.Stop self.now) (seen pass.new) held.old.action (work_of held.new)) }
+        ensures told { OnOk result (IsTold (setting_of S.Site F.Folder G.Stop P.Stage self.now) (seen pass.new) held.old.action (work_of held.new)) }
         ensures err { OnErr result (MayGoOn S.content (terms_of S.content self.now.board.now) (mine pass.new) held.new) }
-        ensures fault { IfErr result (MayFail (setting_of S.Site F.Folder G.Stop self.now) (seen pass.new) held.old.action) }
+        ensures fault { IfErr result (MayFail (setting_of S.Site F.Folder G.Stop P.Stage self.now) (seen pass.new) held.old.action) }
     {
         match self.kind(held.action()) {
             Kind::Piece {
@@ -68,14 +73,14 @@ impl<'a, 'b, S: Site, F: Folder + Sync, G: Gate + Stop + Sync> Shared<'a, 'b, S,
         length: u64,
         path: &Path,
     ) -> Result<(), ActFault>
-        requires kind { KindIs self.now.checked.now.plan held.old.action (Piece entry offset length path.now) }
+        requires kind { KindIs self.now.checked.now.plan held.old.action (kinds.Piece entry offset length path.now) }
         requires fresh { IsFresh S.content (terms_of S.content self.now.board.now) held.old }
         requires site { IsSited self.now.checked.now.plan held.old.action held.old.slot }
         ensures action { held.new.action ≡ held.old.action }
         ensures ok { OnOk result (IsActed S.content (terms_of S.content self.now.board.now) held.new) }
-        ensures read { OnOk result (HasRead (setting_of S.Site F.Folder G.Stop self.now) (Piece entry offset length path.now) (work_of held.new)) }
+        ensures read { OnOk result (HasRead (setting_of S.Site F.Folder G.Stop P.Stage self.now) (kinds.Piece entry offset length path.now) (work_of held.new)) }
         ensures err { OnErr result (held.new ≡ held.old) }
-        ensures fault { IfErr result (λ f. (r : Run) → MayFail (setting_of S.Site F.Folder G.Stop self.now) r held.old.action f) }
+        ensures fault { IfErr result (λ f. (r : Run) → MayFail (setting_of S.Site F.Folder G.Stop P.Stage self.now) r held.old.action f) }
     {
         let bytes = self
             .source(entry)
@@ -83,7 +88,17 @@ impl<'a, 'b, S: Site, F: Folder + Sync, G: Gate + Stop + Sync> Shared<'a, 'b, S,
         if bytes.len() as u64 != length {
             return Err(ActFault::Misfit);
         }
-        held.stage(bytes);
+        let copied = self.entry(entry);
+        let piece = self.stage.store(
+            self.alloc,
+            held.action(),
+            entry,
+            copied,
+            path,
+            offset,
+            bytes,
+        )?;
+        held.stage(piece);
         Ok(())
     }
 
@@ -100,9 +115,9 @@ impl<'a, 'b, S: Site, F: Folder + Sync, G: Gate + Stop + Sync> Shared<'a, 'b, S,
         ensures steps { (more : Run) × (mine pass.new ≡ mine pass.old ++ more) × AreTakes self.now.checked.now.plan held.old.action more }
         ensures action { held.new.action ≡ held.old.action }
         ensures ok { OnOk result (HasActed S.content (terms_of S.content self.now.board.now) (mine pass.new) held.new) }
-        ensures told { OnOk result (IsTold (setting_of S.Site F.Folder G.Stop self.now) (seen pass.new) held.old.action (work_of held.new)) }
+        ensures told { OnOk result (IsTold (setting_of S.Site F.Folder G.Stop P.Stage self.now) (seen pass.new) held.old.action (work_of held.new)) }
         ensures err { OnErr result (MayGoOn S.content (terms_of S.content self.now.board.now) (mine pass.new) held.new) }
-        ensures fault { IfErr result (MayFail (setting_of S.Site F.Folder G.Stop self.now) (seen pass.new) held.old.action) }
+        ensures fault { IfErr result (MayFail (setting_of S.Site F.Folder G.Stop P.Stage self.now) (seen pass.new) held.old.action) }
     {
         let Ok(mut staged) = self.checked.staged(self.alloc, held.action()) else {
             return Err(ActFault::OutOfMemory);
@@ -128,44 +143,44 @@ impl<'a, 'b, S: Site, F: Folder + Sync, G: Gate + Stop + Sync> Shared<'a, 'b, S,
         ensures held { held.new ≡ held.old }
         ensures wanted { staged.new.wanted ≡ staged.old.wanted }
         ensures all { OnOk result (HasAll self.now.checked.now.plan held.old.action (mine pass.new)) }
-        ensures whole { OnOk result (IsMadeWhole (setting_of S.Site F.Folder G.Stop self.now) (seen pass.new) held.old.action staged.old staged.new) }
+        ensures whole { OnOk result (IsMadeWhole (setting_of S.Site F.Folder G.Stop P.Stage self.now) (seen pass.new) held.old.action staged.old staged.new) }
         ensures fault { IfErr result (λ e. e ≡ ActFault.OutOfMemory) }
     {
         let pieces = self.checked.pieces(held.action());
         for k in pieces {
-            let bytes = self.board.take(pass, held, *k);
-            self.add(staged, *k, bytes)?;
+            let piece = self.board.take(pass, held, *k);
+            self.add(staged, *k, piece)?;
         }
         // Its rows stand in order: whoever compares them with the source's may go by paths.
         let _rows = staged.rows();
         Ok(())
     }
 
-    /// Puts the bytes of a piece at the end of its file, which has all bytes before them so far.
-    fn add(&self, staged: &mut Staged, k: u32, bytes: Vec<u8>) -> Result<(), ActFault>
+    /// Puts what a piece staged at the end of its file, which has all bytes before it so far.
+    fn add(&self, staged: &mut Staged, k: u32, piece: Piece) -> Result<(), ActFault>
         requires { k < length self.now.checked.now.plan.actions }
         ensures wanted { staged.new.wanted ≡ staged.old.wanted }
-        ensures put { OnOk result (IsPut self.now.checked.now.plan k bytes.items staged.old staged.new) }
+        ensures put { OnOk result (IsPut self.now.checked.now.plan k piece staged.old staged.new) }
         ensures fault { IfErr result (λ e. e ≡ ActFault.OutOfMemory) }
     {
         let Kind::Piece { path, offset, .. } = self.kind(k) else {
             return Ok(());
         };
-        append(self.alloc, staged, path, *offset, bytes)
+        append(self.alloc, staged, path, *offset, piece)
     }
 }
 
-/// Puts bytes at the end of a file that has `offset` bytes so far. Where it hasn't, they are left out, and the assembly isn't
-/// complete.
+/// Puts a piece at the end of a file that has `offset` bytes so far. Where it hasn't, the piece is left out, and the assembly
+/// isn't complete.
 fn append(
     alloc: Global,
     staged: &mut Staged,
     path: &Path,
     offset: u64,
-    bytes: Vec<u8>,
+    piece: Piece,
 ) -> Result<(), ActFault>
     ensures wanted { staged.new.wanted ≡ staged.old.wanted }
-    ensures put { OnOk result (HasSoFar staged.old path.now offset → IsAppended path.now bytes.items staged.old staged.new) }
+    ensures put { OnOk result (HasSoFar staged.old path.now offset → IsAppended path.now piece staged.old staged.new) }
     ensures left_out { OnOk result ((¬ HasSoFar staged.old path.now offset) → staged.new ≡ staged.old) }
     ensures fault { IfErr result (λ e. e ≡ ActFault.OutOfMemory) }
 {
@@ -174,7 +189,7 @@ fn append(
         Ok(false) => return Ok(()),
         Err(_) => return Err(ActFault::OutOfMemory),
     }
-    match staged.put(alloc, path, offset, bytes) {
+    match staged.put(alloc, path, offset, piece) {
         Ok(()) => Ok(()),
         Err(_) => Err(ActFault::OutOfMemory),
     }

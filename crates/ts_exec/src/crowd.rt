@@ -19,6 +19,7 @@ use std::thread::{Threads, join};
 use ts_board::Pass;
 use ts_folder::Folder;
 use ts_site::Site;
+use ts_stage::Stage;
 
 /// What all workers end with.
 pub struct AllWorked<S, K> {
@@ -31,14 +32,19 @@ pub struct AllWorked<S, K> {
     pub keeping: Keeping<K>,
 }
 
-impl<'a, 'b, S: Site, F: Folder + Sync, G: Gate + Stop + Sync> Shared<'a, 'b, S, F, G> {
+impl<'a, 'b, S: Site, F, G, P> Shared<'a, 'b, S, F, G, P>
+where
+    F: Folder + Sync,
+    G: Gate + Stop + Sync,
+    P: Stage,
+{
     /// Notes why actions failed.
     pub fn note(&self, faults: &mut Vec<Option<ActFault>>, failures: &[Failure])
         requires room { length faults.old.items ≡ length self.now.checked.now.plan.actions }
         requires within { (m : ℕ) (e : Failure) → slice_get failures.now m ≡ Some e → e.action < length self.now.checked.now.plan.actions }
         ensures room { length faults.new.items ≡ length faults.old.items }
-        ensures kept { StayNoted (setting_of S.Site F.Folder G.Stop self.now) failures.now faults.old.items faults.new.items }
-        ensures noted { AreNoted (setting_of S.Site F.Folder G.Stop self.now) failures.now faults.new.items }
+        ensures kept { StayNoted (setting_of S.Site F.Folder G.Stop P.Stage self.now) failures.now faults.old.items faults.new.items }
+        ensures noted { AreNoted (setting_of S.Site F.Folder G.Stop P.Stage self.now) failures.now faults.new.items }
     {
         for failure in failures {
             faults[failure.action as usize] = Some(failure.fault);
@@ -47,9 +53,9 @@ impl<'a, 'b, S: Site, F: Folder + Sync, G: Gate + Stop + Sync> Shared<'a, 'b, S,
 
     /// Puts together what a worker leaves behind and what the others do.
     fn put_together<K>(&self, all: AllWorked<S, K>, worked: Worked<S>) -> AllWorked<S, K>
-        requires notes { HasNotes S.Site F.Folder G.Stop self.now all.pass all.faults.items }
-        requires list { HasList S.Site F.Folder G.Stop self.now worked.pass worked.failures.items }
-        ensures notes { HasNotes S.Site F.Folder G.Stop self.now result.pass result.faults.items }
+        requires notes { HasNotes S.Site F.Folder G.Stop P.Stage self.now all.pass all.faults.items }
+        requires list { HasList S.Site F.Folder G.Stop P.Stage self.now worked.pass worked.failures.items }
+        ensures notes { HasNotes S.Site F.Folder G.Stop P.Stage self.now result.pass result.faults.items }
         ensures part { HasBothParts all.pass worked.pass result.pass }
         ensures stopped { IsTrue result.is_stopped → IsTrue all.is_stopped ⊎ IsTrue worked.is_stopped }
         ensures seen { StartsWith (seen result.pass) (seen all.pass) × StartsWith (seen result.pass) (seen worked.pass) }
@@ -78,9 +84,16 @@ impl<'a, 'b, S: Site, F: Folder + Sync, G: Gate + Stop + Sync> Shared<'a, 'b, S,
 
 /// Lets all members work at once, each but the last in a thread of its own. A thread that can't start is done without. The
 /// calling thread's worker makes the checkpoints.
-pub fn work_at_once<R: Threads + Sync, S: Site, F: Folder + Sync, G: Gate + Stop + Sync, K: Keeper>(
+pub fn work_at_once<
+    R: Threads + Sync,
+    S: Site,
+    F: Folder + Sync,
+    G: Gate + Stop + Sync,
+    K: Keeper,
+    P: Stage,
+>(
     rt: &R,
-    shared: &Shared<'_, '_, S, F, G>,
+    shared: &Shared<'_, '_, S, F, G, P>,
     queues: &[Queues],
     members: Vec<Member>,
     pass: Pass<S>,
@@ -92,12 +105,12 @@ where
     requires pass { IsPassOf S.content shared.now.board.now pass }
     requires tidy { IsTidy shared.now.checked.now.plan (mine pass) }
     requires room { length faults.items ≡ length shared.now.checked.now.plan.actions }
-    requires noted { Noted (setting_of S.Site F.Folder G.Stop shared.now) (mine pass) (seen pass) faults.items }
+    requires noted { Noted (setting_of S.Site F.Folder G.Stop P.Stage shared.now) (mine pass) (seen pass) faults.items }
     requires fresh { AreFresh members.items }
     ensures pass { IsPassOf S.content shared.now.board.now result.pass × IsSameShare pass result.pass }
     ensures tidy { IsTidy shared.now.checked.now.plan (mine result.pass) }
     ensures room { length result.faults.items ≡ length shared.now.checked.now.plan.actions }
-    ensures noted { Noted (setting_of S.Site F.Folder G.Stop shared.now) (mine result.pass) (seen result.pass) result.faults.items }
+    ensures noted { Noted (setting_of S.Site F.Folder G.Stop P.Stage shared.now) (mine result.pass) (seen result.pass) result.faults.items }
     ensures stopped { IsTrue result.is_stopped → G.stops shared.now.gate.now }
     ensures kept { StaysKept shared.now.checked.now (seen pass) (K.kept keeping.keeper) (seen result.pass) (K.kept result.keeping.keeper) }
 {
@@ -106,9 +119,16 @@ where
 
 /// The last member works with one half of the pass, the others with the other half.
 #[cycle(halves)]
-fn work_in_halves<R: Threads + Sync, S: Site, F: Folder + Sync, G: Gate + Stop + Sync, K: Keeper>(
+fn work_in_halves<
+    R: Threads + Sync,
+    S: Site,
+    F: Folder + Sync,
+    G: Gate + Stop + Sync,
+    K: Keeper,
+    P: Stage,
+>(
     rt: &R,
-    shared: &Shared<'_, '_, S, F, G>,
+    shared: &Shared<'_, '_, S, F, G, P>,
     queues: &[Queues],
     mut members: Vec<Member>,
     pass: Pass<S>,
@@ -117,9 +137,9 @@ fn work_in_halves<R: Threads + Sync, S: Site, F: Folder + Sync, G: Gate + Stop +
 ) -> AllWorked<S, K>
 where
     F::File: Send,
-    requires notes { HasNotes S.Site F.Folder G.Stop shared.now pass faults.items }
+    requires notes { HasNotes S.Site F.Folder G.Stop P.Stage shared.now pass faults.items }
     requires fresh { AreFresh members.items }
-    ensures notes { HasNotes S.Site F.Folder G.Stop shared.now result.pass result.faults.items }
+    ensures notes { HasNotes S.Site F.Folder G.Stop P.Stage shared.now result.pass result.faults.items }
     ensures share { IsSameShare pass result.pass }
     ensures stopped { IsTrue result.is_stopped → G.stops shared.now.gate.now }
     ensures kept { StaysKept shared.now.checked.now (seen pass) (K.kept keeping.keeper) (seen result.pass) (K.kept result.keeping.keeper) }
@@ -136,15 +156,15 @@ where
         return shared.put_together(none_worked(ours, faults, keeping), worked);
     }
     let one = move || -> Worked<S>
-        requires { IsSync F.row × IsSync G.row × HasList S.Site F.Folder G.Stop shared.now theirs member.failures.items }
-        ensures list { HasList S.Site F.Folder G.Stop shared.entry.now result.pass result.failures.items }
+        requires { IsSync F.row × IsSync G.row × IsSync P.row × HasList S.Site F.Folder G.Stop P.Stage shared.now theirs member.failures.items }
+        ensures list { HasList S.Site F.Folder G.Stop P.Stage shared.entry.now result.pass result.failures.items }
         ensures part { IsSamePart theirs result.pass }
         ensures stopped { IsTrue result.is_stopped → G.stops shared.entry.now.gate.now }
     { shared.work(queues, member, theirs, &mut Keeping::never()) };
     let others = move || -> AllWorked<S, K>
-        requires threads { IsSync R.row × IsSync F.row × IsSync G.row × IsSend F.File.row }
-        requires begun { HasBegun S.Site F.Folder G.Stop shared.now ours faults.items members.items }
-        ensures notes { HasNotes S.Site F.Folder G.Stop shared.entry.now result.pass result.faults.items }
+        requires threads { IsSync R.row × IsSync F.row × IsSync G.row × IsSync P.row × IsSend F.File.row }
+        requires begun { HasBegun S.Site F.Folder G.Stop P.Stage shared.now ours faults.items members.items }
+        ensures notes { HasNotes S.Site F.Folder G.Stop P.Stage shared.entry.now result.pass result.faults.items }
         ensures share { IsSameShare ours result.pass }
         ensures stopped { IsTrue result.is_stopped → G.stops shared.entry.now.gate.now }
         ensures kept { StaysKept shared.entry.now.checked.now (seen ours) (K.kept keeping.keeper) (seen result.pass) (K.kept result.keeping.keeper) }

@@ -1,18 +1,19 @@
 //! Why an action fails, and why nothing is run.
 ghost use Rattle.std.specs.Prelude.{◌≡◌};
-ghost use Rattle.ts_exec.specs.Faults.{fault_number, of_folder, of_site};
+ghost use Rattle.ts_exec.specs.Faults.{fault_number, of_folder, of_site, of_stage};
 
 use thiserror::Error;
 use ts_folder::FolderFault;
 use ts_site::SiteFault;
+use ts_stage::StageFault;
 
-/// Why an action failed. A piece fails by its folder, a commit by its site, or either because memory ran out.
+/// Why an action failed. A piece fails by its folder or its stage, a commit by its site, or either because memory ran out.
 #[derive(Clone, Copy, Debug, PartialEq, Eq, Drop, Error)]
 pub enum ActFault {
     /// Memory ran out.
     #[error("out of memory")]
     OutOfMemory,
-    /// The device of the folder or of the site failed.
+    /// The device of the folder, the stage or the site failed.
     #[error("the device failed")]
     Device,
     /// No file is there to be read.
@@ -55,6 +56,17 @@ impl From<FolderFault> for ActFault {
             FolderFault::Device => ActFault::Device,
             FolderFault::NotThere => ActFault::NotThere,
             FolderFault::Unreadable => ActFault::Unreadable,
+        }
+    }
+}
+
+impl From<StageFault> for ActFault {
+    ghost from_gives = { λ e f. f ≡ of_stage e };
+
+    fn from(fault: StageFault) -> ActFault {
+        match fault {
+            StageFault::OutOfMemory => ActFault::OutOfMemory,
+            StageFault::Device => ActFault::Device,
         }
     }
 }

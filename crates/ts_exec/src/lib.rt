@@ -18,5 +18,5 @@ pub use fault::{ActFault, RunFault};
 pub use gate::{Gate, OpenGate};
 pub use keeping::Keeper;
 pub use outcome::{ActionResult, Outcome, commit_count};
-pub use running::{run, run_keeping, run_until};
+pub use running::{run, run_keeping, run_staging, run_until};
 pub use stop::Stop;

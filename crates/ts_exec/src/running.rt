@@ -3,7 +3,7 @@ ghost use Rattle.std.specs.Prelude.{◌≡◌, ◌≤◌, [], IfErr, IfOk, lengt
 ghost use Rattle.ts_board.specs.Archives.{HasEnded};
 ghost use Rattle.ts_board.specs.Calls.{HasPlaces, IsPassOf, IsWhole, mine, seen, words_of};
 ghost use Rattle.ts_board.specs.Terms.{commit_count};
-ghost use Rattle.ts_exec.specs.Failures.{setting_for, setting_until};
+ghost use Rattle.ts_exec.specs.Failures.{or_jammed, setting_for, setting_over, setting_until};
 ghost use Rattle.ts_exec.specs.Stores.{IsKeptOutcome, StaysKept};
 ghost use Rattle.ts_exec.specs.Outcomes.{IsOutcomeOf, IsSteady, MisfitsAreUntold, OnlyMemoryRanOut};
 ghost use Rattle.ts_exec.specs.Tidy.{AreFresh, IsSwept, IsTidy, Noted};
@@ -24,11 +24,19 @@ use ts_board::{Board, Pass};
 use ts_check::Checked;
 use ts_folder::Folder;
 use ts_site::Site;
+use ts_stage::{MemStage, Stage};
 
 /// Lets all members work, and then tries what is still open, in order. Where a member was stopped that is left out.
-fn work_and_sweep<R: Threads + Sync, S: Site, F: Folder + Sync, G: Gate + Stop + Sync, K: Keeper>(
+fn work_and_sweep<
+    R: Threads + Sync,
+    S: Site,
+    F: Folder + Sync,
+    G: Gate + Stop + Sync,
+    K: Keeper,
+    P: Stage,
+>(
     rt: &R,
-    shared: &Shared<'_, '_, S, F, G>,
+    shared: &Shared<'_, '_, S, F, G, P>,
     queues: &[Queues],
     members: Vec<Member>,
     mut unread: Worker<u32>,
@@ -44,9 +52,9 @@ where
     requires fresh { AreFresh members.items }
     ensures pass { IsPassOf S.content shared.now.board.now result.0 × IsWhole result.0 }
     ensures tidy { IsTidy shared.now.checked.now.plan (mine result.0) }
-    ensures noted { Noted (setting_of S.Site F.Folder G.Stop shared.now) (mine result.0) (seen result.0) result.1.items }
+    ensures noted { Noted (setting_of S.Site F.Folder G.Stop P.Stage shared.now) (mine result.0) (seen result.0) result.1.items }
     ensures room { length result.1.items ≡ length shared.now.checked.now.plan.actions }
-    ensures swept { IsSwept (setting_of S.Site F.Folder G.Stop shared.now) (mine result.0) (seen result.0) }
+    ensures swept { IsSwept (setting_of S.Site F.Folder G.Stop P.Stage shared.now) (mine result.0) (seen result.0) }
     ensures kept { StaysKept shared.now.checked.now (seen pass) (K.kept keeping.keeper) (seen result.0) (K.kept result.2) }
 {
     let AllWorked {
@@ -97,15 +105,16 @@ where
     let gate = Unstopped { gate };
     let never = Keeping::never();
     carry_out(
-        rt, alloc, checked, first, second, sites, workers, &gate, never,
+        rt, alloc, checked, first, second, sites, &MemStage, workers, &gate, never,
     )
     .0
 }
 
 /// Carries out a checked plan as `run` does, and hands archives to a keeper meanwhile. The calling thread is one of the workers,
 /// and tries what is left at the end; after each `every` actions that it has claimed it makes a checkpoint: the archive with
-/// each mark that it sees done. Once it has claimed 32 times as many, a checkpoint also waits for a 32nd part of them. One that
-/// finds no memory is left out. The keeper comes back, with what it has stored.
+/// each mark that it sees done. After an archive of more than 1,024 paths it also waits for a quarter as many
+/// actions. One that finds no
+/// memory is left out. The keeper comes back, with what it has stored.
 ///
 /// Beside all that `run` promises, of the same run: where the keeper tells what it stores, it has stored the archives of closed
 /// parts of this run, each within the next, after what it had stored before. So a stop at any moment leaves archives from which
@@ -141,7 +150,56 @@ where
     let gate = Unstopped { gate };
     let keeping = Keeping::new(keeper, every);
     carry_out(
-        rt, alloc, checked, first, second, sites, workers, &gate, keeping,
+        rt, alloc, checked, first, second, sites, &MemStage, workers, &gate, keeping,
+    )
+}
+
+/// Carries out a checked plan as `run_keeping` does, over a stage that keeps what pieces have read until their commit takes it.
+///
+/// It promises all that `run_keeping` does, which keeps that in memory; only that a piece may also fail since its stage does.
+///
+/// # Errors
+///
+/// Out of memory, before anything was done: sites and keeper come back as they were.
+pub fn run_staging<
+    'a,
+    R: Threads + Sync,
+    S: Site,
+    F: Folder + Sync,
+    G: Gate + Sync,
+    K: Keeper,
+    P: Stage,
+>(
+    rt: &R,
+    alloc: Global,
+    checked: &'a Checked<'a>,
+    first: &'a F,
+    second: &'a F,
+    sites: Vec<S>,
+    stage: &'a P,
+    workers: u32,
+    gate: &'a G,
+    keeper: K,
+    every: u32,
+) -> (Result<Outcome<S>, (Vec<S>, RunFault)>, K)
+where
+    F::File: Send,
+    requires few { workers ≤ 64 }
+    requires sites { length sites.items ≡ commit_count checked.now.plan.actions }
+    requires every { (1 ≤ every) × (every ≤ 1048576) }
+    ensures outcome { IfOk result.0 (IsKeptOutcome
+        (setting_over S.Site F.Folder P.Stage checked.now first.now second.now sites.items stage.now) (K.kept keeper) (K.kept result.1)) }
+    ensures misfits { IfOk result.0 (λ o. MisfitsAreUntold (setting_over S.Site F.Folder P.Stage checked.now first.now second.now sites.items stage.now) o.results.items) }
+    ensures steady { IfOk result.0 (λ o. IsSteady (setting_over S.Site F.Folder P.Stage checked.now first.now second.now sites.items stage.now)
+        → OnlyMemoryRanOut o.results.items) }
+    ensures ended { IfOk result.0 (λ o. HasEnded checked.now (words_of o.closed)) }
+    ensures wide { IfOk result.0 (λ o. HasPlaces o.closed (length checked.now.plan.actions)) }
+    ensures back { IfErr result.0 (λ refused. (refused.0.items ≡ sites.items) × (result.1 ≡ keeper)) }
+{
+    let gate = Unstopped { gate };
+    let keeping = Keeping::new(keeper, every);
+    carry_out(
+        rt, alloc, checked, first, second, sites, stage, workers, &gate, keeping,
     )
 }
 
@@ -177,7 +235,7 @@ where
     let gate = Stoppable { gate, stop };
     let never = Keeping::never();
     carry_out(
-        rt, alloc, checked, first, second, sites, workers, &gate, never,
+        rt, alloc, checked, first, second, sites, &MemStage, workers, &gate, never,
     )
     .0
 }
@@ -191,6 +249,7 @@ fn carry_out<
     F: Folder + Sync,
     G: Gate + Stop + Sync,
     K: Keeper,
+    P: Stage,
 >(
     rt: &R,
     alloc: Global,
@@ -198,6 +257,7 @@ fn carry_out<
     first: &'a F,
     second: &'a F,
     sites: Vec<S>,
+    stage: &'b P,
     workers: u32,
     gate: &'b G,
     keeping: Keeping<K>,
@@ -207,9 +267,11 @@ where
     requires few { workers ≤ 64 }
     requires sites { length sites.items ≡ commit_count checked.now.plan.actions }
     ensures outcome { IfOk result.0 (IsKeptOutcome
-        (setting_until S.Site F.Folder G.Stop checked.now first.now second.now sites.items gate.now) (K.kept keeping.keeper) (K.kept result.1)) }
-    ensures misfits { IfOk result.0 (λ o. MisfitsAreUntold (setting_for S.Site F.Folder checked.now first.now second.now sites.items) o.results.items) }
-    ensures steady { IfOk result.0 (λ o. IsSteady (setting_for S.Site F.Folder checked.now first.now second.now sites.items) → OnlyMemoryRanOut o.results.items) }
+        (or_jammed (P.fails stage.now) (setting_until S.Site F.Folder G.Stop checked.now first.now second.now sites.items gate.now))
+        (K.kept keeping.keeper) (K.kept result.1)) }
+    ensures misfits { IfOk result.0 (λ o. MisfitsAreUntold (setting_over S.Site F.Folder P.Stage checked.now first.now second.now sites.items stage.now) o.results.items) }
+    ensures steady { IfOk result.0 (λ o. IsSteady (setting_over S.Site F.Folder P.Stage checked.now first.now second.now sites.items stage.now)
+        → OnlyMemoryRanOut o.results.items) }
     ensures ended { IfOk result.0 (λ o. HasEnded checked.now (words_of o.closed)) }
     ensures wide { IfOk result.0 (λ o. HasPlaces o.closed (length checked.now.plan.actions)) }
     ensures back { IfErr result.0 (λ refused. (refused.0.items ≡ sites.items) × (result.1 ≡ keeping.keeper)) }
@@ -238,6 +300,7 @@ where
         first,
         second,
         gate,
+        stage,
     };
     let (pass, faults, keeper) = work_and_sweep(
         rt,

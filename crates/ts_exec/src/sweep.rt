@@ -16,8 +16,14 @@ use crossbeam_deque::Worker;
 use ts_board::Pass;
 use ts_folder::Folder;
 use ts_site::Site;
+use ts_stage::Stage;
 
-impl<'a, 'b, S: Site, F: Folder + Sync, G: Gate + Stop + Sync> Shared<'a, 'b, S, F, G> {
+impl<'a, 'b, S: Site, F, G, P> Shared<'a, 'b, S, F, G, P>
+where
+    F: Folder + Sync,
+    G: Gate + Stop + Sync,
+    P: Stage,
+{
     /// Tries each action once, in order, until it is stopped, and notes why it failed.
     pub fn sweep<K: Keeper>(
         &self,
@@ -29,12 +35,12 @@ impl<'a, 'b, S: Site, F: Folder + Sync, G: Gate + Stop + Sync> Shared<'a, 'b, S,
         requires pass { IsPassOf S.content self.now.board.now pass.old }
         requires tidy { IsTidy self.now.checked.now.plan (mine pass.old) }
         requires room { length faults.old.items ≡ length self.now.checked.now.plan.actions }
-        requires noted { Noted (setting_of S.Site F.Folder G.Stop self.now) (mine pass.old) (seen pass.old) faults.old.items }
+        requires noted { Noted (setting_of S.Site F.Folder G.Stop P.Stage self.now) (mine pass.old) (seen pass.old) faults.old.items }
         ensures pass { IsPassOf S.content self.now.board.now pass.new × IsSamePart pass.old pass.new }
         ensures tidy { IsTidy self.now.checked.now.plan (mine pass.new) }
-        ensures noted { Noted (setting_of S.Site F.Folder G.Stop self.now) (mine pass.new) (seen pass.new) faults.new.items }
+        ensures noted { Noted (setting_of S.Site F.Folder G.Stop P.Stage self.now) (mine pass.new) (seen pass.new) faults.new.items }
         ensures room { length faults.new.items ≡ length self.now.checked.now.plan.actions }
-        ensures swept { IsSwept (setting_of S.Site F.Folder G.Stop self.now) (mine pass.new) (seen pass.new) }
+        ensures swept { IsSwept (setting_of S.Site F.Folder G.Stop P.Stage self.now) (mine pass.new) (seen pass.new) }
         ensures kept { StaysKept self.now.checked.now (seen pass.old) (K.kept keeping.old.keeper) (seen pass.new) (K.kept keeping.new.keeper) }
     {
         for i in 0..self.checked.action_count() {
@@ -58,12 +64,12 @@ impl<'a, 'b, S: Site, F: Folder + Sync, G: Gate + Stop + Sync> Shared<'a, 'b, S,
         requires action { i < length self.now.checked.now.plan.actions }
         requires tidy { IsTidy self.now.checked.now.plan (mine pass.old) }
         requires room { length faults.old.items ≡ length self.now.checked.now.plan.actions }
-        requires noted { Noted (setting_of S.Site F.Folder G.Stop self.now) (mine pass.old) (seen pass.old) faults.old.items }
+        requires noted { Noted (setting_of S.Site F.Folder G.Stop P.Stage self.now) (mine pass.old) (seen pass.old) faults.old.items }
         ensures pass { IsPassOf S.content self.now.board.now pass.new × IsSamePart pass.old pass.new }
         ensures seen { StartsWith (seen pass.new) (seen pass.old) }
         ensures steps { (block : Run) × (mine pass.new ≡ mine pass.old ++ block) × IsTidy self.now.checked.now.plan block × EndsOnly i block }
         ensures tried { Has (mine pass.new) (claims i) ⊎ ((mine pass.new ≡ mine pass.old) × (word_after self.now.checked.now.plan (seen pass.new) i ≢ 0)) }
-        ensures noted { Noted (setting_of S.Site F.Folder G.Stop self.now) (mine pass.new) (seen pass.new) faults.new.items }
+        ensures noted { Noted (setting_of S.Site F.Folder G.Stop P.Stage self.now) (mine pass.new) (seen pass.new) faults.new.items }
         ensures room { length faults.new.items ≡ length self.now.checked.now.plan.actions }
         ensures kept { StaysKept self.now.checked.now (seen pass.old) (K.kept keeping.old.keeper) (seen pass.new) (K.kept keeping.new.keeper) }
     {

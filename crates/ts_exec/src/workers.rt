@@ -19,6 +19,7 @@ use std::thread;
 use ts_board::Pass;
 use ts_folder::Folder;
 use ts_site::Site;
+use ts_stage::Stage;
 
 /// After so many looks in a row that find no hint a worker ends.
 const PATIENCE: u32 = 64;
@@ -31,7 +32,12 @@ pub struct Worked<S> {
     pub is_stopped: bool,
 }
 
-impl<'a, 'b, S: Site, F: Folder + Sync, G: Gate + Stop + Sync> Shared<'a, 'b, S, F, G> {
+impl<'a, 'b, S: Site, F, G, P> Shared<'a, 'b, S, F, G, P>
+where
+    F: Folder + Sync,
+    G: Gate + Stop + Sync,
+    P: Stage,
+{
     /// Tries an action. Who claims it makes all its steps, leaves a hint at each action that it freed, and then makes a
     /// checkpoint where one is due. Answers the fault where it was claimed and failed.
     pub fn attempt<K: Keeper>(
@@ -46,9 +52,9 @@ impl<'a, 'b, S: Site, F: Folder + Sync, G: Gate + Stop + Sync> Shared<'a, 'b, S,
         requires tidy { IsTidy self.now.checked.now.plan (mine pass.old) }
         ensures pass { IsPassOf S.content self.now.board.now pass.new × IsSamePart pass.old pass.new }
         ensures seen { StartsWith (seen pass.new) (seen pass.old) }
-        ensures steps { MakesTry (setting_of S.Site F.Folder G.Stop self.now) pass.old i result pass.new }
+        ensures steps { MakesTry (setting_of S.Site F.Folder G.Stop P.Stage self.now) pass.old i result pass.new }
         ensures tried { Has (mine pass.new) (claims i) ⊎ ((mine pass.new ≡ mine pass.old) × (word_after self.now.checked.now.plan (seen pass.new) i ≢ 0)) }
-        ensures fault { IfSome result (MayFail (setting_of S.Site F.Folder G.Stop self.now) (seen pass.new) i) }
+        ensures fault { IfSome result (MayFail (setting_of S.Site F.Folder G.Stop P.Stage self.now) (seen pass.new) i) }
         ensures kept { StaysKept self.now.checked.now (seen pass.old) (K.kept keeping.old.keeper) (seen pass.new) (K.kept keeping.new.keeper) }
     {
         let mut held = self.board.claim(pass, i)?;
@@ -96,10 +102,10 @@ impl<'a, 'b, S: Site, F: Folder + Sync, G: Gate + Stop + Sync> Shared<'a, 'b, S,
     ) -> Worked<S>
         requires pass { IsPassOf S.content self.now.board.now pass }
         requires tidy { IsTidy self.now.checked.now.plan (mine pass) }
-        requires listed { Listed (setting_of S.Site F.Folder G.Stop self.now) (mine pass) (seen pass) member.failures.items }
+        requires listed { Listed (setting_of S.Site F.Folder G.Stop P.Stage self.now) (mine pass) (seen pass) member.failures.items }
         ensures pass { IsPassOf S.content self.now.board.now result.pass × IsSamePart pass result.pass }
         ensures tidy { IsTidy self.now.checked.now.plan (mine result.pass) }
-        ensures listed { Listed (setting_of S.Site F.Folder G.Stop self.now) (mine result.pass) (seen result.pass) result.failures.items }
+        ensures listed { Listed (setting_of S.Site F.Folder G.Stop P.Stage self.now) (mine result.pass) (seen result.pass) result.failures.items }
         ensures stopped { IsTrue result.is_stopped → G.stops self.now.gate.now }
         ensures kept { StaysKept self.now.checked.now (seen pass) (K.kept keeping.old.keeper) (seen result.pass) (K.kept keeping.new.keeper) }
     {
@@ -152,10 +158,10 @@ impl<'a, 'b, S: Site, F: Folder + Sync, G: Gate + Stop + Sync> Shared<'a, 'b, S,
         requires pass { IsPassOf S.content self.now.board.now worked.old.pass }
         requires room { vec_len worked.old.failures < vec_capacity worked.old.failures }
         requires tidy { IsTidy self.now.checked.now.plan (mine worked.old.pass) }
-        requires listed { Listed (setting_of S.Site F.Folder G.Stop self.now) (mine worked.old.pass) (seen worked.old.pass) worked.old.failures.items }
+        requires listed { Listed (setting_of S.Site F.Folder G.Stop P.Stage self.now) (mine worked.old.pass) (seen worked.old.pass) worked.old.failures.items }
         ensures pass { IsPassOf S.content self.now.board.now worked.new.pass × IsSamePart worked.old.pass worked.new.pass }
         ensures tidy { IsTidy self.now.checked.now.plan (mine worked.new.pass) }
-        ensures listed { Listed (setting_of S.Site F.Folder G.Stop self.now) (mine worked.new.pass) (seen worked.new.pass) worked.new.failures.items }
+        ensures listed { Listed (setting_of S.Site F.Folder G.Stop P.Stage self.now) (mine worked.new.pass) (seen worked.new.pass) worked.new.failures.items }
         ensures stopped { worked.new.is_stopped ≡ worked.old.is_stopped }
         ensures kept { StaysKept self.now.checked.now (seen worked.old.pass) (K.kept keeping.old.keeper) (seen worked.new.pass) (K.kept keeping.new.keeper) }
     {

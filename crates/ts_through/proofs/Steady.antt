@@ -76,4 +76,5 @@ module _ (k : Checkup) (first second : Listing (List ℕ)) (first_is : at k.firs
     readable = λ from p t lets. lets;
     unchanged = unchanged;
     unbroken = λ breaks. let less : 0 < 0 = breaks.2 in omega (arith, less);
+    unjammed = λ jams. jams;
   }

@@ -32,13 +32,13 @@ pub work-worked-requires-clause-listed : goal.work-worked-requires-clause-listed
 work-worked-requires-clause-listed g t c κs within =
     let j = c.args.shared.now in
     let empty = of_popped (λ (m : Member). m.failures.items ≡ []) c.args.members.items c.pop.new.self.items c.pop.result c.in-Some.member c.pop.ensures.items c.in-Some.is c.requires.fresh in
-    let list = fresh_list j.board.now.table.shared.table_id (terms_of g.S.Site.content j.board.now) (setting_of g.S.Site g.F.Folder g.G.Stop j) c.in-Ok.halves.1 c.in-Some.member.failures.items
+    let list = fresh_list j.board.now.table.shared.table_id (terms_of g.S.Site.content j.board.now) (setting_of g.S.Site g.F.Folder g.G.Stop g.P.Stage j) c.in-Ok.halves.1 c.in-Some.member.failures.items
     c.in-Ok.ensures.second c.in-Ok.ensures.mine.1 empty in
     list.listed
 
 pub join-worked-requires-send-F : goal.join-worked-requires-send-F
 join-worked-requires-send-F g t c κs within =
-    let s : IsSend (param 1 g.row.S) = search rules in let f : IsSync (param 2 g.row.F) = search rules in let h : IsSync (param 3 g.row.G) = search rules in
+    let s : IsSend (param 1 g.row.S) = search rules in let f : IsSync (param 2 g.row.F) = search rules in let h : IsSync (param 3 g.row.G) = search rules in let p : IsSync (param 5 g.row.P) = search rules in
     let m = member_field_send in
     search (sendable, crosses, shared_sync, pass_field_send, rows.the_send, rows.the_sync) depth 60 fits 5000
 
@@ -50,7 +50,7 @@ join-worked-requires-send-A g t c κs within =
 pub join-worked-requires-after_bounds : goal.join-worked-requires-after_bounds
 join-worked-requires-after_bounds g t c κs within =
     let j = c.args.shared.now in let id = j.board.now.table.shared.table_id in let terms = terms_of g.S.Site.content j.board.now in
-    let x = setting_of g.S.Site g.F.Folder g.G.Stop j in
+    let x = setting_of g.S.Site g.F.Folder g.G.Stop g.P.Stage j in
     let popped = All-pop (λ (m : Member). m.failures.items ≡ []) c.args.members.items c.pop.new.self.items c.pop.result c.pop.ensures.items c.requires.fresh in
     let empty = of_popped (λ (m : Member). m.failures.items ≡ []) c.args.members.items c.pop.new.self.items c.pop.result c.in-Some.member c.pop.ensures.items c.in-Some.is c.requires.fresh in
     let list = fresh_list id terms x c.in-Ok.halves.1 c.in-Some.member.failures.items c.in-Ok.ensures.second c.in-Ok.ensures.mine.1 empty in

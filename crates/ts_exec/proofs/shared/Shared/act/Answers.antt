@@ -56,7 +56,7 @@ returns-in-Mark-clause-ok g c =
 pub returns-in-Piece-clause-told : goal.returns-in-Piece-clause-told
 returns-in-Piece-clause-told g c =
     let j = c.args.self.now in let plan = j.checked.now.plan in let w = work_of c.stage.new.held in
-    let x : Setting = setting_of g.S.Site g.F.Folder g.G.Stop j in
+    let x : Setting = setting_of g.S.Site g.F.Folder g.G.Stop g.P.Stage j in
     let p : Kind = Piece c.in-Piece.entry c.in-Piece.offset c.in-Piece.length c.in-Piece.path in
     let kind : KindIs plan c.args.held.now.action p = subst (λ (z : ℕ). KindIs plan z p) c.action.ensures (subst (λ (z : Kind). KindIs plan c.action.result z) c.in-Piece.is c.kind.ensures) in
     on_ok_map c.stage.result (HasRead x p w) (IsToldWork x (seen c.args.pass.now) c.args.held.now.action w) c.stage.ensures.read (λ h. (p, kind, h))
@@ -70,5 +70,5 @@ returns-in-Mark-clause-told g c =
 pub returns-in-Piece-clause-fault : goal.returns-in-Piece-clause-fault
 returns-in-Piece-clause-fault g c =
     let j = c.args.self.now in let a = c.args.held.now.action in let r = seen c.args.pass.now in
-    let x : Setting = setting_of g.S.Site g.F.Folder g.G.Stop j in
+    let x : Setting = setting_of g.S.Site g.F.Folder g.G.Stop g.P.Stage j in
     if_err_map c.stage.result (λ f. (run : Run) → MayFail x run a f) (MayFail x r a) c.stage.ensures.fault (λ f h. h r)

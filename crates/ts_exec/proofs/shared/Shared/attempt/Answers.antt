@@ -44,7 +44,7 @@ release_all-requires-clause-fresh g c κs within = λ k.
 pub returns-in-Ok-clause-steps : goal.returns-in-Ok-clause-steps
 returns-in-Ok-clause-steps g c =
     let j = c.args.self.now in let won = c.in_ok-held.ensures.won in let i = c.args.i in let own = mine c.args.pass.now in let plan = j.checked.now.plan in
-    let x = setting_of g.S.Site g.F.Folder g.G.Stop j in
+    let x = setting_of g.S.Site g.F.Folder g.G.Stop g.P.Stage j in
     let acted = seen c.act.new.pass in let done_seen = seen c.done.new.pass in let freed_seen = seen c.release_all.new.pass in let last_seen = seen c.keep_up.new.pass in let makes = c.done.ensures.done in
     let freed : StartsWith freed_seen acted = starts_through acted done_seen freed_seen (starts_after acted makes.0 (Act c.act.new.held.action (work_of c.act.new.held) ∷ Done c.act.new.held.action ∷ []) done_seen makes.1) c.release_all.ensures.seen in
     let later : StartsWith last_seen acted = starts_through acted freed_seen last_seen freed c.keep_up.ensures.looked.0 in
@@ -63,7 +63,7 @@ returns-in-Ok-clause-steps g c =
 pub returns-in-Err-clause-steps : goal.returns-in-Err-clause-steps
 returns-in-Err-clause-steps g c =
     let j = c.args.self.now in let won = c.in_ok-held.ensures.won in let i = c.args.i in let own = mine c.args.pass.now in let plan = j.checked.now.plan in
-    let x = setting_of g.S.Site g.F.Folder g.G.Stop j in
+    let x = setting_of g.S.Site g.F.Folder g.G.Stop g.P.Stage j in
     let steps = c.act.ensures.steps in let more = steps.0 in
     let a = c.act.new.held.action in
     let same : a ≡ i = c.act.ensures.action ∙ won.0 in
@@ -87,7 +87,7 @@ returns-in-Err-clause-tried g c =
 pub returns-in-Err-clause-fault : goal.returns-in-Err-clause-fault
 returns-in-Err-clause-fault g c =
     let j = c.args.self.now in let won = c.in_ok-held.ensures.won in let before = seen c.act.new.pass in let then = seen c.fail.new.pass in let failed = c.fail.ensures.failed in
-    let x = setting_of g.S.Site g.F.Folder g.G.Stop j in
+    let x = setting_of g.S.Site g.F.Folder g.G.Stop g.P.Stage j in
     let last = seen c.keep_up-in-Err.new.pass in
     may_later x before last (starts_through before then last (starts_after before failed.0 (Fail c.act.new.held.action ∷ []) then failed.1) c.keep_up-in-Err.ensures.looked.0) c.args.i c.in-Err.fault
     (subst (λ (z : ℕ). MayFail x before z c.in-Err.fault) won.0 c.in-Err.ensures.fault)

@@ -10,7 +10,7 @@ use Rattle.ts_board.specs.Terms.{IsTold, content_of, is_place}
 use Rattle.ts_board.specs.declared.board.Held.{Held}
 use Rattle.ts_exec.specs.Acts.{MayGoOn}
 use Rattle.ts_exec.specs.Faults.{of_site}
-use Rattle.ts_exec.specs.Failures.{CommitFails, MayFail, setting_with}
+use Rattle.ts_exec.specs.Failures.{CommitFails, MayFail}
 use Rattle.ts_exec.specs.Sharing.{setting_of}
 use Rattle.ts_exec.specs.declared.fault.ActFault.{ActFault}
 use Rattle.ts_exec.proofs.Failing.{commit_fails, exit_maps, may_break, on_err, pending_takes, put_staged, refuses_staged, told_place}
@@ -28,7 +28,7 @@ returns-in_err-take_all-clause-err g c =
 pub returns-in_err-take_all-clause-fault : goal.returns-in_err-take_all-clause-fault
 returns-in_err-take_all-clause-fault g c =
     let j = c.args.self.now in let a = c.args.held.now.action in
-    let x = setting_of g.S.Site g.F.Folder g.G.Stop j in
+    let x = setting_of g.S.Site g.F.Folder g.G.Stop g.P.Stage j in
     exit_maps c.from_residual.result (λ f. f ≡ c.in_err-take_all.field-0.0) (MayFail x (seen c.take_all.new.pass) a) c.from_residual.ensures.1
     (λ f same. (Commit c.requires.commit.0, c.requires.commit.1, subst (λ (z : ActFault). CommitFails x (seen c.take_all.new.pass) a z) (sym (same ∙ c.in_err-take_all.ensures.fault)) tt))
 
@@ -51,7 +51,7 @@ pub returns-in_err-commit-clause-fault : goal.returns-in_err-commit-clause-fault
 returns-in_err-commit-clause-fault g c =
     let j = c.args.self.now in let content = g.S.Site.content in let t = terms_of g.S.Site.content j.board.now in
     let a = c.args.held.now.action in let held = c.take_all.new.held in let k = j.checked.now in
-    let x = setting_with g.S.Site.failures g.F.Folder.tells g.F.Folder.lets k j.first.now j.second.now t.told in
+    let x = setting_of g.S.Site g.F.Folder g.G.Stop g.P.Stage j in
     let same : held.action ≡ a = ap (λ (h : Held g.row.S.Denot). h.action) c.take_all.ensures.held in
     let placed : is_place held.slot ≡ true = subst (λ (h : Held g.row.S.Denot). is_place h.slot ≡ true) (sym c.take_all.ensures.held) (c.requires.site.0 c.requires.commit.0 c.requires.commit.1) in
     let told : IsTold content t a held.slot = subst (λ (h : Held g.row.S.Denot). IsTold content t a h.slot) (sym c.take_all.ensures.held) c.requires.fresh.2 in

@@ -21,7 +21,7 @@ returns-in_default-clause-tidy g c =
 pub returns-in-Some-clause-listed : goal.returns-in-Some-clause-listed
 returns-in-Some-clause-listed g c =
     let j = c.args.self.now in let own = mine c.args.worked.now.pass in let s = c.in-Some.ensures.steps in let fs = c.args.worked.now.failures.items in
-    let x = setting_of g.S.Site g.F.Folder g.G.Stop j in
+    let x = setting_of g.S.Site g.F.Folder g.G.Stop g.P.Stage j in
     let count = c.action_count.ensures.count in let less = c.if-i-action_count.false in
     let before = seen c.args.worked.now.pass in let then = seen c.attempt.new.pass in
     subst (λ (z : Run). Listed x z then c.push_reserved.new.self.items) (sym s.1)
@@ -31,6 +31,6 @@ returns-in-Some-clause-listed g c =
 pub returns-in_default-clause-listed : goal.returns-in_default-clause-listed
 returns-in_default-clause-listed g c =
     let j = c.args.self.now in let own = mine c.args.worked.now.pass in let s = c.in_default.ensures.steps in let fs = c.args.worked.now.failures.items in
-    let x = setting_of g.S.Site g.F.Folder g.G.Stop j in
+    let x = setting_of g.S.Site g.F.Folder g.G.Stop g.P.Stage j in
     let before = seen c.args.worked.now.pass in let then = seen c.attempt.new.pass in
     subst (λ (z : Run). Listed x z then fs) (sym s.1) (listed_none x own before then s.0 fs c.args.i c.requires.listed c.in_default.ensures.seen s.2 s.3)

@@ -11,7 +11,7 @@ use Rattle.ts_exec.proofs.shared.Shared.note.Goals as goal
 pub loop-failure-preserved : goal.loop-failure-preserved
 loop-failure-preserved g c =
     let j = c.args.self.now in let fs = c.args.failures.now in let n = c.loop-failure.failure-index in let inv = c.loop-failure.invariant in let faults = c.loop-failure.faults.items in
-    let x = setting_of g.S.Site g.F.Folder g.G.Stop j in
+    let x = setting_of g.S.Site g.F.Folder g.G.Stop g.P.Stage j in
     let e : Failure = slice_index_or fs n (record { action = 0; fault = fault.OutOfMemory }) in
     let h : n < length fs = c.loop-failure-test.true in
     let at = got_index fs n (record { action = 0; fault = fault.OutOfMemory }) h in

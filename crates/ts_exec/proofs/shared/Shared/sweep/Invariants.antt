@@ -11,7 +11,7 @@ invariant-loop-i g l = record {
   part : IsSamePart l.fn.pass l.pass;
   tidy : IsTidy l.self.checked.now.plan (mine l.pass);
   room : length l.faults.items ≡ length l.self.checked.now.plan.actions;
-  noted : Noted (setting_of g.S.Site g.F.Folder g.G.Stop l.self) (mine l.pass) (seen l.pass) l.faults.items;
+  noted : Noted (setting_of g.S.Site g.F.Folder g.G.Stop g.P.Stage l.self) (mine l.pass) (seen l.pass) l.faults.items;
   swept : Swept l.self.checked.now.plan l.i (mine l.pass) (seen l.pass);
   kept : StaysKept l.self.checked.now (seen l.fn.pass) (g.K.Keeper.kept l.fn.keeping.keeper) (seen l.pass) (g.K.Keeper.kept l.keeping.keeper);
 }

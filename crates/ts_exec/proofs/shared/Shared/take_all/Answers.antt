@@ -17,8 +17,8 @@ use Rattle.ts_exec.proofs.shared.Shared.take_all.Goals as goal
 use Rattle.ts_laws.proofs.Cuts.{none_in_both}
 
 -- the piece at hand, by what the checked plan says and by what the board was opened for
-pub take-bytes-requires-clause-piece : goal.take-bytes-requires-clause-piece
-take-bytes-requires-clause-piece g c κs within =
+pub take-piece-requires-clause-piece : goal.take-piece-requires-clause-piece
+take-piece-requires-clause-piece g c κs within =
     let j = c.args.self.now in let xs = c.pieces-pieces.result.now in let n = c.loop-k.k-index in
     let k = get_or xs n 0 in
     let h : n < length xs = c.loop-k-test.true in
@@ -26,18 +26,18 @@ take-bytes-requires-clause-piece g c κs within =
     let same : c.action.result ≡ c.loop-k.held.action = c.action.ensures ∙ sym (ap (λ z. z.action) c.loop-k.invariant.held) in
     subst (λ (z : Plan). IsPieceOf z c.loop-k.held.action k) (sym j.plan) (subst (λ (z : ℕ). IsPieceOf j.checked.now.plan z k) same here)
 
-pub take-bytes-requires-clause-action : goal.take-bytes-requires-clause-action
-take-bytes-requires-clause-action g c κs within =
-    piece_within c.args.self.now.board.now.table.shared.key.plan.value c.loop-k.held.action (get_or c.pieces-pieces.result.now c.loop-k.k-index 0) (take-bytes-requires-clause-piece g c κs within)
+pub take-piece-requires-clause-action : goal.take-piece-requires-clause-action
+take-piece-requires-clause-action g c κs within =
+    piece_within c.args.self.now.board.now.table.shared.key.plan.value c.loop-k.held.action (get_or c.pieces-pieces.result.now c.loop-k.k-index 0) (take-piece-requires-clause-piece g c κs within)
 
-pub take-bytes-requires-clause-held : goal.take-bytes-requires-clause-held
-take-bytes-requires-clause-held g c κs within =
+pub take-piece-requires-clause-held : goal.take-piece-requires-clause-held
+take-piece-requires-clause-held g c κs within =
     let a = c.args.held.now.action in let inv = c.loop-k.invariant in let ks = take c.loop-k.k-index c.pieces-pieces.result.now in
     subst (λ (z : ℕ). IsPending (mine c.loop-k.pass) z) (sym (ap (λ z. z.action) inv.held))
     (subst (λ (z : Run). IsPending z a) (sym inv.steps) (taking_pending (mine c.args.pass.now) a ks c.requires.held))
 
-pub take-bytes-requires-clause-untaken : goal.take-bytes-requires-clause-untaken
-take-bytes-requires-clause-untaken g c κs within =
+pub take-piece-requires-clause-untaken : goal.take-piece-requires-clause-untaken
+take-piece-requires-clause-untaken g c κs within =
     let j = c.args.self.now in let a = c.args.held.now.action in let inv = c.loop-k.invariant in let xs = c.pieces-pieces.result.now in let n = c.loop-k.k-index in
     let k = get_or xs n 0 in
     let h : n < length xs = c.loop-k-test.true in
@@ -55,9 +55,9 @@ returns-in_err-add-clause-steps g c =
     let j = c.args.self.now in let a = c.args.held.now.action in let inv = c.loop-k.invariant in let xs = c.pieces-pieces.result.now in let n = c.loop-k.k-index in
     let k = get_or xs n 0 in let own = mine c.args.pass.now in
     let h : n < length xs = c.loop-k-test.true in
-    let taken = c.take-bytes.ensures.taken in
+    let taken = c.take-piece.ensures.taken in
     let same : c.loop-k.held.action ≡ a = ap (λ z. z.action) inv.held in
-    let all : mine c.take-bytes.new.pass ≡ own ++ takes_for a (take (n + 1) xs) =
+    let all : mine c.take-piece.new.pass ≡ own ++ takes_for a (take (n + 1) xs) =
     taken.2 ∙ ap (λ (z : Run). z ++ Take c.loop-k.held.action k ∷ []) inv.steps ∙ ap (λ (z : ℕ). (own ++ takes_for a (take n xs)) ++ Take z k ∷ []) same
     ∙ append_assoc own (takes_for a (take n xs)) (Take a k ∷ []) ∙ ap (λ (z : Run). own ++ z) (sym (takes_more a n 0 xs h)) in (
       takes_for a (take (n + 1) xs),
@@ -86,28 +86,28 @@ loop-k-preserved g c =
     let j = c.args.self.now in let a = c.args.held.now.action in let inv = c.loop-k.invariant in let xs = c.pieces-pieces.result.now in let n = c.loop-k.k-index in
     let k = get_or xs n 0 in let own = mine c.args.pass.now in let plan = j.checked.now.plan in
     let h : n < length xs = c.loop-k-test.true in
-    let taken = c.take-bytes.ensures.taken in let part_of = c.take-bytes.ensures.pass.1 in
+    let taken = c.take-piece.ensures.taken in let part_of = c.take-piece.ensures.pass.1 in
     let same : c.loop-k.held.action ≡ a = ap (λ z. z.action) inv.held in
-    let later : StartsWith (seen c.take-bytes.new.pass) (seen c.loop-k.pass) = starts_after (seen c.loop-k.pass) taken.0 (Take c.loop-k.held.action k ∷ []) (seen c.take-bytes.new.pass) taken.1 in
-    let x = setting_of g.S.Site g.F.Folder g.G.Stop j in
+    let later : StartsWith (seen c.take-piece.new.pass) (seen c.loop-k.pass) = starts_after (seen c.loop-k.pass) taken.0 (Take c.loop-k.held.action k ∷ []) (seen c.take-piece.new.pass) taken.1 in
+    let x = setting_of g.S.Site g.F.Folder g.G.Stop g.P.Stage j in
     let pieces : (l : ℕ) → Contains xs l ↔ IsPieceOf plan a l = subst (λ (z : ℕ). (l : ℕ) → Contains xs l ↔ IsPieceOf plan z l) c.action.ensures c.pieces-pieces.ensures.pieces in record {
-      pass = c.take-bytes.ensures.pass.0;
+      pass = c.take-piece.ensures.pass.0;
       part = (part_of.0 ∙ inv.part.0, part_of.1 ∙ inv.part.1);
-      later = starts_through (seen c.args.pass.now) (seen c.loop-k.pass) (seen c.take-bytes.new.pass) inv.later later;
+      later = starts_through (seen c.args.pass.now) (seen c.loop-k.pass) (seen c.take-piece.new.pass) inv.later later;
       steps =
           taken.2 ∙ ap (λ (z : Run). z ++ Take c.loop-k.held.action k ∷ []) inv.steps ∙ ap (λ (z : ℕ). (own ++ takes_for a (take n xs)) ++ Take z k ∷ []) same
           ∙ append_assoc own (takes_for a (take n xs)) (Take a k ∷ []) ∙ ap (λ (z : Run). own ++ z) (sym (takes_more a n 0 xs h));
-      held = c.take-bytes.ensures.held ∙ inv.held;
+      held = c.take-piece.ensures.held ∙ inv.held;
       wanted = c.add.ensures.wanted ∙ inv.wanted;
       filled = λ part of begun told read.
-          filled_next x j.valid a part of told xs pieces c.pieces-pieces.ensures.order n h (seen c.take-bytes.new.pass) c.take-bytes.result.items read c.take-bytes.ensures.bytes c.loop-k.staged c.add.new.staged
-          (inv.filled part of begun told (read_front x (seen c.loop-k.pass) (seen c.take-bytes.new.pass) later read)) c.in_ok-add.ensures.put (contains_at xs n 0 h);
+          filled_next x j.valid a part of told xs pieces c.pieces-pieces.ensures.order n h (seen c.take-piece.new.pass) c.take-piece.result read c.take-piece.ensures.bytes c.loop-k.staged c.add.new.staged
+          (inv.filled part of begun told (read_front x (seen c.loop-k.pass) (seen c.take-piece.new.pass) later read)) c.in_ok-add.ensures.put (contains_at xs n 0 h);
     }
 
 pub returns-clause-whole : goal.returns-clause-whole
 returns-clause-whole g c = λ part of begun told read.
     let j = c.args.self.now in let a = c.args.held.now.action in let xs = c.pieces-pieces.result.now in let n = c.loop-k.k-index in let plan = j.checked.now.plan in
-    let x = setting_of g.S.Site g.F.Folder g.G.Stop j in
+    let x = setting_of g.S.Site g.F.Folder g.G.Stop g.P.Stage j in
     let pieces : (l : ℕ) → Contains xs l ↔ IsPieceOf plan a l = subst (λ (z : ℕ). (l : ℕ) → Contains xs l ↔ IsPieceOf plan z l) c.action.ensures c.pieces-pieces.ensures.pieces in
     let whole : take n xs ≡ xs = take_all n xs c.loop-k-test.false in
     let filled : IsFilled plan of.of_commit.0 (at told.0) xs part c.loop-k.staged =

@@ -3,7 +3,7 @@ use Rattle.ts_board.specs.Calls.{IsPassOf, IsSamePart, mine, seen}
 use Rattle.ts_board.specs.Runs.{StartsWith}
 use Rattle.ts_check.specs.Checkup.{IsSourcePart}
 use Rattle.ts_model.specs.Trees.{at}
-use Rattle.ts_print.specs.Assemblies.{assembly_of}
+use Rattle.ts_stage.specs.Assemblies.{assembly_of}
 use Rattle.ts_print.specs.Parts.{Part}
 use Rattle.ts_exec.specs.Failures.{AreRead, TellsTree}
 use Rattle.ts_exec.specs.Sharing.{setting_of}
@@ -21,7 +21,7 @@ invariant-loop-k g l = record {
   held : l.held ≡ l.fn.held;
   wanted : l.staged.wanted ≡ l.fn.staged.wanted;
   filled : (
-      let x = setting_of g.S.Site g.F.Folder g.G.Stop l.self in
+      let x = setting_of g.S.Site g.F.Folder g.G.Stop g.P.Stage l.self in
       (part : Part) (of : IsSourcePart l.self.checked.now l.fn.held.action part) → l.fn.staged ≡ assembly_of part → (told : TellsTree x of.from) → AreRead x (seen l.pass)
       → IsFilled l.self.checked.now.plan of.of_commit.0 (at told.0) (take l.k-index l.pieces) part l.staged);
 }

@@ -10,7 +10,7 @@ use Rattle.ts_exec.proofs.shared.Shared.work.Goals as goal
 pub turns-preserved : goal.turns-preserved
 turns-preserved g c = elim c.match-next.branch [
   | in-Some+else-now w ↦ (
-      let j = c.args.self.now in let x = setting_of g.S.Site g.F.Folder g.G.Stop j in let inv = c.turns.invariant in let f = w.follow.ensures in
+      let j = c.args.self.now in let x = setting_of g.S.Site g.F.Folder g.G.Stop g.P.Stage j in let inv = c.turns.invariant in let f = w.follow.ensures in
       let k = j.checked.now in let first = seen c.args.pass in let then = seen c.turns.worked.pass in let last = seen w.follow.new.worked.pass in
       let old = g.K.Keeper.kept c.args.keeping.now.keeper in let mid = g.K.Keeper.kept c.turns.keeping.keeper in let new = g.K.Keeper.kept w.follow.new.keeping.keeper in
       record {
@@ -23,7 +23,7 @@ turns-preserved g c = elim c.match-next.branch [
             (subst (λ z. StaysKept k first old last (g.K.Keeper.kept z.keeper)) (sym w.keeping-is) (stays_through k first then last old mid new inv.kept f.kept));
       })
   | in-None w ↦ (
-      let j = c.args.self.now in let x = setting_of g.S.Site g.F.Folder g.G.Stop j in let inv = c.turns.invariant in
+      let j = c.args.self.now in let x = setting_of g.S.Site g.F.Folder g.G.Stop g.P.Stage j in let inv = c.turns.invariant in
       let k = j.checked.now in let first = seen c.args.pass in let then = seen c.turns.worked.pass in let old = g.K.Keeper.kept c.args.keeping.now.keeper in
       record {
         pass = subst (λ z. IsPassOf g.S.Site.content j.board.now z.pass) (sym w.worked-is) inv.pass;
