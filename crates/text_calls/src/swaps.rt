@@ -5,7 +5,7 @@ ghost use Rattle.ts_swap.specs.Memory.{spots_in};
 use std::alloc::Global;
 use ts_model::items::Items;
 use ts_model::row::{Content, Row};
-use ts_swap::{MemPlaces, Places, Spot, State, recover, recover_stopped, replace};
+use ts_swap::{MemPlaces, Places, Spot, State, move_in, recover, recover_stopped, replace};
 use ts_table::SubTable;
 
 /// A file of one byte, or nothing for a dot.
@@ -75,6 +75,35 @@ fn replaced(
     let mut places = places(alloc, original, failing, false)?;
     let ends = replace(&mut places, tree.rows()).is_ok();
     Some((ends, all(&places), places.failures()))
+}
+
+/// Whether what lies at the new spot moves in, what lies at the spots then, and how many calls failed.
+fn moved_in(alloc: Global, original: u8, new: u8, failing: usize) -> Option<(bool, [u8; 3], u64)> {
+    let state = State::new(
+        tree(alloc, original)?,
+        tree(alloc, new)?,
+        SubTable::absent(alloc),
+    );
+    let fails = failures(alloc, failing, false)?;
+    let mut places = MemPlaces::at(alloc, state, fails, false);
+    let is_wanted = !places.rows(Spot::New).is_empty();
+    let ends = move_in(&mut places, is_wanted).is_ok();
+    Some((ends, all(&places), places.failures()))
+}
+
+#[test]
+fn what_is_new_moves_in(rt: HostRuntime) {
+    for original in [b'.', b'o'] {
+        for new in [b'.', b'n'] {
+            let found = moved_in(rt.alloc(), original, new, 99);
+            assert!(rt; found == Some((true, [new, b'.', b'.'], 0)));
+        }
+    }
+    // the first call moves the original aside, the second one puts the new tree in its place
+    for failing in [0, 1] {
+        let found = moved_in(rt.alloc(), b'o', b'n', failing);
+        assert!(rt; found == Some((false, *b"o..", 1)), "{failing}");
+    }
 }
 
 #[test]

@@ -201,6 +201,35 @@ module _ (tree : Listing (List ℕ)) where
       then_if HasNoOld (IsDone had) (IsStopped tree) (λ s. MayStop s (Remove Old)) (IsStopped tree) o r k l h (λ s x _ so. so) (ending had) none
       (on_then (IsReady had) IsPut o q r (on_then (HasNew tree) (IsSetAside had) o p q wrote away) put) (placed had o p q k m n l none wrote away first second third) fourth
 
+-- the same where what lies at the new spot is moved in, and nothing is written before
+pub set_in : (o : Option Spots) (k n : List Spots) → IfSome o HasNoOld → AtEachMoment IsSetting o k n → AtEachMoment (λ s. IsStopped s.new s) o k n
+set_in None k n none stops = tt
+set_in (Some s) k n none stops = set s.new (Some s) (Some s) k k n none (s, refl, refl) (stays (KeepsOthers s) k) stops
+
+pub given_up_in : (o q : Option Spots) (k n l : List Spots) → IfSome o HasNoOld → AtEachMoment IsSetting o k n → q ≡ o → AtEachMoment KeepsOthers q n l
+    → AtEachMoment (λ s. IsStopped s.new s) o k l
+given_up_in None q k n l none first same second = tt
+given_up_in (Some s) q k n l none first same second = given_up s.new (Some s) (Some s) q k k n l none (s, refl, refl) (stays (KeepsOthers s) k) first same second
+
+pub placed_in : (had : Bool) (o q : Option Spots) (k n l : List Spots) → IfSome o HasNoOld → OnSpots (IsSetAside had) o q → AtEachMoment IsSetting o k n → AtEachMoment IsPutting q n l
+    → AtEachMoment (λ s. IsStopped s.new s) o k l
+placed_in had None q k n l none away first second = tt
+placed_in had (Some s) q k n l none away first second = placed s.new had (Some s) (Some s) q k k n l none (s, refl, refl) away (stays (KeepsOthers s) k) first second
+
+pub ended_in : (had : Bool) (o q r : Option Spots) (k n l h : List Spots) → IfSome o HasNoOld → OnSpots (IsSetAside had) o q → OnSpots IsPut q r
+    → AtEachMoment IsSetting o k n → AtEachMoment IsPutting q n l → AtEachMoment (λ s. MayStop s (Remove Old)) r l h → AtEachMoment (λ s. IsStopped s.new s) o k h
+ended_in had None q r k n l h none away put first second third = tt
+ended_in had (Some s) q r k n l h none away put first second third =
+    ended s.new had (Some s) (Some s) q r k k n l h none (s, refl, refl) away put (stays (KeepsOthers s) k) first second third
+
+-- the tree was written, and then moved in
+pub moved_in : (tree : Listing (List ℕ)) (o p : Option Spots) (k m n : List Spots) → IfSome o HasNoOld → OnSpots (HasNew tree) o p
+    → AtEachMoment KeepsOthers o k m → AtEachMoment (λ s. IsStopped s.new s) p m n → AtEachMoment (IsStopped tree) o k n
+moved_in tree o p k m n = then_if HasNoOld (HasNew tree) KeepsOthers (λ s. IsStopped s.new s) (IsStopped tree) o p k m n (begun tree) there
+  where
+    there : (s t x : Spots) → HasNoOld s → HasNew tree s t → IsStopped t.new t x → IsStopped tree s x
+    there s t x none is = subst (λ (z : Spots). IsStopped z.new z x → IsStopped tree s x) (sym is) (λ so. so)
+
 -- ---- recovery
 
 at_start : (calls : List Call) (s : Spots) → IsDuring calls s s

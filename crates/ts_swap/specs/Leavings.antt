@@ -2,6 +2,7 @@
 --     Leaves call old new r           what a single call leaves, where the spots are known
 --     Counts old new r                the count of failures grows by one at a failure, and only there
 --     Replaces tree old new r         what replacing leaves
+--     MovesIn old new r               what it leaves where what lies at the new spot is put in place
 --     Recovers old new r              what recovery leaves
 --     IsInSwap original tree s        where a replacement of the original by the tree may stand, stopped or ended
 --     AtEachMoment Says old before after      what a stop may have left since then, where the spots are known
@@ -85,6 +86,10 @@ IsPut s left = left ≡ record { target = s.new; new = []; old = s.old }
 
 abbrev pub Replaces : {A E : Type 0} → Listing (List ℕ) → Option Spots → Option Spots → Result A E → Type 0
 Replaces tree old new r = MatchResult r (λ _. OnSpots (λ s left. IsReplaced tree left) old new) (λ _. OnSpots (λ s left. IsOriginal s left ⊎ IsAside tree s left) old new)
+
+-- the same of what lies at the new spot, in place of a tree
+abbrev pub MovesIn : {A E : Type 0} → Option Spots → Option Spots → Result A E → Type 0
+MovesIn old new r = MatchResult r (λ _. OnSpots (λ s left. IsReplaced s.new left) old new) (λ _. OnSpots (λ s left. IsOriginal s left ⊎ IsAside s.new s left) old new)
 
 -- ---- recovery
 

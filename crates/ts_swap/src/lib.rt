@@ -9,4 +9,4 @@ pub mod swap;
 pub use memory::MemPlaces;
 pub use places::{Failed, Places, Spot};
 pub use state::State;
-pub use swap::{recover, recover_stopped, replace};
+pub use swap::{move_in, recover, recover_stopped, replace};

@@ -4,7 +4,7 @@ ghost use Rattle.ts_model.specs.Swap.{recovery, with_spot};
 ghost use Rattle.ts_model.specs.Swap as model;
 ghost use Rattle.ts_model.specs.Trees.{IsSubListing};
 ghost use Rattle.ts_model.specs.declared.row.Row.{Row};
-ghost use Rattle.ts_swap.specs.Leavings.{AtEachMoment, Does, FailedAtMostOnce, Grows, HasFailed, IsBack, IsDuring, IsInSwap, IsPut, IsReplaced, IsStopped, MayHaveLeft};
+ghost use Rattle.ts_swap.specs.Leavings.{AtEachMoment, Does, FailedAtMostOnce, Grows, HasFailed, IsBack, IsDuring, IsInSwap, IsPut, IsReplaced, IsStopped, MayHaveLeft, MovesIn};
 ghost use Rattle.ts_swap.specs.Leavings.{IsSetAside, IsSettled, KeepsOthers, Looks, OnSpots, Recovers, Replaces, Stumbles, Tells, KeepsOriginal, StaysInSwap, removal, spot_of};
 ghost use Rattle.ts_swap.specs.declared.places.Spot.{Spot};
 ghost use Rattle.ts_swap.specs.declared.places.Spot.TheVariants as spot;
@@ -31,7 +31,26 @@ pub fn replace<P: Places>(places: &mut P, tree: &[Row<Items<u8>>]) -> Result<(),
     ensures stops { AtEachMoment (IsStopped tree.now) (P.spots places.old) (P.moments places.old) (P.moments places.new) }
 {
     write_new(places, tree)?;
-    let wanted = !tree.is_empty();
+    move_in(places, !tree.is_empty())
+}
+
+/// Does what `replace` does by what lies at the new spot already, if something is wanted there: it comes to the target, by at
+/// most two renames. Between them nothing lies there.
+///
+/// After a failure the original lies at the target; or, where more than one call failed, it may lie at the old spot,
+/// whole, with the new tree whole at the new spot and nothing at the target. A look that fails does so before anything
+/// is moved, so after it the original lies at the target. That the old content couldn't be removed at the end is not
+/// reported.
+#[tactic(auto, using(crate::proofs::Counting::grown, crate::proofs::Counting::still_grown))]
+pub fn move_in<P: Places>(places: &mut P, wanted: bool) -> Result<(), Failed>
+    requires new { IfSome (P.spots places.old) (λ s. Tells wanted s.new) }
+    requires old { IfSome (P.spots places.old) (λ s. s.old ≡ []) }
+    ensures replaced { MovesIn (P.spots places.old) (P.spots places.new) result }
+    ensures fault { IsErr result → (P.hides places.old spot.Target) ⊎ HasFailed (P.failures places.old) (P.failures places.new) }
+    ensures once { IsErr result → FailedAtMostOnce (P.failures places.old) (P.failures places.new) → KeepsOriginal (P.spots places.old) (P.spots places.new) }
+    ensures recoverable { OnSpots (λ s left. IsInSwap s.target s.new left) (P.spots places.old) (P.spots places.new) }
+    ensures stops { AtEachMoment (λ s. IsStopped s.new s) (P.spots places.old) (P.moments places.old) (P.moments places.new) }
+{
     match set_aside(places) {
         Ok(had) => {
             put_in_place(places, wanted, had)?;

@@ -1,24 +1,5 @@
-use Rattle.std.proofs.Common.{refl}
-use Rattle.ts_swap.proofs.Stops.{set, given_up, placed, ended}
+use Rattle.ts_swap.proofs.Stops.{moved_in}
 use Rattle.ts_swap.proofs.swap.replace.Goals as goal
 
-pub returns-in_err-put_in_place-in-Ok-clause-stops : goal.returns-in_err-put_in_place-in-Ok-clause-stops
-returns-in_err-put_in_place-in-Ok-clause-stops g c =
-    placed c.args.tree.now c.in-Ok.had _ _ _ _ _ _ _ c.requires.old c.in_ok-write_new.ensures.ok c.in-Ok.ensures.ok c.write_new.ensures.stops c.set_aside.ensures.stops c.put_in_place.ensures.stops
-
-pub returns-then-had-clause-stops : goal.returns-then-had-clause-stops
-returns-then-had-clause-stops g c =
-    ended c.args.tree.now c.in-Ok.had _ _ _ _ _ _ _ _ _ c.requires.old c.in_ok-write_new.ensures.ok c.in-Ok.ensures.ok c.in_ok-put_in_place-in-Ok.ensures.ok
-    c.write_new.ensures.stops c.set_aside.ensures.stops c.put_in_place.ensures.stops c.remove.ensures.stops
-
-pub returns-else-had-clause-stops : goal.returns-else-had-clause-stops
-returns-else-had-clause-stops g c =
-    placed c.args.tree.now c.in-Ok.had _ _ _ _ _ _ _ c.requires.old c.in_ok-write_new.ensures.ok c.in-Ok.ensures.ok c.write_new.ensures.stops c.set_aside.ensures.stops c.put_in_place.ensures.stops
-
-pub returns-then-wanted-clause-stops : goal.returns-then-wanted-clause-stops
-returns-then-wanted-clause-stops g c =
-    given_up c.args.tree.now _ _ _ _ _ _ _ c.requires.old c.in_ok-write_new.ensures.ok c.write_new.ensures.stops c.set_aside.ensures.stops (c.in-Err.ensures.err refl) c.clear_new.ensures.stops
-
-pub returns-else-wanted-clause-stops : goal.returns-else-wanted-clause-stops
-returns-else-wanted-clause-stops g c =
-    set c.args.tree.now _ _ _ _ _ c.requires.old c.in_ok-write_new.ensures.ok c.write_new.ensures.stops c.set_aside.ensures.stops
+pub returns-clause-stops : goal.returns-clause-stops
+returns-clause-stops g c = moved_in c.args.tree.now _ _ _ _ _ c.requires.old c.in_ok-write_new.ensures.ok c.write_new.ensures.stops c.move_in.ensures.stops
