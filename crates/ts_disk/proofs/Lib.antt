@@ -6,4 +6,5 @@ pub mod Gathered
 pub mod Numbers
 pub mod Parts
 pub mod Rows
+pub mod Stages
 pub mod Stamps

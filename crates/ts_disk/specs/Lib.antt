@@ -3,4 +3,5 @@ pub mod Faults
 pub mod Flushing
 pub mod Modes
 pub mod Names
+pub mod Stages
 pub mod Swaps

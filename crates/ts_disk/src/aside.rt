@@ -10,7 +10,6 @@ use sha2::{Digest, Sha256};
 use std::fs::Files;
 use std::io::{ErrorKind, Read};
 use std::{fs, io};
-use ts_model::items::Items;
 use ts_model::row::{Content, Row, Stamp};
 use ts_name::Path;
 use ts_print::SubPrint;
@@ -41,10 +40,11 @@ pub(crate) fn is_untouched<R: Files + AllocGlobal + Clone + Drop>(
     Ok(found == rows.len() as u64)
 }
 
-/// Whether a tree lies at a place, byte by byte, and nothing else.
+/// Whether the directories and files of these stamps lie at a place, and nothing else. Of each file the size is looked at, and
+/// then its bytes are read.
 pub(crate) fn is_same_tree<R: Files + AllocGlobal + Clone + Drop>(
     files: &R,
-    tree: &[Row<Items<u8>>],
+    tree: &[Row<Stamp>],
     top: &str,
 ) -> io::Result<bool> {
     let mut found: u64 = 1;
@@ -55,7 +55,7 @@ pub(crate) fn is_same_tree<R: Files + AllocGlobal + Clone + Drop>(
         let same = match &row.content {
             Content::Absent => false,
             Content::Dir => add_children(files, place.as_str(), &mut found)?,
-            Content::File(bytes) => has_bytes(files, place.as_str(), bytes.as_slice())?,
+            Content::File(stamp) => has_stamp(files, place.as_str(), stamp)?,
         };
         if !same {
             return Ok(false);
@@ -132,30 +132,17 @@ fn digest_at<R: Files + AllocGlobal>(files: &R, place: &str) -> io::Result<[u8; 
     Ok(hasher.finalize())
 }
 
-/// Whether a file with just these bytes is at a place.
-fn has_bytes<R: Files + AllocGlobal>(files: &R, place: &str, bytes: &[u8]) -> io::Result<bool> {
+/// Whether a file with this stamp is at a place.
+fn has_stamp<R: Files + AllocGlobal>(files: &R, place: &str, stamp: &Stamp) -> io::Result<bool> {
     match metadata_at(files, place)? {
-        Some(metadata) if metadata.is_file() && metadata.len() == bytes.len() as u64 => {}
-        _ => return Ok(false),
-    }
-    let mut file = fs::open(files, place)?;
-    let mut buffer = new_buffer(files)?;
-    let mut rest = bytes;
-    for _ in 0..u64::MAX {
-        match file.read(buffer.as_mut_slice()) {
-            Ok(0) => break,
-            Ok(count) => match rest.strip_prefix(&buffer[..count]) {
-                Some(left) => rest = left,
-                None => return Ok(false),
-            },
-            Err(e) if e.kind() == ErrorKind::Interrupted => {}
-            Err(e) => return Err(e),
+        Some(metadata) if metadata.is_file() && metadata.len() == stamp.size => {
+            Ok(digest_at(files, place)? == stamp.digest)
         }
+        _ => Ok(false),
     }
-    Ok(rest.is_empty())
 }
 
-fn new_buffer<R: AllocGlobal>(files: &R) -> io::Result<Vec<u8>> {
+pub(crate) fn new_buffer<R: AllocGlobal>(files: &R) -> io::Result<Vec<u8>> {
     match vec![in files.alloc(); 0u8; PIECE] {
         Ok(buffer) => Ok(buffer),
         Err(_) => Err(io::Error::from(ErrorKind::OutOfMemory)),

@@ -1,11 +1,19 @@
 //! What swaps leave in a replica that can't be removed, or has no place any more.
+ghost use Rattle.std.specs.Prelude.{◌≡◌, IfOk};
+ghost use Rattle.std.specs.String.{string_bytes};
+ghost use Rattle.ts_disk.specs.Names.{IsNumbered};
+
 use crate::modes::PRIVATE_DIR;
-use crate::names::is_trash;
+use crate::names::{is_trash, stage_number};
 use crate::place::{Standing, kind_at, own_place};
 use std::alloc::Global;
 use std::fs::{Files, Permissions};
+use std::io::ErrorKind;
 use std::os::unix::fs::PermissionsExt;
 use std::{fs, io};
+
+/// How many names are tried for what is put out of the way.
+const NAMES_TRIED: u32 = 1_000_000;
 
 /// What became of what a swap left aside.
 #[derive(Debug, PartialEq, Eq, Drop)]
@@ -19,7 +27,8 @@ pub(crate) enum Aside {
 }
 
 /// Tries to remove what earlier runs couldn't remove: all that is called `trash-N` in the program's own directory of a
-/// replica. What still can't be removed stays.
+/// replica. What still can't be removed stays. The stage of each entry goes, too: no run is at work that could still commit it,
+/// and what it holds was only copied there.
 pub(crate) fn remove_trash<R: Files + AllocGlobal + Clone + Drop>(
     files: &R,
     alloc: Global,
@@ -30,15 +39,52 @@ pub(crate) fn remove_trash<R: Files + AllocGlobal + Clone + Drop>(
         return Ok(());
     }
     for found in fs::read_dir(files, own.as_str())? {
-        if let Ok(found) = found
-            && is_trash(found.file_name())
-        {
+        if let Ok(found) = found {
             let name = found.file_name();
             let place = format!(in alloc; "{own}/{name}")?;
-            let _ = remove_at(files, place.as_str());
+            if is_trash(name) {
+                let _ = remove_at(files, place.as_str());
+            } else if stage_number(name).is_some() {
+                let _ = discard_at(files, own.as_str(), place.as_str());
+            }
         }
     }
     Ok(())
+}
+
+/// Removes what stands at a place in the program's own directory, or renames it to a free `trash-N` there where it can't be
+/// removed.
+pub(crate) fn discard_at<R: Files + AllocGlobal + Clone + Drop>(
+    files: &R,
+    own: &str,
+    place: &str,
+) -> io::Result<()> {
+    if remove_at(files, place).is_ok() {
+        return Ok(());
+    }
+    let _place = move_to_free(files, own, place, "trash")?;
+    Ok(())
+}
+
+/// Moves what stands at a place in the program's own directory to the first name `STEM-N` there that is free. Nobody else
+/// works there, so what is free stays free.
+pub(crate) fn move_to_free<R: Files + AllocGlobal>(
+    files: &R,
+    own: &str,
+    place: &str,
+    stem: &str,
+) -> io::Result<String>
+    ensures { IfOk result (λ place. IsNumbered own.now stem.now (string_bytes place)) }
+{
+    let alloc = files.alloc();
+    for number in 0..NAMES_TRIED {
+        let free = format!(in alloc; "{own}/{stem}-{number}")?;
+        if kind_at(files, free.as_str())? == Standing::Nothing {
+            fs::rename(files, place, free.as_str())?;
+            return Ok(free);
+        }
+    }
+    Err(io::Error::from(ErrorKind::AlreadyExists))
 }
 
 /// Removes what stands at a place of the program's own, and all below it.

@@ -19,6 +19,7 @@ mod recovery;
 mod replacement;
 mod replica;
 mod site;
+mod stage;
 mod staging;
 
 pub use archive::{ArchivePlace, claim_archive};
@@ -31,3 +32,4 @@ pub use plan_file::{remove_plan, save_plan};
 pub use recovery::{awaits_recovery, check_leftovers, clear_leftovers, recover_replica};
 pub use replica::Replica;
 pub use site::DiskSite;
+pub use stage::DiskStage;

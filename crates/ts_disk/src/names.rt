@@ -31,6 +31,14 @@ pub(crate) fn kept_number(name: &str) -> Option<u32>
     }
 }
 
+/// The number of the entry whose stage has this name.
+pub(crate) fn stage_number(name: &str) -> Option<u32>
+    ensures some { IfSome result (HasNumber (codes "stage-") name.now) }
+    ensures none { IfNone result ((n : ℕ) → n < 2 ^ 32 → ¬ HasNumber (codes "stage-") name.now n) }
+{
+    number_after(name, b"stage-")
+}
+
 /// Whether what has this name is to be removed.
 pub(crate) fn is_trash(name: &str) -> bool
     ensures { IsTrue result ↔ ((n : ℕ) × (n < 2 ^ 32) × HasNumber (codes "trash-") name.now n) }

@@ -1,4 +1,5 @@
 //! Places of the file system at a replica's root and below it.
+ghost use Rattle.std.specs.Fmt.{decimal};
 ghost use Rattle.std.specs.Prelude.{◌≡◌, ◌++◌, IfOk, codes};
 ghost use Rattle.std.specs.Fs.{IsDir, IsFile};
 ghost use Rattle.std.specs.String.{string_bytes};
@@ -21,6 +22,13 @@ pub(crate) fn own_place(alloc: Global, root: &str) -> Result<String, AllocError>
     ensures { IfOk result (λ place. string_bytes place ≡ root.now ++ codes "/.twosync") }
 {
     format!(in alloc; "{root}/.twosync")
+}
+
+/// The place in the program's own directory where the pieces of an entry are stored until its commit.
+pub(crate) fn stage_place(alloc: Global, own: &str, entry: u32) -> Result<String, AllocError>
+    ensures { IfOk result (λ place. string_bytes place ≡ own.now ++ codes "/stage-" ++ decimal entry) }
+{
+    format!(in alloc; "{own}/stage-{entry}")
 }
 
 /// What stands at a place.
@@ -141,6 +149,17 @@ pub(crate) fn make_private_dir<R: Files>(files: &R, place: &str) -> io::Result<(
     let mut builder = DirBuilder::new();
     builder.mode(PRIVATE_DIR);
     builder.create(files, place)
+}
+
+/// Makes a directory that nobody else may enter, unless a directory is there already.
+pub(crate) fn make_missing_dir<R: Files>(files: &R, place: &str) -> io::Result<()> {
+    match make_private_dir(files, place) {
+        Err(e) if e.kind() == ErrorKind::AlreadyExists => match kind_at(files, place)? {
+            Standing::Dir => Ok(()),
+            Standing::Nothing | Standing::CutOff | Standing::File | Standing::Other => Err(e),
+        },
+        made => made,
+    }
 }
 
 /// Waits until what a directory lists has reached its device.

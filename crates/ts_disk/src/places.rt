@@ -8,10 +8,10 @@ ghost use Rattle.ts_disk.specs.Swaps.{place_of};
 ghost use Rattle.ts_swap.specs.Leavings.{Counts};
 
 use crate::fault::DiskFault;
-use crate::leftover::{Aside, remove_at};
+use crate::leftover::{Aside, move_to_free, remove_at};
 use crate::names::{KEPT, MADE};
 use crate::place::{
-    Standing, are_one, is_same, kind_at, look_at, make_own, metadata_at, own_place,
+    Standing, are_one, is_same, kind_at, look_at, make_own, metadata_at, own_place, stage_place,
 };
 use crate::staging::{Bits, write_tree};
 use std::alloc::Global;
@@ -23,9 +23,6 @@ use ts_model::items::Items;
 use ts_model::row::Row;
 use ts_name::Path;
 use ts_swap::{Failed, Places, Spot, recover};
-
-/// How many names are tried for what is put out of the way.
-const NAMES_TRIED: u32 = 1_000_000;
 
 /// The spots of the swap of one entry in a replica on a disk: the entry's place below the root, and for entry `k` the places
 /// `.twosync/new-k` and `.twosync/old-k` in it. They tell nothing of what lies there.
@@ -133,6 +130,15 @@ impl<R: Drop> DiskPlaces<R> {
         ensures { result ≡ self.now.cause }
     {
         self.cause
+    }
+
+    /// The place where the pieces of the entry are stored until its commit.
+    pub(crate) fn stage(&self) -> io::Result<String>
+    where
+        R: AllocGlobal,
+        ensures { IfOk result (λ place. string_bytes place ≡ string_bytes self.now.own ++ codes "/stage-" ++ decimal self.now.entry) }
+    {
+        Ok(stage_place(self.files.alloc(), self.own.as_str(), self.entry)?)
     }
 
     /// The place of a spot.
@@ -283,21 +289,11 @@ impl<R: Files + AllocGlobal + Clone + Drop> DiskPlaces<R> {
         self.move_from(self.place(spot), stem)
     }
 
-    /// Moves what stands at a place in the program's own directory to the first name `STEM-N` there that is free. Nobody else
-    /// works there, so what is free stays free.
+    /// The same with what stands at a place in the program's own directory.
     fn move_from(&self, place: &str, stem: &str) -> io::Result<String>
         ensures { IfOk result (λ place. IsNumbered (string_bytes self.now.own) stem.now (string_bytes place)) }
     {
-        let alloc = self.files.alloc();
-        for number in 0..NAMES_TRIED {
-            let own = self.own.as_str();
-            let free = format!(in alloc; "{own}/{stem}-{number}")?;
-            if kind_at(&self.files, free.as_str())? == Standing::Nothing {
-                fs::rename(&self.files, place, free.as_str())?;
-                return Ok(free);
-            }
-        }
-        Err(io::Error::from(ErrorKind::AlreadyExists))
+        move_to_free(&self.files, self.own.as_str(), place, stem)
     }
 
     /// Brings the swap to an end. Where the original can't go back it is kept first: others took the target while it was

@@ -5,12 +5,13 @@ ghost use Rattle.std.specs.Prelude.{◌≡◌, ◌++◌, ◌<◌, ◌^◌, ℕ, 
 ghost use Rattle.std.specs.String.{string_bytes};
 ghost use Rattle.ts_disk.specs.Names.{IsSpotOf};
 ghost use Rattle.ts_disk.specs.Swaps.{AddsNotices, IsCopiedInto, IsNoneCopied, IsOfCopied, IsPathCopied, IsTargetOf, notice_path};
+ghost use Rattle.ts_model.specs.declared.plan.Entry.{Entry};
 
 use crate::fault::{DiskFault, device_failed};
-use crate::leftover::{Aside, remove_trash};
-use crate::names::{kept_number, spot_number};
+use crate::leftover::{Aside, discard_at, remove_trash};
+use crate::names::{kept_number, spot_number, stage_number};
 use crate::notice::Notice;
-use crate::place::{Standing, look_at, own_place};
+use crate::place::{Standing, look_at, own_place, stage_place};
 use crate::places::DiskPlaces;
 use crate::plan_file::{holds_plan, read_plan, remove_plan};
 use crate::replica::Replica;
@@ -23,7 +24,7 @@ use ts_model::plan::{Entry, Plan, Side};
 use ts_name::Path;
 
 /// Looks whether the plan in a replica explains what a stopped run left there: each spot that is taken belongs to an entry of
-/// it that is copied. Nothing is changed.
+/// it that is copied. What pieces have stored needs no plan: it is copied there, and nothing else is. Nothing is changed.
 ///
 /// `Device` where a spot is taken that no plan explains: it may be the only copy of something. `Failed` where the plan file
 /// can't be read.
@@ -70,7 +71,8 @@ fn are_copied(plan: &Plan, numbers: &[u32]) -> bool {
 
 /// Recovers a replica from a run that was stopped: where `.twosync/plan` in its root is the text of a plan, the swap of each of
 /// its entries that are copied is brought to its end, and then the plan file is removed. Where it isn't, no swap had begun.
-/// What earlier runs couldn't remove is tried again.
+/// What earlier runs couldn't remove is tried again. What pieces have stored for commits that were never made is removed, whether
+/// or not there is a plan.
 ///
 /// What is left of a swap is added to `notices`. `Failed` where the plan file can't be read or removed, `Device` where a swap can't
 /// be brought to its end; both may be called again.
@@ -91,8 +93,8 @@ pub fn recover_replica<R: Files + AllocGlobal + Clone + Drop>(
 }
 
 /// Brings the swap of each entry of a plan that is copied into a replica to its end, so that nothing is left of it in
-/// `.twosync` that a later run would have to recover. Where a swap can't be brought to its end, it goes on with the others. What
-/// belongs to no such entry stays as it is. What is left of a swap is added to `notices`.
+/// `.twosync` that a later run would have to recover, and removes what pieces have stored for it. Where a swap can't be brought to
+/// its end, it goes on with the others. What belongs to no such entry stays as it is. What is left of a swap is added to `notices`.
 pub fn clear_leftovers<R: Files + AllocGlobal + Clone + Drop>(
     files: &R,
     alloc: Global,
@@ -140,6 +142,7 @@ fn end_swaps<R: Files + AllocGlobal + Clone + Drop>(
             Ok(None) => {}
             Err(fault) => ended = Err(fault),
         }
+        end_stage(files, alloc, root, plan, name.as_str(), into)?;
     }
     ended
 }
@@ -253,6 +256,46 @@ fn end_keeping<R: Files + AllocGlobal + Clone + Drop>(
         Ok(place) => Ok(Some(Notice::Kept { path, place })),
         Err(e) => Err(device_failed(e)),
     }
+}
+
+/// Removes what pieces have stored, if this name is that of the stage of an entry that is copied into the replica. Nothing is
+/// said of it: it holds only what was copied there.
+fn end_stage<R: Files + AllocGlobal + Clone + Drop>(
+    files: &R,
+    alloc: Global,
+    root: &str,
+    plan: &Plan,
+    name: &str,
+    into: Option<Side>,
+) -> Result<(), DiskFault> {
+    let Some(number) = stage_number(name) else {
+        return Ok(());
+    };
+    if let Some(place) = own_stage(alloc, root, plan, number, into)? {
+        let own = own_place(alloc, root)?;
+        let _ = discard_at(files, own.as_str(), place.as_str());
+    }
+    Ok(())
+}
+
+/// The place of the stage of the entry of this number, if that entry is copied, and into this replica of the pair where one is
+/// given.
+fn own_stage(
+    alloc: Global,
+    root: &str,
+    plan: &Plan,
+    number: u32,
+    into: Option<Side>,
+) -> Result<Option<String>, DiskFault>
+    ensures place { IfOk result (λ found. IfSome found (λ place. string_bytes place ≡ root.now ++ codes "/.twosync/stage-" ++ decimal number)) }
+    ensures copied { IfOk result (λ found. IfSome found (λ _. (entry : Entry) × IsCopiedInto plan.now number into entry)) }
+    ensures none { IfOk result (λ found. IfNone found (IsNoneCopied plan.now number into)) }
+{
+    if copied_entry(plan, number, into).is_none() {
+        return Ok(None);
+    }
+    let own = own_place(alloc, root)?;
+    Ok(Some(stage_place(alloc, own.as_str(), number)?))
 }
 
 /// The path of the entry of this number and the spots of its swap, if that entry is copied into the replica.

@@ -9,18 +9,19 @@ use crate::look::Look;
 use crate::modes::permissions_at;
 use crate::place::Standing;
 use crate::places::{DiskPlaces, is_taken};
-use crate::staging::{Bits, close_top, write_tree};
+use crate::staging::{Bits, close_top, complete_tree};
 use std::alloc::Global;
-use std::io;
 use std::io::ErrorKind;
 use std::time::Clock;
+use std::{fs, io};
 use ts_cause::Cause;
 use ts_folder::DiskFolder;
 use ts_model::items::Items;
 use ts_model::row::Row;
-use ts_print::{Staged, SubPrint};
+use ts_print::SubPrint;
 use ts_site::SiteFault;
-use ts_swap::{Failed, Places, Spot};
+use ts_stage::Staged;
+use ts_swap::{Failed, Places, Spot, move_in};
 
 /// Why a swap isn't made, or was undone.
 #[derive(Clone, Copy, Debug, PartialEq, Eq, Drop)]
@@ -116,16 +117,39 @@ impl<'a> Replacement<'a> {
         })
     }
 
-    /// Writes the new tree.
-    fn write_new(&self, tree: &[Row<Items<u8>>]) -> io::Result<()> {
+    /// Puts what is staged at the new spot, and moves it to the target from there. What is at the target goes where nothing is
+    /// staged. After a failure it is told what was refused, and `settle` brings the swap to its end.
+    pub(crate) fn replace(&mut self) -> Result<(), Failed> {
+        let is_wanted = !self.staged.wanted().is_empty();
+        if is_wanted {
+            self.put_together()?;
+        }
+        move_in(self, is_wanted)
+    }
+
+    /// Puts what is staged at the new spot. After a failure the spot is cleared, where that can be done.
+    fn put_together(&mut self) -> Result<(), Failed> {
+        let done = self.write_new();
+        let written = self.places.counted(&done);
+        if written.is_err() {
+            let _ = self.remove(Spot::New);
+        }
+        written
+    }
+
+    /// Writes what is staged to the new spot. Where pieces have stored some of it, the rest is written beside that, and all of it
+    /// is moved to the new spot then.
+    fn write_new(&self) -> io::Result<()> {
         self.places.make_own()?;
         let bits = self.bits()?;
-        write_tree(
-            &self.places.files,
-            tree,
-            self.places.place(Spot::New),
-            &bits,
-        )
+        let files = &self.places.files;
+        let new = self.places.place(Spot::New);
+        if self.staged.is_held() {
+            return complete_tree(files, self.staged.rows(), new, &bits);
+        }
+        let stage = self.places.stage()?;
+        complete_tree(files, self.staged.rows(), stage.as_str(), &bits)?;
+        fs::rename(files, stage.as_str(), new)
     }
 
     /// Compares what lies at the target, and moves it aside. Where that was changed in between, it is put back; and where
@@ -264,14 +288,14 @@ impl<'a> Replacement<'a> {
     fn close_top(&self) {
         if let Ok(bits) = self.bits() {
             let target = self.places.place(Spot::Target);
-            let _ = close_top(&self.places.files, self.staged.rows(), target, &bits);
+            let _ = close_top(&self.places.files, self.staged.wanted(), target, &bits);
         }
     }
 
     /// Puts back what was changed aside after the new tree was put in place, unless others have taken the target by then. What
     /// they made of the new tree meanwhile is kept.
     fn put_back(&mut self) {
-        let is_gone = self.staged.rows().is_empty();
+        let is_gone = self.staged.wanted().is_empty();
         let is_ours = !is_gone
             && self.is_as_staged(Spot::Target)
             && self.places.move_over(Spot::Target, Spot::New).is_ok();
@@ -311,16 +335,16 @@ impl<'a> Replacement<'a> {
                 self.places.drop_name(Spot::Old) || self.places.keep_for_notice(Spot::Old).is_ok()
             }
             Err(_) => {
-                self.staged.rows().is_empty() && self.places.keep_for_notice(Spot::Old).is_ok()
+                self.staged.wanted().is_empty() && self.places.keep_for_notice(Spot::Old).is_ok()
             }
         }
     }
 
-    /// Whether what lies at a spot is the staged tree, byte by byte.
+    /// Whether what lies at a spot is the staged tree, by the stamps of its files.
     fn is_as_staged(&self, spot: Spot) -> bool {
         is_same_tree(
             &self.places.files,
-            self.staged.rows(),
+            self.staged.wanted(),
             self.places.place(spot),
         )
         .unwrap_or(false)
@@ -357,8 +381,7 @@ impl Places for Replacement<'_> {
     }
 
     fn write(&mut self, tree: &[Row<Items<u8>>]) -> Result<(), Failed> {
-        let done = self.write_new(tree);
-        self.places.counted(&done)
+        self.places.write(tree)
     }
 
     fn rename(&mut self, from: Spot, to: Spot) -> Result<(), Failed> {

@@ -1,12 +1,14 @@
 //! A site on a disk.
 ghost use Rattle.std.specs.Fmt.{decimal};
-ghost use Rattle.std.specs.Prelude.{◌≡◌, ◌≢◌, ◌++◌, IfErr, IfOk, IfSome, IsTrue, codes};
+ghost use Rattle.std.specs.Prelude.{◌≡◌, ◌≢◌, ◌++◌, ◌<◌, IfErr, IfOk, IfSome, IsErrOf, IsTrue, None, codes};
 ghost use Rattle.std.specs.String.{string_bytes};
 ghost use Rattle.ts_model.specs.Swap.{IsThere};
+ghost use Rattle.ts_site.specs.Sites.{IsPutFor};
 ghost use Rattle.ts_swap.specs.Leavings.{spot_of};
 ghost use Rattle.ts_name.specs.Paths.{place_text};
 
 use crate::fault::DiskFault;
+use crate::leftover::remove_at;
 use crate::places::DiskPlaces;
 use crate::replacement::Replacement;
 use std::alloc::Global;
@@ -14,12 +16,16 @@ use std::snapshot::Snapshot;
 use ts_cause::Cause;
 use ts_folder::DiskFolder;
 use ts_name::Path;
-use ts_print::{Staged, SubPrint};
+use ts_print::SubPrint;
 use ts_site::{Site, SiteFault};
-use ts_swap::{Places, Spot, replace};
+use ts_stage::Staged;
+use ts_swap::{Places, Spot};
 
 /// The place of one entry's commit in a replica on a disk, by the leave to use files that it keeps. It tells nothing of what
 /// is there.
+///
+/// What pieces have stored in the replica's `.twosync` is completed there and moved to its place from there; what is staged in memory
+/// is written first. After a fault nothing of it is left, where it can be removed.
 ///
 /// A file that replaces a file keeps that one's permission bits; all else gets those that it has in the other replica, which is
 /// its source.
@@ -119,10 +125,47 @@ impl DiskSite<HostRuntime> {
             return Err(SiteFault::OutOfMemory);
         };
         let mut swap = Replacement::new(alloc, places, &folder, before, staged, source.as_str());
-        let replaced = replace(&mut swap, staged.rows());
+        let replaced = swap.replace();
         // before what is left is settled, which may fail for another reason
         self.cause = swap.cause();
         swap.settle(replaced)
+    }
+
+    /// Puts what was staged in place, as it is read back where pieces have stored it.
+    fn put(
+        &mut self,
+        alloc: Global,
+        before: &SubPrint<'_>,
+        staged: Staged,
+    ) -> Result<Snapshot<Staged>, SiteFault>
+        ensures put { IfOk result (λ put. IsPutFor None staged put.value) }
+        ensures device { IsErrOf result SiteFault.Device → self.old.failures < self.new.failures }
+    {
+        let Some(staged) = staged.into_read_back() else {
+            return Err(SiteFault::Misfit);
+        };
+        // a failure more couldn't be counted
+        let Some(next) = self.failures.checked_add(1) else {
+            return Err(SiteFault::OutOfMemory);
+        };
+        match self.swap(alloc, before, &staged) {
+            Ok(()) => Ok(Snapshot::of(&staged)),
+            Err(SiteFault::Device) => {
+                self.failures = next;
+                Err(SiteFault::Device)
+            }
+            Err(fault) => Err(fault),
+        }
+    }
+
+    /// Removes what pieces have stored for a commit that was refused. What can't be removed isn't reported: the end of the run
+    /// tries again, and so does recovery.
+    fn remove_stage(&self, alloc: Global) {
+        if let Ok(places) = self.places(alloc)
+            && let Ok(stage) = places.stage()
+        {
+            let _ = remove_at(&self.files, stage.as_str());
+        }
     }
 
     fn places(&self, alloc: Global) -> Result<DiskPlaces<HostRuntime>, SiteFault>
@@ -161,8 +204,6 @@ fn is_taken<P: Places>(places: &P, spot: Spot) -> bool
 }
 
 impl Site for DiskSite<HostRuntime> {
-    ghost use Rattle.std.specs.Prelude.{None};
-
     ghost content = { λ _. None };
 
     ghost failures = { λ s. s.failures };
@@ -173,20 +214,11 @@ impl Site for DiskSite<HostRuntime> {
         before: &SubPrint<'_>,
         staged: Staged,
     ) -> Result<Snapshot<Staged>, SiteFault> {
-        if !staged.is_complete() {
-            return Err(SiteFault::Misfit);
+        let is_stored = !staged.is_held();
+        let put = self.put(alloc, before, staged);
+        if is_stored && put.is_err() {
+            self.remove_stage(alloc);
         }
-        // a failure more couldn't be counted
-        let Some(next) = self.failures.checked_add(1) else {
-            return Err(SiteFault::OutOfMemory);
-        };
-        match self.swap(alloc, before, &staged) {
-            Ok(()) => Ok(Snapshot::of(&staged)),
-            Err(SiteFault::Device) => {
-                self.failures = next;
-                Err(SiteFault::Device)
-            }
-            Err(fault) => Err(fault),
-        }
+        put
     }
 }

@@ -5,13 +5,14 @@ ghost use Rattle.ts_disk.specs.Modes.{private_bits};
 ghost use Rattle.ts_name.specs.Paths.{place_text};
 
 use crate::modes::{PRIVATE_DIR, PRIVATE_FILE, permissions_at};
-use crate::place::{Standing, make_private_dir};
+use crate::place::{Standing, make_missing_dir, make_private_dir, metadata_at};
 use std::fs::{Files, OpenFile, OpenOptions, Permissions};
 use std::io::{ErrorKind, Write};
 use std::os::unix::fs::{OpenOptionsExt, PermissionsExt};
 use std::{fs, io};
 use ts_model::items::Items;
 use ts_model::row::{Content, Row};
+use ts_stage::StagedFile;
 
 /// The bit by which an owner may write to a directory, as it takes to move one.
 const OWNER_WRITES: u32 = 0o200;
@@ -85,17 +86,56 @@ pub(crate) fn write_tree<R: Files + AllocGlobal>(
             Content::File(bytes) => write_file(files, place.as_str(), bytes.as_slice())?,
         }
     }
-    // from the last to the first: a directory is closed only when all below it is done
-    for row in tree.iter().rev() {
+    close_rows(files, tree, top, bits)
+}
+
+/// Does the same by what was staged, of which some files may be stored there already. All else that is missing is made.
+pub(crate) fn complete_tree<R: Files + AllocGlobal>(
+    files: &R,
+    staged: &[Row<StagedFile>],
+    top: &str,
+    bits: &Bits<'_>,
+) -> io::Result<()> {
+    for row in staged {
+        let place = below(files, row, top)?;
+        match &row.content {
+            Content::Absent => {}
+            Content::Dir => make_missing_dir(files, place.as_str())?,
+            Content::File(file) => match file.bytes() {
+                Some(bytes) => write_file(files, place.as_str(), bytes)?,
+                None => look_for_stored(files, place.as_str(), file.size())?,
+            },
+        }
+    }
+    close_rows(files, staged, top, bits)
+}
+
+/// Fails where no file of this size is at a place. What its pieces stored has reached the device.
+fn look_for_stored<R: Files>(files: &R, place: &str, size: u64) -> io::Result<()> {
+    match metadata_at(files, place)? {
+        Some(metadata) if metadata.is_file() && metadata.len() == size => Ok(()),
+        _ => Err(io::Error::from(ErrorKind::NotFound)),
+    }
+}
+
+/// Gives each file and directory its permission bits, from the last to the first: a directory is closed only when all below
+/// it is done.
+fn close_rows<R: Files + AllocGlobal, T>(
+    files: &R,
+    rows: &[Row<T>],
+    top: &str,
+    bits: &Bits<'_>,
+) -> io::Result<()> {
+    for row in rows.iter().rev() {
         close_row(files, row, top, bits)?;
     }
     Ok(())
 }
 
 /// Gives one file or directory its permission bits. Where the file system keeps no such bits, it does without.
-fn close_row<R: Files + AllocGlobal>(
+fn close_row<R: Files + AllocGlobal, T>(
     files: &R,
-    row: &Row<Items<u8>>,
+    row: &Row<T>,
     top: &str,
     bits: &Bits<'_>,
 ) -> io::Result<()> {
@@ -119,9 +159,9 @@ fn close_row<R: Files + AllocGlobal>(
 }
 
 /// Gives a directory that was put in place the permission bits that it couldn't be moved with.
-pub(crate) fn close_top<R: Files + AllocGlobal>(
+pub(crate) fn close_top<R: Files + AllocGlobal, T>(
     files: &R,
-    tree: &[Row<Items<u8>>],
+    tree: &[Row<T>],
     place: &str,
     bits: &Bits<'_>,
 ) -> io::Result<()> {

@@ -1,0 +1,57 @@
+-- Where a run over a pair stores what its pieces read.
+--     root_from first second from           of two replicas' roots, that of the replica that is copied into
+--     IsCopiedTo entry first second root    the replica with this root is the one that the entry is copied into
+--     IsStoredAt entry n root path place    the place of the file at this whole path, which entry n copies
+--     cause_number cause                    the number by which a cause is kept
+--     failure_number failure                the number by which it is kept why an entry failed, where 0 is that it didn't
+use Rattle.std.specs.Prelude.{◌≡◌, ◌++◌, ◌+◌, ℕ, List, Some, codes, decimal}
+use Rattle.ts_cause.specs.declared.cause.Cause.{Cause}
+use Rattle.ts_cause.specs.declared.cause.Cause.TheVariants as cause
+use Rattle.ts_disk.specs.declared.stage.Failure.{Failure}
+use Rattle.ts_disk.specs.declared.stage.Failure.TheVariants as failure
+use Rattle.ts_model.specs.Plans.{source}
+use Rattle.ts_model.specs.declared.plan.Entry.{Entry}
+use Rattle.ts_model.specs.declared.plan.Side.{Side}
+use Rattle.ts_model.specs.declared.plan.Side.TheVariants.{First, Second}
+use Rattle.ts_name.specs.Paths.{Path, place_text}
+
+-- what is copied from one replica goes into the other
+abbrev pub root_from : List ℕ → List ℕ → Side → List ℕ
+root_from first second First = second
+root_from first second Second = first
+
+-- the place of the stage of the entry of this number
+abbrev pub stage_text : List ℕ → ℕ → List ℕ
+stage_text root number = root ++ codes "/.twosync/stage-" ++ decimal number
+
+-- of two replicas with these roots the entry is copied into the one with this root
+abbrev pub IsCopiedTo : Entry → List ℕ → List ℕ → List ℕ → Type 0
+IsCopiedTo entry first second root = (from : Side) × (source entry.reason ≡ Some from) × (root ≡ root_from first second from)
+
+-- below its stage the file at this whole path stands as it does below the entry's path
+abbrev pub IsStoredAt : Entry → ℕ → List ℕ → Path → List ℕ → Type 0
+IsStoredAt entry number root path place = (rest : Path) × (path ≡ entry.path ++ rest) × (place ≡ stage_text root number ++ place_text rest)
+
+abbrev pub cause_number : Cause → ℕ
+cause_number cause.Unknown = 0
+cause_number cause.Denied = 1
+cause_number cause.Full = 2
+cause_number cause.QuotaUsed = 3
+cause_number cause.ReadOnly = 4
+cause_number cause.NotThere = 5
+cause_number cause.NotFolder = 6
+cause_number cause.IsFolder = 7
+cause_number cause.Taken = 8
+cause_number cause.Busy = 9
+cause_number cause.OtherDevice = 10
+cause_number cause.TooLarge = 11
+cause_number cause.BadName = 12
+cause_number cause.LinksInCircle = 13
+cause_number cause.Unsupported = 14
+cause_number cause.Stale = 15
+cause_number cause.OutOfMemory = 16
+cause_number cause.Device = 17
+
+abbrev pub failure_number : Failure → ℕ
+failure_number failure.OutOfMemory = 1
+failure_number (failure.Device cause) = cause_number cause + 2

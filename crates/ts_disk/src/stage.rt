@@ -1,0 +1,521 @@
+//! The stage of a run over a pair on a disk: pieces store what they read in the replica that it is copied into.
+ghost use Rattle.std.specs.Prelude.{◌≡◌, ◌++◌, ℕ, List, IfErr, IfNone, IfOk, IfSome, Some, codes, length};
+ghost use Rattle.std.specs.String.{string_bytes};
+ghost use Rattle.ts_cause.specs.declared.cause.Cause.{Cause};
+ghost use Rattle.ts_disk.specs.Stages.{IsCopiedTo, IsStoredAt, cause_number, failure_number, root_from, stage_text};
+ghost use Rattle.ts_disk.specs.declared.stage.Failure.{Failure};
+ghost use Rattle.ts_model.specs.Plans.{source};
+ghost use Rattle.ts_model.specs.declared.plan.Side.{Side};
+ghost use Rattle.ts_name.specs.Paths.{IsAbove};
+
+use crate::aside::new_buffer;
+use crate::fault::DiskFault;
+use crate::leftover::remove_at;
+use crate::modes::PRIVATE_FILE;
+use crate::place::{Standing, kind_at, make_missing_dir, make_own, own_place, stage_place};
+use std::alloc::{AllocError, Global};
+use std::fs::{File, Files, OpenOptions};
+use std::io;
+use std::io::ErrorKind;
+use std::os::unix::fs::{FileExt, OpenOptionsExt};
+use std::sync::atomic::{AtomicU64, Ordering};
+use ts_cause::{Cause, cause_of};
+use ts_check::Checked;
+use ts_model::items::Items;
+use ts_model::plan::{Entry, Kind, Plan, Side};
+use ts_name::Path;
+use ts_stage::{Piece, ReadBack, Reading, Stage, StageFault};
+
+/// The stage of a run over a pair on a disk, for all its workers at once. What the pieces of entry `K` read lies in
+/// `.twosync/stage-K` in the replica that it is copied into, as it stands below the entry's path, until its commit takes it.
+///
+/// A piece that can't be stored fails its entry alone: the entry's stage is removed at once, and its other pieces aren't stored
+/// any more.
+pub struct DiskStage<R> {
+    files: R,
+    first: String,
+    second: String,
+    // At the number of a piece that begins a file, how many of the file's pieces aren't stored yet; 0 where it is the only one,
+    // which nobody counts. At that of another piece the number of the one that begins its file, which stays.
+    waiting: Vec<AtomicU64>,
+    // for each entry 0, or by its number why its pieces aren't stored any more: whichever failure came first
+    failed: Vec<AtomicU64>,
+}
+
+/// Written out, so that a proof of what drops one stays short.
+impl<R: Drop> Drop for DiskStage<R> {
+    fn drop(self) {
+        let DiskStage {
+            files,
+            first,
+            second,
+            waiting,
+            failed,
+        } = self;
+        drop(files);
+        drop(first);
+        drop(second);
+        drop(waiting);
+        drop(failed);
+    }
+}
+
+/// Why the pieces of an entry aren't stored any more.
+#[derive(Clone, Copy, Debug, PartialEq, Eq, Drop)]
+enum Failure {
+    OutOfMemory,
+    Device { cause: Cause },
+}
+
+/// Whether a piece that was stored was the last of its file.
+#[derive(Clone, Copy, Debug, PartialEq, Eq, Drop)]
+enum Turn {
+    /// Others are still to be stored.
+    NotYet,
+    /// It was the last one, and others were stored before.
+    Last,
+    /// The file has no other.
+    Only,
+}
+
+/// Where the pieces of an entry are stored, and where the file of one of them is.
+#[derive(Drop)]
+struct StagePlace {
+    own: String,
+    stage: String,
+    file: String,
+}
+
+impl<R: Drop> DiskStage<R> {
+    /// The stage of a run that carries out a plan over replicas with these roots. Nothing is made yet.
+    pub fn new(
+        alloc: Global,
+        files: R,
+        checked: &Checked<'_>,
+        first: &str,
+        second: &str,
+    ) -> Result<DiskStage<R>, DiskFault>
+        ensures roots { IfOk result (λ stage. (string_bytes stage.first ≡ first.now) × (string_bytes stage.second ≡ second.now)) }
+        ensures fault { IfErr result (λ e. e ≡ DiskFault.OutOfMemory) }
+    {
+        let plan = checked.plan();
+        let waiting = words(alloc, counts(alloc, checked)?.as_slice())?;
+        let none = vec![in alloc; 0u64; plan.entries.as_slice().len()]?;
+        let failed = words(alloc, none.as_slice())?;
+        let first = String::from_str(alloc, first)?;
+        let second = String::from_str(alloc, second)?;
+        Ok(DiskStage {
+            files,
+            first,
+            second,
+            waiting,
+            failed,
+        })
+    }
+
+    /// Why the pieces of the entry of this number weren't stored, as far as the system says.
+    pub fn cause(&self, entry: u32) -> Cause {
+        match self.failure(entry) {
+            Some(Failure::Device { cause }) => cause,
+            Some(Failure::OutOfMemory) | None => Cause::Unknown,
+        }
+    }
+
+    /// Why the pieces of an entry aren't stored any more. None where they still are.
+    fn failure(&self, entry: u32) -> Option<Failure> {
+        let word = self.failed.get(entry as usize)?;
+        failure_of(word.load(Ordering::SeqCst))
+    }
+
+    /// Notes why the pieces of an entry aren't stored any more. Who comes first fails by that. All others are answered as if they
+    /// were stored, so that an entry is reported once: its commit waits for the one that failed, and is never made.
+    fn give_up(&self, entry: u32, failure: Failure) -> Result<Option<ReadBack>, Failure> {
+        let Some(word) = self.failed.get(entry as usize) else {
+            return Err(failure);
+        };
+        match word.compare_exchange(0, number_of(failure), Ordering::SeqCst, Ordering::SeqCst) {
+            Ok(_) => Err(failure),
+            Err(_) => Ok(None),
+        }
+    }
+
+    /// Counts a piece as stored.
+    fn count_down(&self, action: u32, offset: u64) -> Turn {
+        let Some(word) = self.waiting.get(action as usize) else {
+            return Turn::NotYet;
+        };
+        let seen = word.load(Ordering::SeqCst);
+        if offset == 0 {
+            return if seen == 0 {
+                Turn::Only
+            } else {
+                take_one(word)
+            };
+        }
+        match self.waiting.get(seen as usize) {
+            Some(word) => take_one(word),
+            None => Turn::NotYet,
+        }
+    }
+
+    /// Where the pieces of an entry are stored, which has this number, and where the file at this whole path is. None where the
+    /// entry isn't copied, or copies no such file.
+    fn place(
+        &self,
+        alloc: Global,
+        number: u32,
+        entry: &Entry,
+        path: &Path,
+    ) -> Result<Option<StagePlace>, AllocError>
+        ensures none { IfOk result (λ found. IfNone found ((from : Side) → source entry.now.reason ≡ Some from → ¬ IsAbove entry.now.path path.now)) }
+        ensures stage { IfOk result (λ found. IfSome found (λ place. (root : List ℕ)
+            × IsCopiedTo entry.now (string_bytes self.now.first) (string_bytes self.now.second) root
+            × (string_bytes place.own ≡ root ++ codes "/.twosync") × (string_bytes place.stage ≡ stage_text root number)
+            × IsStoredAt entry.now number root path.now (string_bytes place.file))) }
+    {
+        let Some(from) = entry.reason.source() else {
+            return Ok(None);
+        };
+        let Some(rest) = path.below(alloc, &entry.path)? else {
+            return Ok(None);
+        };
+        let own = own_place(alloc, self.root_from(from))?;
+        let stage = stage_place(alloc, own.as_str(), number)?;
+        let file = rest.place_below(alloc, stage.as_str())?;
+        Ok(Some(StagePlace { own, stage, file }))
+    }
+
+    /// The root of the replica that is copied into, by the one that is copied from.
+    fn root_from(&self, from: Side) -> &str
+        ensures { result.now ≡ root_from (string_bytes self.now.first) (string_bytes self.now.second) from }
+    {
+        match from {
+            Side::First => self.second.as_str(),
+            Side::Second => self.first.as_str(),
+        }
+    }
+}
+
+impl<R: Files<File = File> + AllocGlobal + Clone + Drop> DiskStage<R> {
+    /// Writes the bytes of a piece to their place. Where they were the last of their file that were missing, it waits until the
+    /// file has reached the device, all that others wrote into it too, and answers what the file then has.
+    fn write(
+        &self,
+        alloc: Global,
+        action: u32,
+        place: &StagePlace,
+        offset: u64,
+        bytes: &Items<u8>,
+    ) -> io::Result<Option<ReadBack>> {
+        let file = open_stored(&self.files, place)?;
+        file.write_all_at(bytes.as_slice(), offset)?;
+        let whole = match self.count_down(action, offset) {
+            Turn::NotYet => return Ok(None),
+            Turn::Last => read_back(&self.files, alloc, &file)?,
+            Turn::Only => stamped(alloc, bytes)?,
+        };
+        file.sync_all()?;
+        Ok(Some(whole))
+    }
+
+    /// Stores the bytes of a piece. After a failure the entry's stage is removed by each who comes upon it: so it goes after the
+    /// last write into it, too.
+    fn keep(
+        &self,
+        alloc: Global,
+        action: u32,
+        number: u32,
+        entry: &Entry,
+        path: &Path,
+        offset: u64,
+        bytes: &Items<u8>,
+    ) -> Result<Option<ReadBack>, Failure> {
+        if self.failure(number).is_some() {
+            return Ok(None);
+        }
+        let place = match self.place(alloc, number, entry, path) {
+            Ok(Some(place)) => place,
+            Ok(None) => {
+                return self.give_up(
+                    number,
+                    Failure::Device {
+                        cause: Cause::Unknown,
+                    },
+                );
+            }
+            Err(AllocError) => return self.give_up(number, Failure::OutOfMemory),
+        };
+        let stored = match self.write(alloc, action, &place, offset, bytes) {
+            Ok(whole) if self.failure(number).is_none() => return Ok(whole),
+            Ok(_) => Ok(None),
+            Err(e) => self.give_up(number, failure_by(&e)),
+        };
+        let _ = remove_at(&self.files, place.stage.as_str());
+        stored
+    }
+}
+
+impl<R: Files<File = File> + AllocGlobal + Clone + Drop + Sync> Stage for DiskStage<R> {
+    ghost fails = { λ _. Unit {0} };
+
+    fn store(
+        &self,
+        alloc: Global,
+        action: u32,
+        number: u32,
+        entry: &Entry,
+        path: &Path,
+        offset: u64,
+        bytes: Vec<u8>,
+    ) -> Result<Piece, StageFault> {
+        let bytes = Items::new(bytes);
+        match self.keep(alloc, action, number, entry, path, offset, &bytes) {
+            Ok(whole) => Ok(Piece::stored(&bytes, whole)),
+            Err(Failure::OutOfMemory) => Err(StageFault::OutOfMemory),
+            Err(Failure::Device { cause: _ }) => Err(StageFault::Device),
+        }
+    }
+}
+
+/// Takes one from a count, and answers whether it was the last.
+fn take_one(word: &AtomicU64) -> Turn {
+    if word.fetch_sub(1, Ordering::SeqCst) == 1 {
+        Turn::Last
+    } else {
+        Turn::NotYet
+    }
+}
+
+/// The same numbers as words that threads share.
+fn words(alloc: Global, numbers: &[u64]) -> Result<Vec<AtomicU64>, AllocError>
+    ensures { IfOk result (λ words. length words.items ≡ length numbers.now) }
+{
+    let mut words = Vec::with_capacity(alloc, numbers.len())?;
+    for number in numbers {
+        words.push(AtomicU64::new(*number))?;
+    }
+    Ok(words)
+}
+
+/// For each action what `waiting` begins with.
+fn counts(alloc: Global, checked: &Checked<'_>) -> Result<Vec<u64>, AllocError>
+    ensures { IfOk result (λ counts. length counts.items ≡ length checked.now.plan.actions) }
+{
+    let plan = checked.plan();
+    let mut counts = vec![in alloc; 0u64; plan.actions.as_slice().len()]?;
+    for commit in 0..checked.action_count() {
+        count_pieces(plan, checked.pieces(commit), counts.as_mut_slice());
+    }
+    Ok(counts)
+}
+
+/// Counts the pieces of a commit, which come by path and then by offset: each file's together, and the one that begins it first.
+fn count_pieces(plan: &Plan, pieces: &[u32], counts: &mut [u64])
+    ensures { length counts.new ≡ length counts.old }
+{
+    let mut first = 0u32;
+    for piece in pieces {
+        if offset_of(plan, *piece) == 0 {
+            first = *piece;
+        } else {
+            count_one(counts, first, *piece);
+        }
+    }
+}
+
+/// Counts a piece of the file that another piece begins.
+fn count_one(counts: &mut [u64], first: u32, piece: u32)
+    ensures { length counts.new ≡ length counts.old }
+{
+    if let Some(word) = counts.get_mut(first as usize) {
+        *word = (*word).saturating_add(1).max(2);
+    }
+    if let Some(word) = counts.get_mut(piece as usize) {
+        *word = u64::from(first);
+    }
+}
+
+/// Where the bytes of a piece begin in its file.
+fn offset_of(plan: &Plan, piece: u32) -> u64 {
+    match plan.actions.as_slice().get(piece as usize) {
+        Some(action) => match &action.kind {
+            Kind::Piece { offset, .. } => *offset,
+            Kind::Commit { .. } | Kind::Mark { .. } => 0,
+        },
+        None => 0,
+    }
+}
+
+/// Opens the file at a place in a stage, for its owner alone, and makes it and the directories above it where they are missing.
+/// What others have written into it stays. No link is followed: a file that is made is a new one, and one that is there is no
+/// link.
+fn open_stored<R: Files<File = File>>(files: &R, place: &StagePlace) -> io::Result<File> {
+    let at = place.file.as_str();
+    // no link that others put in its place is followed
+    if kind_at(files, place.own.as_str())? != Standing::Dir {
+        let _took_part = make_own(files, place.own.as_str())?;
+    }
+    match open_or_make(files, at) {
+        Err(e) if e.kind() == ErrorKind::NotFound => {
+            make_dirs_above(files, at, place.stage.as_str().len())?;
+            open_or_make(files, at)
+        }
+        opened => opened,
+    }
+}
+
+/// Opens a new file, or the one that is there.
+fn open_or_make<R: Files<File = File>>(files: &R, place: &str) -> io::Result<File> {
+    match open_new(files, place) {
+        Err(e) if e.kind() == ErrorKind::AlreadyExists => open_there(files, place),
+        opened => opened,
+    }
+}
+
+/// Opens a new file.
+fn open_new<R: Files<File = File>>(files: &R, place: &str) -> io::Result<File> {
+    let mut options = OpenOptions::new();
+    options
+        .read(true)
+        .write(true)
+        .create_new(true)
+        .mode(PRIVATE_FILE);
+    options.open(files, place)
+}
+
+/// Opens a file that is there.
+fn open_there<R: Files<File = File>>(files: &R, place: &str) -> io::Result<File> {
+    match kind_at(files, place)? {
+        Standing::File => {
+            let mut options = OpenOptions::new();
+            options.read(true).write(true);
+            options.open(files, place)
+        }
+        Standing::Nothing | Standing::CutOff | Standing::Dir | Standing::Other => {
+            Err(io::Error::from(ErrorKind::AlreadyExists))
+        }
+    }
+}
+
+/// Makes the directories above a place where they are missing, from the one whose text has `top` bytes on.
+fn make_dirs_above<R: Files>(files: &R, place: &str, top: usize) -> io::Result<()> {
+    for end in top..place.len() {
+        match place.split_at_checked(end) {
+            Some((above, rest)) if rest.starts_with('/') => make_missing_dir(files, above)?,
+            _ => {}
+        }
+    }
+    Ok(())
+}
+
+/// What a file of one piece has: the bytes of that.
+fn stamped(alloc: Global, bytes: &Items<u8>) -> io::Result<ReadBack>
+    ensures { IfOk result (λ back. back ≡ bytes.now) }
+{
+    let mut reading = Reading::begin(alloc);
+    reading.add(bytes)?;
+    Ok(reading.end())
+}
+
+/// What an open file has, from its beginning to its end.
+fn read_back<R: AllocGlobal>(files: &R, alloc: Global, file: &File) -> io::Result<ReadBack> {
+    let mut reading = Reading::begin(alloc);
+    let mut offset = 0u64;
+    for _ in 0..u64::MAX {
+        let mut part = new_buffer(files)?;
+        match file.read_at(part.as_mut_slice(), offset) {
+            Ok(0) => break,
+            Ok(count) => {
+                part.truncate(count);
+                reading.add(&Items::new(part))?;
+                offset = offset.saturating_add(count as u64);
+            }
+            Err(e) if e.kind() == ErrorKind::Interrupted => {}
+            Err(e) => return Err(e),
+        }
+    }
+    Ok(reading.end())
+}
+
+/// Why a piece isn't stored, as a call failed with this error.
+fn failure_by(e: &io::Error) -> Failure {
+    if e.kind() == ErrorKind::OutOfMemory {
+        Failure::OutOfMemory
+    } else {
+        Failure::Device { cause: cause_of(e) }
+    }
+}
+
+/// The number by which a failure is noted.
+fn number_of(failure: Failure) -> u64
+    ensures { result ≡ failure_number failure }
+{
+    match failure {
+        Failure::OutOfMemory => 1,
+        Failure::Device { cause } => number_of_cause(cause) + 2,
+    }
+}
+
+/// The failure that is noted by a number. None where none is.
+fn failure_of(number: u64) -> Option<Failure>
+    ensures { (failure : Failure) → number ≡ failure_number failure → result ≡ Some failure }
+{
+    match number {
+        0 => None,
+        1 => Some(Failure::OutOfMemory),
+        _ => Some(Failure::Device {
+            cause: cause_of_number(number - 2),
+        }),
+    }
+}
+
+fn number_of_cause(cause: Cause) -> u64
+    ensures { result ≡ cause_number cause }
+{
+    match cause {
+        Cause::Unknown => 0,
+        Cause::Denied => 1,
+        Cause::Full => 2,
+        Cause::QuotaUsed => 3,
+        Cause::ReadOnly => 4,
+        Cause::NotThere => 5,
+        Cause::NotFolder => 6,
+        Cause::IsFolder => 7,
+        Cause::Taken => 8,
+        Cause::Busy => 9,
+        Cause::OtherDevice => 10,
+        Cause::TooLarge => 11,
+        Cause::BadName => 12,
+        Cause::LinksInCircle => 13,
+        Cause::Unsupported => 14,
+        Cause::Stale => 15,
+        Cause::OutOfMemory => 16,
+        Cause::Device => 17,
+    }
+}
+
+/// The cause that has a number.
+fn cause_of_number(number: u64) -> Cause
+    ensures { (cause : Cause) → number ≡ cause_number cause → result ≡ cause }
+{
+    match number {
+        1 => Cause::Denied,
+        2 => Cause::Full,
+        3 => Cause::QuotaUsed,
+        4 => Cause::ReadOnly,
+        5 => Cause::NotThere,
+        6 => Cause::NotFolder,
+        7 => Cause::IsFolder,
+        8 => Cause::Taken,
+        9 => Cause::Busy,
+        10 => Cause::OtherDevice,
+        11 => Cause::TooLarge,
+        12 => Cause::BadName,
+        13 => Cause::LinksInCircle,
+        14 => Cause::Unsupported,
+        15 => Cause::Stale,
+        16 => Cause::OutOfMemory,
+        17 => Cause::Device,
+        _ => Cause::Unknown,
+    }
+}
