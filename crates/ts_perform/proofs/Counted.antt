@@ -27,12 +27,12 @@ same_lets t u first second side.First = first
 same_lets t u first second side.Second = second
 
 -- where both folders tell the same and may fail alike, an outcome of the one run is one of the other
-pub of_others : {S : Type 0} {site : Ghosts S} {k : Checkup} {t u : Tells} {l m : Lets} {told : List (Option (Option (Listing (List ℕ))))} {breaks stops : Type 0} (o : Outcome S site)
-    → IsOutcomeOf {S = S} {site = site} (record { checkup = k; tells = t; lets = l; told = told; breaks = breaks; stops = stops }) o
+pub of_others : {S : Type 0} {site : Ghosts S} {k : Checkup} {t u : Tells} {l m : Lets} {told : List (Option (Option (Listing (List ℕ))))} {breaks jams stops : Type 0} (o : Outcome S site)
+    → IsOutcomeOf {S = S} {site = site} (record { checkup = k; tells = t; lets = l; told = told; breaks = breaks; jams = jams; stops = stops }) o
     → t side.First ≡ u side.First → t side.Second ≡ u side.Second → l side.First ≡ m side.First → l side.Second ≡ m side.Second
-    → IsOutcomeOf {S = S} {site = site} (record { checkup = k; tells = u; lets = m; told = told; breaks = breaks; stops = stops }) o
-of_others {S} {site} {k} {t} {u} {l} {m} {told} {breaks} {stops} o is t_first t_second l_first l_second =
-    subst₂ (λ (a : Tells) (b : Lets). IsOutcomeOf {S = S} {site = site} (record { checkup = k; tells = a; lets = b; told = told; breaks = breaks; stops = stops }) o)
+    → IsOutcomeOf {S = S} {site = site} (record { checkup = k; tells = u; lets = m; told = told; breaks = breaks; jams = jams; stops = stops }) o
+of_others {S} {site} {k} {t} {u} {l} {m} {told} {breaks} {jams} {stops} o is t_first t_second l_first l_second =
+    subst₂ (λ (a : Tells) (b : Lets). IsOutcomeOf {S = S} {site = site} (record { checkup = k; tells = a; lets = b; told = told; breaks = breaks; jams = jams; stops = stops }) o)
     (λ i s. same_tells t u t_first t_second s i) (λ i s. same_lets l m l_first l_second s i) is
 
 -- what is said of an answer that is right holds of what was answered

@@ -7,7 +7,6 @@ mod Reported
 mod Pairs
 mod Printing
 mod Putting
-mod Staged
 mod Copied
 mod Adding
 mod Counted

@@ -1,6 +1,6 @@
 -- Paths that are too long for the system.
 --     path_bytes path         how many bytes a path has below a root: those of its names, each with a slash before it
---     spot_bytes number       how many bytes the place has below a root at which the entry of this number is staged or moved aside
+--     spot_bytes number       how many bytes the longest place has below a root at which the entry of this number is stored, staged or moved aside
 --     is_past root spot entry path   the system doesn't take this path of an entry below a root of so many bytes, or not while the entry is at its spot
 --     fault_below root what fault  the fault of a scan of the folder with this root; where the system doesn't take the path at all, that is what it is
 use Rattle.std.specs.Prelude.{ℕ, ◌+◌, ◌-◌, ◌++◌, ◌||◌, Bool, List, codes, decimal, length, sum_by, nat_lt, if◌then◌else◌}
@@ -20,7 +20,7 @@ abbrev pub most_bytes : ℕ
 most_bytes = 4095
 
 abbrev pub spot_bytes : ℕ → ℕ
-spot_bytes number = length (codes "/.twosync/new-" ++ decimal number)
+spot_bytes number = length (codes "/.twosync/stage-" ++ decimal number)
 
 -- at its own place, or below the spot of its entry
 abbrev pub is_past : ℕ → ℕ → Path → Path → Bool

@@ -13,6 +13,5 @@ pub mod Skips
 pub mod Snapshots
 pub mod Spacing
 pub mod Specials
-pub mod Staging
 pub mod Stands
 pub mod Trials

@@ -60,7 +60,7 @@ use Rattle.ts_perform.specs.Pasts.{IsOfBoth}
 use Rattle.ts_perform.specs.Skips.{asked_skips}
 use Rattle.ts_perform.specs.Snapshots.{IsBegun, IsBrokenAt, IsPlanned, IsValidAt, IsValidBegun, valid_text}
 use Rattle.ts_perform.specs.Specials.{FindsSpecial}
-use Rattle.ts_perform.specs.Stands.{IsAt, IsRunOf, Stand}
+use Rattle.ts_perform.specs.Stands.{IsAt, IsRunOf, IsStaged, Stand}
 use Rattle.ts_perform.specs.Trials.{IsQuiet}
 use Rattle.ts_explain.specs.declared.fault.PerformFault.{PerformFault}
 use Rattle.ts_explain.specs.declared.fault.PerformFault.TheVariants as fault
@@ -169,41 +169,41 @@ HasKept has k words place = (rows : Listing Stamp) × LeftArchive k words rows �
 -- the plan is valid for the archive and the rules that were read for the pair, and the scans of its replicas; the results are those of
 -- one run of it, whose commits were made where they stand; and the archive that this run left was written in the place that has its name,
 -- unless it is lost
-pub record IsCarriedOut {S F A : Type 0} (stand : S → Stand) (content : S → Option (Listing (List ℕ))) (failures : S → ℕ)
-    (is_at : IsAt F) (tells : F → Option (Listing (List ℕ))) (lets : F → Call → Path → Trouble → Type 0)
+pub record IsCarriedOut {S P F A : Type 0} (stand : S → Stand) (content : S → Option (Listing (List ℕ))) (failures : S → ℕ)
+    (fails : P → Type 0) (is_staged : IsStaged P) (is_at : IsAt F) (tells : F → Option (Listing (List ℕ))) (lets : F → Call → Path → Trouble → Type 0)
     (is_named : A → List ℕ → Type 0) (has : A → Listing Stamp → Type 0) (finds : Finds) (finds_special : FindsSpecial) (pair : Pair) (came : Came) : Type 0 where
   pub seen : IsSeenFor is_at tells finds finds_special pair came.checkup.archive came.checkup.rules came.checkup.first came.checkup.second
   pub valid : Valid (snapshot_of came.checkup) came.checkup.plan
   pub safe : IsSafe (snapshot_of came.checkup) came.checkup.plan
   pub words : List ℕ
   pub slots : List (Slot S)
-  pub run : IsRunOf stand content failures is_at tells lets pair.first.now pair.second.now came.checkup came.results words slots
+  pub run : IsRunOf stand content failures fails is_staged is_at tells lets pair.first.now pair.second.now came.checkup came.results words slots
   pub archive : IfNone came.lost ((place : A) × is_named place pair.archive.now × HasKept has came.checkup words place)
 
 -- the same of this plan, with what it was checked against
-pub record IsCarriedOutFor {S F A : Type 0} (k : Checkup) (stand : S → Stand) (content : S → Option (Listing (List ℕ))) (failures : S → ℕ)
-    (is_at : IsAt F) (tells : F → Option (Listing (List ℕ))) (lets : F → Call → Path → Trouble → Type 0)
+pub record IsCarriedOutFor {S P F A : Type 0} (k : Checkup) (stand : S → Stand) (content : S → Option (Listing (List ℕ))) (failures : S → ℕ)
+    (fails : P → Type 0) (is_staged : IsStaged P) (is_at : IsAt F) (tells : F → Option (Listing (List ℕ))) (lets : F → Call → Path → Trouble → Type 0)
     (is_named : A → List ℕ → Type 0) (has : A → Listing Stamp → Type 0) (finds : Finds) (finds_special : FindsSpecial) (pair : Pair) (came : Came) : Type 0 where
   pub checkup : came.checkup ≡ k
-  pub carried_out : IsCarriedOut stand content failures is_at tells lets is_named has finds finds_special pair came
+  pub carried_out : IsCarriedOut stand content failures fails is_staged is_at tells lets is_named has finds finds_special pair came
 
 -- the same of the plan that was read from the file of this name
-pub record IsRun {S F A : Type 0} (stand : S → Stand) (content : S → Option (Listing (List ℕ))) (failures : S → ℕ)
-    (is_at : IsAt F) (tells : F → Option (Listing (List ℕ))) (lets : F → Call → Path → Trouble → Type 0)
+pub record IsRun {S P F A : Type 0} (stand : S → Stand) (content : S → Option (Listing (List ℕ))) (failures : S → ℕ)
+    (fails : P → Type 0) (is_staged : IsStaged P) (is_at : IsAt F) (tells : F → Option (Listing (List ℕ))) (lets : F → Call → Path → Trouble → Type 0)
     (is_named : A → List ℕ → Type 0) (has : A → Listing Stamp → Type 0) (finds : Finds) (finds_special : FindsSpecial) (pair : Pair) (name : List ℕ)
     (came : Came) : Type 0 where
   pub plan : IsReadAt finds IsPlanText name came.checkup.plan
-  pub carried_out : IsCarriedOut stand content failures is_at tells lets is_named has finds finds_special pair came
+  pub carried_out : IsCarriedOut stand content failures fails is_staged is_at tells lets is_named has finds finds_special pair came
 
 -- the same of a plan that `resume` made for the archive, the rules and the scans; and where just one replica took part before, the archive
 -- names no path
-pub record IsSynced {S F A L : Type 0} (stand : S → Stand) (content : S → Option (Listing (List ℕ))) (failures : S → ℕ)
-    (is_at : IsAt F) (tells : F → Option (Listing (List ℕ))) (lets : F → Call → Path → Trouble → Type 0)
+pub record IsSynced {S P F A L : Type 0} (stand : S → Stand) (content : S → Option (Listing (List ℕ))) (failures : S → ℕ)
+    (fails : P → Type 0) (is_staged : IsStaged P) (is_at : IsAt F) (tells : F → Option (Listing (List ℕ))) (lets : F → Call → Path → Trouble → Type 0)
     (is_named : A → List ℕ → Type 0) (has : A → Listing Stamp → Type 0) (finds : Finds) (finds_special : FindsSpecial)
     (is_locked : Option L → List ℕ → Type 0) (took stopped : L → Bool → Type 0) (pair : Pair) (came : Came) : Type 0 where
   pub planned : IsPlanned came.checkup
   pub both : IsOfBoth is_locked took stopped pair came.checkup.archive
-  pub carried_out : IsCarriedOut stand content failures is_at tells lets is_named has finds finds_special pair came
+  pub carried_out : IsCarriedOut stand content failures fails is_staged is_at tells lets is_named has finds finds_special pair came
 
 -- ---- what is answered
 

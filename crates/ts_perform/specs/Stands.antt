@@ -11,7 +11,7 @@ use Rattle.ts_name.specs.Paths.{Path}
 use Rattle.ts_board.specs.Terms.{placed, terms_with}
 use Rattle.ts_board.specs.declared.law.Slot.{Slot}
 use Rattle.ts_check.specs.Checkup.{Checkup}
-use Rattle.ts_exec.specs.Failures.{of_side, setting_with}
+use Rattle.ts_exec.specs.Failures.{of_side, or_jammed, setting_with}
 use Rattle.ts_exec.specs.Outcomes.{IsOutcome}
 use Rattle.ts_exec.specs.declared.outcome.ActionResult.{ActionResult}
 use Rattle.ts_command.specs.declared.job.Pair.{Pair}
@@ -72,6 +72,10 @@ AreAtStands stand first second plan sites = map (λ s. Some (stand s)) sites ≡
 abbrev pub IsAt : Type 0 → Type 1
 IsAt F = F → List ℕ → List Path → Type 0
 
+-- a stage was asked for by the roots of both replicas
+abbrev pub IsStaged : Type 0 → Type 1
+IsStaged P = P → List ℕ → List ℕ → Type 0
+
 -- it is the print of the tree which that folder tells, if it tells one
 abbrev pub IsScanOf : {F : Type 0} → IsAt F → (F → Option (Listing (List ℕ))) → List ℕ → List Path → Listing Stamp → Type 0
 IsScanOf {F} is_at tells root special print = (folder : F) × is_at folder root special × IfSome (tells folder) (λ tree. at print ≡ print_of (at tree))
@@ -81,8 +85,10 @@ pub record AreScans {F : Type 0} (is_at : IsAt F) (tells : F → Option (Listing
   pub of_first : IsScanOf is_at tells pair.first.now special.first first
   pub of_second : IsScanOf is_at tells pair.second.now special.second second
 
--- the sites with which the run began, each at its stand, and the folders that it read, each at its root and without stand-ins
-pub record IsRunOf {S F : Type 0} (stand : S → Stand) (content : S → Option (Listing (List ℕ))) (failures : S → ℕ) (is_at : IsAt F)
+-- the sites with which the run began, each at its stand, the folders that it read, each at its root and without stand-ins, and the stage of its
+-- pieces, which was asked for by both roots in their order
+pub record IsRunOf {S P F : Type 0} (stand : S → Stand) (content : S → Option (Listing (List ℕ))) (failures : S → ℕ)
+    (fails : P → Type 0) (is_staged : IsStaged P) (is_at : IsAt F)
     (tells : F → Option (Listing (List ℕ))) (lets : F → Call → Path → Trouble → Type 0) (first second : List ℕ) (checkup : Checkup)
     (results : List ActionResult) (words : List ℕ) (slots : List (Slot S)) : Type 0 where
   pub sites : List S
@@ -91,6 +97,8 @@ pub record IsRunOf {S F : Type 0} (stand : S → Stand) (content : S → Option 
   pub from_second : F
   pub at_first : is_at from_first first []
   pub at_second : is_at from_second second []
+  pub stage : P
+  pub staged : is_staged stage first second
   pub outcome :
       let t = terms_with content checkup.plan checkup.first checkup.second (placed checkup.plan.actions sites) in
-      IsOutcome content (setting_with failures tells lets checkup from_first from_second t.told) t results words slots
+      IsOutcome content (or_jammed (fails stage) (setting_with failures tells lets checkup from_first from_second t.told)) t results words slots

@@ -15,7 +15,6 @@ use crate::counting::{Folders, run_counted};
 use crate::disk::{Disk, Machine};
 use crate::fault::{PerformFault, Subject, of_disk, replica_on};
 use crate::keeping::PlaceKeeper;
-use crate::room::{largest_commit, workers_with_room};
 use crate::spacing::usual_spacing;
 use crate::task::Task;
 use std::alloc::Global;
@@ -28,19 +27,23 @@ use ts_model::plan::{Action, Entry, Kind, Plan, Reason, Side};
 use ts_name::Path;
 use ts_special::Specials;
 
-/// Carries out a checked plan by the task's workers, or by fewer where commits are large, and writes its archive to its place
-/// from time to time. The outcome is that of commits each of which is made in the replica that its entry is copied to.
+/// How many workers carry a plan out at most. Each has a piece of up to 1 MiB at hand, and all of them together are to hold less
+/// than 64 MiB.
+const MOST_WORKERS: u32 = 48;
+
+/// Carries out a checked plan by the task's workers, and writes its archive to its place from time to time. The outcome is that of
+/// commits each of which is made in the replica that its entry is copied to; the stage knows why pieces failed.
 pub(crate) fn act<R: Machine>(
     task: &Task<'_, R>,
     place: &mut R::Archive,
     checked: &Checked<'_>,
-) -> Result<Outcome<R::Site>, PerformFault>
-    ensures count { IfOk result (λ o. length o.results.items ≡ length checked.now.plan.actions) }
-    ensures words { IfOk result (λ o. length checked.now.plan.actions ≤ slots_len o.closed.row.words) }
-    ensures slots { IfOk result (λ o. length checked.now.plan.actions ≤ slots_len o.closed.row.slots) }
-    ensures ended { IfOk result (λ o. HasEnded checked.now (words_of o.closed)) }
-    ensures stands { IfOk result (λ o. IsRunOf R.stand R.Site.content R.Site.failures R.is_at R.Folder.tells R.Folder.lets
-        task.now.pair.now.first.now task.now.pair.now.second.now checked.now o.results.items (words_of o.closed) (slots_of o.closed)) }
+) -> Result<(Outcome<R::Site>, R::Stage), PerformFault>
+    ensures count { IfOk result (λ came. length came.0.results.items ≡ length checked.now.plan.actions) }
+    ensures words { IfOk result (λ came. length checked.now.plan.actions ≤ slots_len came.0.closed.row.words) }
+    ensures slots { IfOk result (λ came. length checked.now.plan.actions ≤ slots_len came.0.closed.row.slots) }
+    ensures ended { IfOk result (λ came. HasEnded checked.now (words_of came.0.closed)) }
+    ensures stands { IfOk result (λ came. IsRunOf R.stand R.Site.content R.Site.failures R.Stage.fails R.is_staged R.is_at R.Folder.tells R.Folder.lets
+        task.now.pair.now.first.now task.now.pair.now.second.now checked.now came.0.results.items (words_of came.0.closed) (slots_of came.0.closed)) }
     ensures quiet { IfErr result IsQuiet }
 {
     let Task {
@@ -52,12 +55,13 @@ pub(crate) fn act<R: Machine>(
         ..
     } = task;
     let alloc = rt.alloc();
-    let workers = workers_with_room(largest_commit(checked), *workers);
+    let workers = (*workers).min(MOST_WORKERS);
     let every = match command.checkpoint {
         Some(every) => every,
         None => usual_spacing(checked, workers),
     };
     let sites = sites(*rt, *pair, checked)?;
+    let stage = rt.stage(alloc, checked, pair.first, pair.second)?;
     let first = rt.folder(alloc, pair.first, Specials::none(alloc))?;
     let second = rt.folder(alloc, pair.second, Specials::none(alloc))?;
     let folders = Folders {
@@ -69,9 +73,10 @@ pub(crate) fn act<R: Machine>(
         place,
         plan: checked.plan(),
     };
-    run_counted(
-        *rt, progress, checked, &folders, sites, workers, keeper, every,
-    )
+    let outcome = run_counted(
+        *rt, progress, checked, &folders, sites, &stage, workers, keeper, every,
+    )?;
+    Ok((outcome, stage))
 }
 
 /// The places of a plan's commits, in the order of the actions: each in the replica that its entry is copied to.

@@ -18,6 +18,7 @@ pub(crate) fn causes_of<R: Machine>(
     task: &Task<'_, R>,
     checked: &Checked<'_>,
     outcome: &mut Outcome<R::Site>,
+    stage: &R::Stage,
 ) -> Vec<Cause>
     requires count { length outcome.old.results.items ≡ length checked.now.plan.actions }
     requires slots { length checked.now.plan.actions ≤ slots_len outcome.old.closed.row.slots }
@@ -26,7 +27,7 @@ pub(crate) fn causes_of<R: Machine>(
     let mut causes = Vec::new(task.rt.alloc());
     if task.command.explain {
         for i in 0..checked.action_count() {
-            let cause = cause_of_action(task, checked, outcome, i);
+            let cause = cause_of_action(task, checked, outcome, stage, i);
             if causes.push(cause).is_err() {
                 break;
             }
@@ -35,12 +36,13 @@ pub(crate) fn causes_of<R: Machine>(
     causes
 }
 
-/// Why an action failed, if it did, and if the system says why: a commit by what its site keeps, a piece by what the system says
-/// of its source now.
+/// Why an action failed, if it did, and if the system says why: a commit by what its site keeps, a piece by what its stage keeps,
+/// or else by what the system says of its source now.
 fn cause_of_action<R: Machine>(
     task: &Task<'_, R>,
     checked: &Checked<'_>,
     outcome: &mut Outcome<R::Site>,
+    stage: &R::Stage,
     i: u32,
 ) -> Cause
     requires count { length outcome.old.results.items ≡ length checked.now.plan.actions }
@@ -62,9 +64,12 @@ fn cause_of_action<R: Machine>(
             entry,
             ref path,
             ..
-        } => match plan.entries.as_slice().get(entry as usize) {
-            Some(entry) => source_cause(task, entry, path).unwrap_or(Cause::Unknown),
-            None => Cause::Unknown,
+        } => match task.rt.stage_cause(stage, entry) {
+            Cause::Unknown => match plan.entries.as_slice().get(entry as usize) {
+                Some(entry) => source_cause(task, entry, path).unwrap_or(Cause::Unknown),
+                None => Cause::Unknown,
+            },
+            cause => cause,
         },
         Kind::Mark { .. } => Cause::Unknown,
     }

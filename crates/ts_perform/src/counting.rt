@@ -3,7 +3,7 @@ ghost use Rattle.std.specs.Prelude.{◌≡◌, ◌≤◌, IfErr, IfOk, IfSome, l
 ghost use Rattle.ts_board.specs.Archives.{HasEnded};
 ghost use Rattle.ts_board.specs.Calls.{HasPlaces, words_of};
 ghost use Rattle.ts_board.specs.Terms.{commit_count};
-ghost use Rattle.ts_exec.specs.Failures.{setting_for};
+ghost use Rattle.ts_exec.specs.Failures.{setting_over};
 ghost use Rattle.ts_exec.specs.Outcomes.{IsOutcomeOf};
 ghost use Rattle.ts_model.specs.Trees.{at, print_of};
 ghost use Rattle.ts_perform.specs.Trials.{IsQuiet};
@@ -13,7 +13,7 @@ use crate::fault::PerformFault;
 use crate::spacing::plan_bytes;
 use std::rt::Clock;
 use ts_check::Checked;
-use ts_exec::{Gate, Keeper, Outcome, RunFault, run_keeping};
+use ts_exec::{Gate, Keeper, Outcome, RunFault, run_staging};
 use ts_model::plan::Plan;
 use ts_print::Print;
 use ts_progress::{Amount, CountingFolder, Meter, Phase, Progress, Screen};
@@ -93,13 +93,14 @@ fn amount_of(plan: &Plan) -> Amount {
     }
 }
 
-/// Carries a checked plan out over these folders and sites, as `ts_exec::run_keeping` does.
+/// Carries a checked plan out over these folders and sites and this stage, as `ts_exec::run_staging` does.
 pub(crate) fn run_counted<R: Machine, K: Keeper>(
     rt: &R,
     progress: &Progress<'_, R>,
     checked: &Checked<'_>,
     folders: &Folders<'_, R::Folder>,
     sites: Vec<R::Site>,
+    stage: &R::Stage,
     workers: u32,
     keeper: K,
     every: u32,
@@ -107,7 +108,7 @@ pub(crate) fn run_counted<R: Machine, K: Keeper>(
     requires few { workers ≤ 64 }
     requires every { (1 ≤ every) × (every ≤ 1048576) }
     requires sites { length sites.items ≡ commit_count checked.now.plan.actions }
-    ensures outcome { IfOk result (IsOutcomeOf (setting_for R.Site.Site R.Folder.Folder checked.now folders.now.first.now folders.now.second.now sites.items)) }
+    ensures outcome { IfOk result (IsOutcomeOf (setting_over R.Site.Site R.Folder.Folder R.Stage.Stage checked.now folders.now.first.now folders.now.second.now sites.items stage.now)) }
     ensures ended { IfOk result (λ o. HasEnded checked.now (words_of o.closed)) }
     ensures wide { IfOk result (λ o. HasPlaces o.closed (length checked.now.plan.actions)) }
     ensures quiet { IfErr result IsQuiet }
@@ -122,13 +123,14 @@ pub(crate) fn run_counted<R: Machine, K: Keeper>(
         meter: &meter,
     };
     let gate = CountingGate { meter: &meter };
-    let (outcome, _keeper) = run_keeping(
+    let (outcome, _keeper) = run_staging(
         rt,
         rt.alloc(),
         checked,
         &first,
         &second,
         sites,
+        stage,
         workers,
         &gate,
         keeper,

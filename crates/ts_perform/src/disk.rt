@@ -14,9 +14,10 @@ use std::rt::Clock;
 use std::thread::Threads;
 use std::{fs, io};
 use ts_cause::{Cause, cause_of};
+use ts_check::Checked;
 use ts_disk::{
-    ArchivePlace, DiskFault, DiskSite, Lock, awaits_recovery, claim_archive, flush_above,
-    flush_above_alone, take_lock,
+    ArchivePlace, DiskFault, DiskSite, DiskStage, Lock, awaits_recovery, claim_archive,
+    flush_above, flush_above_alone, take_lock,
 };
 use ts_folder::Folder;
 use ts_name::Path;
@@ -25,6 +26,7 @@ use ts_progress::Screen;
 use ts_scan::ScanFault;
 use ts_site::Site;
 use ts_special::{HoldingFolder, Specials, search};
+use ts_stage::Stage;
 
 /// Folders by their names, the places of commits in them, their locks, and the places of archives.
 pub trait Disk {
@@ -34,6 +36,8 @@ pub trait Disk {
 
     type Site: Site;
 
+    type Stage: Stage + Sync + Drop;
+
     type Lock: Drop;
 
     type Archive: Drop;
@@ -42,6 +46,9 @@ pub trait Disk {
 
     // Where a site's commit is made.
     ghost stand: { Self.Site → Stand };
+
+    // The stage was asked for by these roots.
+    ghost is_staged: { Self.Stage → List ℕ → List ℕ → Type 0 };
 
     // The folder was asked for by this root, with stand-ins at these paths.
     ghost is_at: { Self.Folder → List ℕ → List (List (List ℕ)) → Type 0 };
@@ -101,6 +108,21 @@ pub trait Disk {
     ) -> Result<Self::Site, PerformFault>
         ensures stand { IfOk result (λ site. stand site ≡ record { root = root.now; source = source.now; path = path.now }) }
         ensures quiet { IfErr result IsQuiet };
+
+    /// Where the pieces of a checked plan are stored until their commits take them, by the roots of both replicas: each in the one
+    /// that its entry is copied to. Nothing is looked at yet.
+    fn stage(
+        &self,
+        alloc: Global,
+        checked: &Checked<'_>,
+        first: &str,
+        second: &str,
+    ) -> Result<Self::Stage, PerformFault>
+        ensures staged { IfOk result (λ stage. is_staged stage first.now second.now) }
+        ensures quiet { IfErr result IsQuiet };
+
+    /// Why the pieces of the entry of this number couldn't be stored, as far as the system says.
+    fn stage_cause(&self, stage: &Self::Stage, entry: u32) -> Cause;
 
     /// Why the commit of a site failed last, as far as the system says.
     fn site_cause(&self, site: &Self::Site) -> Cause;
@@ -193,6 +215,8 @@ impl Disk for HostRuntime {
 
     ghost stand = { λ site. record { root = string_bytes site.root; source = string_bytes site.source; path = site.path } };
 
+    ghost is_staged = { λ stage first second. (string_bytes stage.first ≡ first) × (string_bytes stage.second ≡ second) };
+
     ghost is_at = { λ folder _ specials. folder.specials ≡ specials };
 
     ghost finds_special = { λ _ _. ⊤ };
@@ -216,6 +240,8 @@ impl Disk for HostRuntime {
     type Folder = HoldingFolder<HostRuntime>;
 
     type Site = DiskSite<HostRuntime>;
+
+    type Stage = DiskStage<HostRuntime>;
 
     type Lock = Lock;
 
@@ -255,6 +281,23 @@ impl Disk for HostRuntime {
             Ok(site) => Ok(site),
             Err(_) => Err(PerformFault::OutOfMemory),
         }
+    }
+
+    fn stage(
+        &self,
+        alloc: Global,
+        checked: &Checked<'_>,
+        first: &str,
+        second: &str,
+    ) -> Result<DiskStage<HostRuntime>, PerformFault> {
+        match DiskStage::new(alloc, self.clone()?, checked, first, second) {
+            Ok(stage) => Ok(stage),
+            Err(_) => Err(PerformFault::OutOfMemory),
+        }
+    }
+
+    fn stage_cause(&self, stage: &DiskStage<HostRuntime>, entry: u32) -> Cause {
+        stage.cause(entry)
     }
 
     fn site_cause(&self, site: &DiskSite<HostRuntime>) -> Cause {

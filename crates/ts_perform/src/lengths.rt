@@ -13,9 +13,9 @@ use ts_scan::{Refusal, ScanFault};
 /// How many bytes a path of the system has at most, as Linux has it: 4,096 with the zero byte at its end.
 const MOST_BYTES: usize = 4095;
 
-/// How many bytes the place has below the root at which an entry is staged or moved aside, but for the entry's number:
-/// `/.twosync/new-` or `/.twosync/old-`.
-const SPOT_BYTES: usize = 14;
+/// How many bytes the longest place has below the root at which an entry is stored, staged or moved aside, but for the entry's
+/// number: `/.twosync/stage-`.
+const SPOT_BYTES: usize = 16;
 
 /// How many decimal digits a number has.
 fn digits_of(number: usize) -> usize

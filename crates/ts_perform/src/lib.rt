@@ -15,7 +15,6 @@ mod pending;
 pub mod performing;
 mod previewing;
 mod reporting;
-mod room;
 mod running;
 mod skips;
 mod snapshot;

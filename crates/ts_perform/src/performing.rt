@@ -55,10 +55,10 @@ pub fn perform<R: Machine, I: Source + Drop, O: Sink, E: Sink>(
     ensures check { IfCheck command.now.job (λ pair plan. AnswersVerdictPending R.awaits command.now pair (IsCheckupAt R.is_at R.Folder.tells R.finds R.finds_special pair plan)
         (O.holds out.old) (O.holds out.new) (E.holds err.old) (E.holds err.new) result) }
     ensures run { IfRun command.now.job (λ pair plan. AnswersRun command.now (IsRun
-        R.stand R.Site.content R.Site.failures R.is_at R.Folder.tells R.Folder.lets R.is_named R.has R.finds R.finds_special pair plan)
+        R.stand R.Site.content R.Site.failures R.Stage.fails R.is_staged R.is_at R.Folder.tells R.Folder.lets R.is_named R.has R.finds R.finds_special pair plan)
         (O.holds out.old) (O.holds out.new) (E.holds err.old) (E.holds err.new) result) }
     ensures sync { IfSync command.now.job (λ pair. AnswersRun command.now (IsSynced
-        R.stand R.Site.content R.Site.failures R.is_at R.Folder.tells R.Folder.lets R.is_named R.has
+        R.stand R.Site.content R.Site.failures R.Stage.fails R.is_staged R.is_at R.Folder.tells R.Folder.lets R.is_named R.has
         R.finds R.finds_special R.is_locked R.took R.stopped pair)
         (O.holds out.old) (O.holds out.new) (E.holds err.old) (E.holds err.new) result) }
 {
@@ -114,10 +114,10 @@ fn answer<R: Machine, I: Source + Drop, O: Sink, E: Sink>(
     ensures check { IfCheck command.now.job (λ pair plan. JudgesPending R.awaits command.now pair (IsCheckupAt R.is_at R.Folder.tells R.finds R.finds_special pair plan)
         (O.holds out.old) (O.holds out.new) (E.holds err.old) (E.holds err.new) result) }
     ensures run { IfRun command.now.job (λ pair plan. Ran command.now (IsRun
-        R.stand R.Site.content R.Site.failures R.is_at R.Folder.tells R.Folder.lets R.is_named R.has R.finds R.finds_special pair plan)
+        R.stand R.Site.content R.Site.failures R.Stage.fails R.is_staged R.is_at R.Folder.tells R.Folder.lets R.is_named R.has R.finds R.finds_special pair plan)
         (O.holds out.old) (O.holds out.new) (E.holds err.old) (E.holds err.new) result) }
     ensures sync { IfSync command.now.job (λ pair. Ran command.now (IsSynced
-        R.stand R.Site.content R.Site.failures R.is_at R.Folder.tells R.Folder.lets R.is_named R.has
+        R.stand R.Site.content R.Site.failures R.Stage.fails R.is_staged R.is_at R.Folder.tells R.Folder.lets R.is_named R.has
         R.finds R.finds_special R.is_locked R.took R.stopped pair)
         (O.holds out.old) (O.holds out.new) (E.holds err.old) (E.holds err.new) result) }
 {

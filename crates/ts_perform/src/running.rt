@@ -43,7 +43,7 @@ impl<R: Machine> Task<'_, R> {
         err: &mut E,
     ) -> Result<u8, PerformFault>
         ensures ran { Ran self.now.command.now (IsRun
-            R.stand R.Site.content R.Site.failures R.is_at R.Folder.tells R.Folder.lets R.is_named R.has R.finds R.finds_special self.now.pair.now plan.now)
+            R.stand R.Site.content R.Site.failures R.Stage.fails R.is_staged R.is_at R.Folder.tells R.Folder.lets R.is_named R.has R.finds R.finds_special self.now.pair.now plan.now)
             (O.holds out.old) (O.holds out.new) (E.holds err.old) (E.holds err.new) result }
     {
         let mut claims = self.claim()?;
@@ -60,7 +60,7 @@ impl<R: Machine> Task<'_, R> {
         err: &mut E,
     ) -> Result<u8, PerformFault>
         ensures ran { Ran self.now.command.now (IsSynced
-            R.stand R.Site.content R.Site.failures R.is_at R.Folder.tells R.Folder.lets R.is_named R.has
+            R.stand R.Site.content R.Site.failures R.Stage.fails R.is_staged R.is_at R.Folder.tells R.Folder.lets R.is_named R.has
             R.finds R.finds_special R.is_locked R.took R.stopped self.now.pair.now)
             (O.holds out.old) (O.holds out.new) (E.holds err.old) (E.holds err.new) result }
     {
@@ -237,7 +237,7 @@ impl<R: Machine> Task<'_, R> {
         err: &mut E,
     ) -> Result<u8, PerformFault>
         ensures ran { RanQuietly self.now.command.now (IsRun
-            R.stand R.Site.content R.Site.failures R.is_at R.Folder.tells R.Folder.lets R.is_named R.has R.finds R.finds_special self.now.pair.now plan.now)
+            R.stand R.Site.content R.Site.failures R.Stage.fails R.is_staged R.is_at R.Folder.tells R.Folder.lets R.is_named R.has R.finds R.finds_special self.now.pair.now plan.now)
             (O.holds out.old) (O.holds out.new) (E.holds err.old) (E.holds err.new) result }
     {
         self.recover(notices)?;
@@ -257,7 +257,7 @@ impl<R: Machine> Task<'_, R> {
         requires first { R.is_locked claims.old.first self.now.pair.now.first.now }
         requires second { R.is_locked claims.old.second self.now.pair.now.second.now }
         ensures ran { RanQuietly self.now.command.now (IsSynced
-            R.stand R.Site.content R.Site.failures R.is_at R.Folder.tells R.Folder.lets R.is_named R.has
+            R.stand R.Site.content R.Site.failures R.Stage.fails R.is_staged R.is_at R.Folder.tells R.Folder.lets R.is_named R.has
             R.finds R.finds_special R.is_locked R.took R.stopped self.now.pair.now)
             (O.holds out.old) (O.holds out.new) (E.holds err.old) (E.holds err.new) result }
     {
@@ -284,7 +284,7 @@ impl<R: Machine> Task<'_, R> {
         requires seen { IsSeenFor R.is_at R.Folder.tells R.finds R.finds_special self.now.pair.now
             snapshot.now.archive snapshot.now.holds snapshot.now.first snapshot.now.second }
         ensures ran { RanQuietly self.now.command.now (IsCarriedOutFor (checkup_of snapshot.now plan.now)
-            R.stand R.Site.content R.Site.failures R.is_at R.Folder.tells R.Folder.lets R.is_named R.has R.finds R.finds_special self.now.pair.now)
+            R.stand R.Site.content R.Site.failures R.Stage.fails R.is_staged R.is_at R.Folder.tells R.Folder.lets R.is_named R.has R.finds R.finds_special self.now.pair.now)
             (O.holds out.old) (O.holds out.new) (E.holds err.old) (E.holds err.new) result }
     {
         let alloc = self.rt.alloc();
@@ -292,11 +292,11 @@ impl<R: Machine> Task<'_, R> {
         snapshot.look_at_lengths(alloc, self.pair, plan)?;
         self.save(alloc, plan, &*claims)?;
         match act(self, &mut claims.archive, &checked) {
-            Ok(mut outcome) => {
+            Ok((mut outcome, stage)) => {
                 let cleared = self.clear(alloc, plan, notices);
                 let kept = keep_archive(self, &mut claims.archive, &checked, &outcome);
                 self.remove(alloc, cleared);
-                let causes = causes_of(self, &checked, &mut outcome);
+                let causes = causes_of(self, &checked, &mut outcome, &stage);
                 // what can't be found out of mounts is no reason to end
                 let _ = self.add_mounts(alloc, plan, outcome.results(), notices);
                 let skips = skips_of(alloc, self.command, plan, snapshot);
