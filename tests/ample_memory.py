@@ -69,7 +69,12 @@ tree_calls/prints begins_anew_after_a_refused_line: ts_print::PrintReader::line 
 tree_calls/stamped grows_at_the_end: ts_print::Print::push
 tree_calls/stamped empties_a_directory: ts_print::Print::copy ts_print::Print::make_dir
 tree_calls/stamped looks_below_and_lends_parts: ts_print::Print::sub_table
+tree_calls/stamped adds_to_a_table: ts_print::Print::add
 tree_calls/stamped puts_parts_in_place: ts_print::Print::replace ts_print::Print::splice
+tree_calls/staging counts_bytes_that_were_seen: ts_stage::Told::add
+tree_calls/staging stamps_what_is_read_back_in_parts: ts_stage::Reading::add
+tree_calls/staging stores_pieces_in_memory: ts_stage::MemStage::store
+tree_calls/stages a_commit_takes_what_was_stored: ts_disk::DiskStage::store
 tree_calls/disks each_call_of_a_swap_does_its_part: ts_disk::DiskPlaces::present ts_disk::DiskPlaces::write
 tree_calls/disks each_call_of_a_swap_does_its_part: ts_disk::DiskPlaces::rename ts_disk::DiskPlaces::remove
 cases/main main: ts_board::Board::split ts_board::Held::commit ts_board::Closed::archive ts_exec::Outcome::archive
@@ -80,6 +85,7 @@ cases/main main: ts_board::Board::split ts_board::Held::commit ts_board::Closed:
 SCRIPTS = """
 commands.sh: expect 'first sync' 0: ts_command::command ts_perform::perform ts_perform::HostRuntime::folder
 commands.sh: expect 'first sync' 0: ts_perform::HostRuntime::site ts_perform::HostRuntime::lock
+commands.sh: expect 'first sync' 0: ts_exec::run_staging ts_perform::HostRuntime::stage
 commands.sh: expect 'show' 0: ts_perform::HostRuntime::open
 commands.sh: expect 'first sync' 0: ts_perform::HostRuntime::take_part ts_perform::HostRuntime::flush_above
 commands.sh: expect 'first sync' 0: ts_disk::Lock::is_in_place ts_disk::Lock::take_part ts_disk::check_leftovers

@@ -11,7 +11,7 @@ use Rattle.ts_model.specs.declared.plan.Kind.TheVariants.{Piece, Commit, Mark}
 use Rattle.ts_model.specs.declared.plan.Plan.{Plan}
 use Rattle.ts_laws.proofs.Steps.{same_kind}
 use Rattle.ts_board.specs.Terms.{commit_count}
-use Rattle.cases.specs.Worked.{HasDirectory, HasFile, HasRemoval, IsTask, nested, removal, worked}
+use Rattle.cases.specs.Worked.{HasFile, HasRemoval, IsTask, nested, removal, worked}
 use Rattle.cases.specs.declared.board.task.Task.TheVariants as task
 
 kind_at : (plan : Plan) (actions : List Action) → plan.actions ≡ actions → (i : ℕ) (a : Action) → slice_get actions i ≡ Some a → KindIs plan i a.kind

@@ -1,10 +1,12 @@
 //! Commits to sites over memory.
 use crate::shared::path;
 use std::alloc::Global;
+use ts_model::items::Items;
 use ts_model::row::{Content, Row};
 use ts_name::Path;
-use ts_print::{Print, Staged, stamp_of};
+use ts_print::{Print, stamp_of};
 use ts_site::{FaultySite, MemSite, Site, SiteFault};
+use ts_stage::{Piece, Reading, Staged};
 use ts_tree::SubTree;
 
 /// The print of a replica whose one file `/a` has these bytes.
@@ -29,21 +31,37 @@ fn begun(alloc: Global, path: &Path, wanted: &[u8]) -> Option<Staged> {
     Staged::begin(alloc, &print.sub_print(path)).ok()
 }
 
-/// The same, where it gets `bytes`.
-fn staged(alloc: Global, wanted: &[u8], bytes: &[u8]) -> Option<Staged> {
+/// The same, where it gets a piece.
+fn staged(alloc: Global, wanted: &[u8], piece: Piece) -> Option<Staged> {
     let path = path(alloc, "/a")?;
     let mut staged = begun(alloc, &path, wanted)?;
     if staged.has_so_far(alloc, &path, 0) != Ok(true) {
         return None;
     }
-    let bytes = Vec::from_slice(alloc, bytes).ok()?;
-    if staged.put(alloc, &path, 0, bytes).is_err() {
+    if staged.put(alloc, &path, 0, piece).is_err() {
         return None;
     }
     Some(staged)
 }
 
-/// The number of the fault of a commit, or 0, where the print before it is to be that of `before`.
+/// The number of the fault of a commit of a piece, or 0, where the print before it is to be that of `before`.
+fn commit_piece<S: Site>(
+    alloc: Global,
+    site: &mut S,
+    before: &[u8],
+    wanted: &[u8],
+    piece: Piece,
+) -> Option<u8> {
+    let print = file_print(alloc, before)?;
+    let path = path(alloc, "/a")?;
+    let staged = staged(alloc, wanted, piece)?;
+    match site.commit(alloc, &print.sub_print(&path), staged) {
+        Ok(_put) => Some(0),
+        Err(fault) => Some(fault.number()),
+    }
+}
+
+/// The same, of bytes in memory.
 fn commit<S: Site>(
     alloc: Global,
     site: &mut S,
@@ -51,13 +69,8 @@ fn commit<S: Site>(
     wanted: &[u8],
     bytes: &[u8],
 ) -> Option<u8> {
-    let print = file_print(alloc, before)?;
-    let path = path(alloc, "/a")?;
-    let staged = staged(alloc, wanted, bytes)?;
-    match site.commit(alloc, &print.sub_print(&path), staged) {
-        Ok(_put) => Some(0),
-        Err(fault) => Some(fault.number()),
-    }
+    let piece = Piece::held(Vec::from_slice(alloc, bytes).ok()?);
+    commit_piece(alloc, site, before, wanted, piece)
 }
 
 /// Whether a content is a file of these bytes.
@@ -110,6 +123,41 @@ fn refuses_bytes_that_do_not_fit(rt: HostRuntime) {
     assert!(rt; put_once(alloc, b"old", b"nex") == Some((15, true)));
     assert!(rt; put_once(alloc, b"old", b"ne") == Some((15, true)));
     assert!(rt; put_once(alloc, b"odd", b"nex") == Some((15, true)));
+}
+
+/// A piece of these bytes that is stored elsewhere, and fits as it was read back.
+fn stored(alloc: Global, bytes: &[u8]) -> Option<Piece> {
+    let bytes = Items::new(Vec::from_slice(alloc, bytes).ok()?);
+    let mut reading = Reading::begin(alloc);
+    reading.add(&bytes).ok()?;
+    Some(Piece::stored(&bytes, Some(reading.end())))
+}
+
+/// A commit of what is stored elsewhere: the fault's number, and whether the file is as it was.
+fn put_stored(alloc: Global, before: &[u8], bytes: &[u8]) -> Option<(u8, bool)> {
+    let mut site = MemSite::new(file_of(alloc, b"old")?);
+    let number = commit_piece(alloc, &mut site, before, b"new", stored(alloc, bytes)?)?;
+    let is_old = is_file(alloc, &site.into_content(), b"old");
+    Some((number, is_old))
+}
+
+/// The same where the device would fail; of a commit in memory that comes after it, the number too.
+fn put_stored_where_it_fails(alloc: Global) -> Option<(u8, u8, bool)> {
+    let fails = vec![in alloc; true].ok()?;
+    let mut site = FaultySite::new(file_of(alloc, b"old")?, fails);
+    let first = commit_piece(alloc, &mut site, b"old", b"new", stored(alloc, b"new")?)?;
+    let second = commit(alloc, &mut site, b"old", b"new", b"new")?;
+    let is_new = is_file(alloc, &site.into_content(), b"new");
+    Some((first, second, is_new))
+}
+
+#[test]
+fn takes_nothing_that_is_stored_elsewhere(rt: HostRuntime) {
+    let alloc = rt.alloc();
+    assert!(rt; put_stored(alloc, b"old", b"new") == Some((1, true)));
+    assert!(rt; put_stored(alloc, b"old", b"nex") == Some((1, true)));
+    assert!(rt; put_stored(alloc, b"odd", b"new") == Some((1, true)));
+    assert!(rt; put_stored_where_it_fails(alloc) == Some((1, 0, true)));
 }
 
 /// The numbers of the faults of four commits, of which the device fails at two, and whether the last one's bytes are there.

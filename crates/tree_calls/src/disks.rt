@@ -11,7 +11,7 @@ use ts_swap::{Places, Spot};
 use ts_table::SubTable;
 
 /// The place of a folder for the process of this number.
-fn ground<R: Env + AllocGlobal>(rt: &R, number: u32, name: &str) -> Option<String> {
+pub(crate) fn ground<R: Env + AllocGlobal>(rt: &R, number: u32, name: &str) -> Option<String> {
     let place = env::temp_dir(rt).ok()?;
     format!(in rt.alloc(); "{}/twosync-{number}-{name}", place.as_str()).ok()
 }
@@ -33,7 +33,7 @@ const RECOVERIES: [([bool; 3], Option<&str>, Option<&str>); 8] = [
 ];
 
 /// Makes a folder below the root.
-fn makes<R: Files + AllocGlobal>(rt: &R, root: &str, place: &str) -> bool {
+pub(crate) fn makes<R: Files + AllocGlobal>(rt: &R, root: &str, place: &str) -> bool {
     match format!(in rt.alloc(); "{root}/{place}") {
         Ok(at) => fs::create_dir(rt, at.as_str()).is_ok(),
         Err(_) => false,
@@ -49,7 +49,7 @@ fn removes<R: Files + AllocGlobal>(rt: &R, root: &str, place: &str) -> bool {
 }
 
 /// Writes a file below the root.
-fn writes<R: Files + AllocGlobal>(rt: &R, root: &str, place: &str, bytes: &str) -> bool {
+pub(crate) fn writes<R: Files + AllocGlobal>(rt: &R, root: &str, place: &str, bytes: &str) -> bool {
     match format!(in rt.alloc(); "{root}/{place}") {
         Ok(at) => fs::write(rt, at.as_str(), bytes).is_ok(),
         Err(_) => false,
@@ -57,7 +57,12 @@ fn writes<R: Files + AllocGlobal>(rt: &R, root: &str, place: &str, bytes: &str) 
 }
 
 /// Whether a file below the root has just these bytes, or is absent.
-fn has<R: Files + AllocGlobal>(rt: &R, root: &str, place: &str, want: Option<&str>) -> bool {
+pub(crate) fn has<R: Files + AllocGlobal>(
+    rt: &R,
+    root: &str,
+    place: &str,
+    want: Option<&str>,
+) -> bool {
     let Ok(at) = format!(in rt.alloc(); "{root}/{place}") else {
         return false;
     };

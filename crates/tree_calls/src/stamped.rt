@@ -1,11 +1,10 @@
-//! Prints looked up, compared and changed, and parts of them put together.
+//! Prints looked up, compared and changed.
 use crate::shared::{BODY, TREE, path, print_of, tree_of};
 use std::alloc::Global;
 use ts_model::row::{Content, Row};
 use ts_name::Path;
-use ts_print::{Print, Seen, Staged, Stamp, stamp_of};
+use ts_print::{Print, Seen, Stamp, stamp_of};
 use ts_table::{Edit, SubTable, Table};
-use ts_tree::SubTree;
 
 /// A letter for what is at a path: nothing, a directory, or a file by its size, up to 9.
 fn letter(seen: Seen) -> u8 {
@@ -267,92 +266,5 @@ fn knows_the_tree_of_a_part(rt: HostRuntime) {
             is_print_of(rt.alloc(), text, other) == Some(same),
             "{text} {other}"
         );
-    }
-}
-
-/// The assembly of what the print has at a path.
-fn begun(alloc: Global, text: &str) -> Option<Staged> {
-    let print = print_of(alloc, BODY)?;
-    let top = path(alloc, text)?;
-    Staged::begin(alloc, &print.sub_print(&top)).ok()
-}
-
-/// Whether the file may take bytes at this offset.
-fn takes(alloc: Global, staged: &Staged, text: &str, offset: u64) -> Option<bool> {
-    staged.has_so_far(alloc, &path(alloc, text)?, offset).ok()
-}
-
-#[test]
-fn begins_without_bytes(rt: HostRuntime) {
-    let alloc = rt.alloc();
-    let Some(staged) = begun(alloc, "/d") else {
-        panic!(rt; "no assembly");
-    };
-    assert!(rt; path(alloc, "/d").is_some_and(|top| *staged.top() == top));
-    assert!(rt; staged.rows().len() == 4 && !staged.is_complete());
-    for (text, offset, may) in [
-        ("/d/x", 0, true),
-        ("/d/x", 1, false),
-        ("/d", 0, false),
-        ("/d.x", 0, false),
-    ] {
-        assert!(rt;
-            takes(alloc, &staged, text, offset) == Some(may),
-            "{text} {offset}"
-        );
-    }
-}
-
-/// Puts a byte into a file that may take it at this offset.
-fn put(alloc: Global, staged: &mut Staged, path: &Path, offset: u64, byte: u8) -> bool {
-    let Ok(bytes) = Vec::from_slice(alloc, &[byte]) else {
-        return false;
-    };
-    staged.has_so_far(alloc, path, offset) == Ok(true)
-        && staged.put(alloc, path, offset, bytes).is_ok()
-}
-
-/// Stages `/d` with this second byte of a file: whether it is complete before and after that.
-fn stage(alloc: Global, staged: &mut Staged, file: &Path, second: u8) -> Option<(bool, bool)> {
-    let other = path(alloc, "/d/x")?;
-    if !put(alloc, staged, file, 0, b'a') || !put(alloc, staged, &other, 0, b'a') {
-        return None;
-    }
-    let early = staged.is_complete();
-    if !put(alloc, staged, file, 1, second) {
-        return None;
-    }
-    Some((early, staged.is_complete()))
-}
-
-/// Whether the part's file at `/e/y` has these bytes.
-fn has_file(alloc: Global, tree: &SubTree, want: &[u8; 2]) -> bool {
-    match path(alloc, "/e/y") {
-        Some(file) => tree.get(&file) == Content::File(want.as_slice()),
-        None => false,
-    }
-}
-
-#[test]
-fn stages_bytes(rt: HostRuntime) {
-    let alloc = rt.alloc();
-    for (bytes, complete) in [(b"ab", true), (b"ac", false)] {
-        let (Some(mut staged), Some(file)) = (begun(alloc, "/d"), path(alloc, "/d/e/y")) else {
-            panic!(rt; "no assembly");
-        };
-        let told = stage(alloc, &mut staged, &file, bytes[1]);
-        assert!(rt; told == Some((false, complete)), "{bytes:?}");
-        assert!(rt; has_file(alloc, &staged.into_tree(), bytes), "{bytes:?}");
-    }
-}
-
-#[test]
-fn stages_parts_without_bytes(rt: HostRuntime) {
-    for (text, rows) in [("/d.x", 1), ("/z", 0)] {
-        let Some(staged) = begun(rt.alloc(), text) else {
-            panic!(rt; "no assembly at {text}");
-        };
-        assert!(rt; staged.is_complete(), "{text}");
-        assert!(rt; staged.into_table().rows().len() == rows, "{text}");
     }
 }

@@ -17,8 +17,8 @@ use std::alloc::Global;
 use ts_board::{Board, Held, Pass};
 use ts_check::Checked;
 use ts_model::plan::Kind;
-use ts_print::Staged;
 use ts_site::{Site, SiteFault};
+use ts_stage::{Piece, Staged};
 
 /// A checked plan and its board.
 #[derive(Drop)]
@@ -60,7 +60,8 @@ impl<'a, 'b, S: Site> Desk<'a, 'b, S> {
         let mut held = self.board.claim(pass, b)?;
         let claimed = self.board.look(pass, b);
         let next = self.board.look(pass, b + 1);
-        held.stage(bytes);
+        let piece = Piece::held(bytes);
+        held.stage(piece);
         self.board.done(pass, held);
         let ended = self.board.look(pass, b);
         let freed = self.free(pass, b, b + 1);
@@ -116,8 +117,8 @@ impl<'a, 'b, S: Site> Desk<'a, 'b, S> {
         }
     }
 
-    /// Puts the bytes of a piece in an assembly. Where they find no room they are left out, and the assembly isn't complete.
-    fn append(&self, staged: &mut Staged, k: u32, bytes: Vec<u8>)
+    /// Puts what a piece staged in an assembly. Where it finds no room it is left out, and the assembly isn't complete.
+    fn append(&self, staged: &mut Staged, k: u32, piece: Piece)
         ensures { staged.new.wanted ≡ staged.old.wanted }
     {
         let actions = self.checked.plan().actions.as_slice();
@@ -126,7 +127,7 @@ impl<'a, 'b, S: Site> Desk<'a, 'b, S> {
         };
         if let Kind::Piece { path, .. } = &action.kind {
             if let Ok(true) = staged.has_so_far(self.alloc, path, 0) {
-                let _ = staged.put(self.alloc, path, 0, bytes);
+                let _ = staged.put(self.alloc, path, 0, piece);
             }
         }
     }
@@ -145,9 +146,9 @@ impl<'a, 'b, S: Site> Desk<'a, 'b, S> {
         let mut held = self.board.claim(pass, b + 1)?;
         let claimed = self.board.look(pass, b + 1);
         let next = self.board.look(pass, b + 2);
-        let bytes = self.board.take(pass, &mut held, b);
+        let piece = self.board.take(pass, &mut held, b);
         let taken = self.board.look(pass, b);
-        self.append(&mut staged, b, bytes);
+        self.append(&mut staged, b, piece);
         let (ended, fault) = self.put(pass, held, staged);
         let freed = match fault {
             None => Some(self.free(pass, b + 1, b + 2)),
