@@ -154,10 +154,16 @@ until_there() {
   until [ -e "$1" ] || [ "$SECONDS" -ge "$end" ] || ! kill -0 "$child" 2>/dev/null; do :; done
 }
 
+# until_stopped: stops the run that was started last, and waits until all its threads stand
+until_stopped() {
+  kill -STOP "$child" 2>/dev/null
+  while [ -n "$(grep -L '^State:.[TZ]' /proc/"$child"/task/*/status 2>/dev/null)" ]; do sleep 0.001; done
+}
+
 # until_plan: waits until the run that was started last has written its plan to both replicas, and stops it there
 until_plan() {
   until_there second/.twosync/plan
-  kill -STOP "$child" 2>/dev/null
+  until_stopped
 }
 
 # Who may do everything may read and write everything, so what must be refused runs as nobody.

@@ -1,12 +1,14 @@
 #!/usr/bin/env bash
 # Times `twosync sync` beside unison (with full content checks), rclone bisync and rsync, each on folders of its own: a first
 # sync of 20,000 files of 1 to 8 KiB into an empty folder, one with nothing to do, one after a single file changed, and one
-# after 1% of the files changed on each side; and the first two for 8 files of 128 MiB. rsync copies in one direction and
-# looks at sizes and times alone, so it shows what copying costs. Each number is the median of three runs, taken in turn;
+# after 1% of the files changed on each side; and the first two for 8 files of 128 MiB, and for the sets that show whether memory
+# grows with what is copied: one file of 1 GiB, 64 files of 16 MiB as one new directory and at the top, 2,048 files of 512 KiB
+# and 100,000 of 1 KiB as one new directory. rsync copies in one direction and looks at sizes and times alone, so it shows what
+# copying costs. Each number is the median of three runs, taken in turn;
 # beside it stands how often longer it is than twosync's; the last column is the most memory that one of its processes held.
 # A tool that isn't installed is left out, with a line that says so. After each run both folders are compared; only where
 # they differ that is said.
-# usage: [RUNS=N] [SMALL=FILES] [LARGE=FILES] tests/compare.sh [PROGRAM]
+# usage: [RUNS=N] [SMALL=FILES] [LARGE=FILES] [SETS='small large file directory top halves crowd'] tests/compare.sh [PROGRAM]
 set -u
 cd "$(dirname "$0")/.."
 . tests/program.sh
@@ -14,6 +16,7 @@ program=$(program_of twosync "${1:-}") || exit 1
 runs=${RUNS:-3}
 small=${SMALL:-20000}
 large=${LARGE:-8}
+sets=${SETS:-small large file directory top halves crowd}
 top=$(mktemp -d)
 trap 'rm -rf "$top"' EXIT
 cd "$top" || exit 1
@@ -44,6 +47,15 @@ make_large() {
   mkdir -p "$2"
   for number in $(seq 1 "$1"); do
     { echo "$number"; cat pattern pattern; } >"$2/$number"
+  done
+}
+
+# make_equal FOLDER COUNT SIZE: so many files of so many bytes, no two of them alike
+make_equal() {
+  local number
+  mkdir -p "$1"
+  for number in $(seq 1 "$2"); do
+    { printf '%020d' "$number"; head -c $(($3 - 20)) pattern; } >"$1/$number"
   done
 }
 
@@ -84,7 +96,7 @@ change() {
 round() {
   rm -rf first second state
   mkdir second state
-  cp -a "$1" first
+  cp -a set first
   sync
   clock "$2" first
   clock "$2" nothing
@@ -122,8 +134,17 @@ echo "processors: $(nproc), load before: $(cut -d' ' -f1 /proc/loadavg)"
 openssl enc -aes-128-ctr -pass pass:compare -nosalt -pbkdf2 </dev/zero 2>/dev/null | head -c 67108864 >pattern
 # without openssl a text does as well
 [ -s pattern ] || yes 'a pattern of bytes' | head -c 67108864 >pattern
-make_small "$small" small
-table small "$small files of 1 to 8 KiB"
-rm -rf small
-make_large "$large" large
-table large "$large files of 128 MiB"
+# show SET: makes it, and times it
+show() {
+  case $1 in
+    small) make_small "$small" set; table small "$small files of 1 to 8 KiB" ;;
+    large) make_large "$large" set; table large "$large files of 128 MiB" ;;
+    file) make_equal set 1 67108864; for _ in $(seq 15); do cat pattern >>set/1; done; table file 'one file of 1 GiB' ;;
+    directory) make_equal set/new 64 16777216; table directory '64 files of 16 MiB in one new directory' ;;
+    top) make_equal set 64 16777216; table top '64 files of 16 MiB at the top' ;;
+    halves) make_equal set/new 2048 524288; table halves '2,048 files of 512 KiB in one new directory' ;;
+    crowd) make_equal set/new 100000 1024; table crowd '100,000 files of 1 KiB in one new directory' ;;
+  esac
+  rm -rf set
+}
+for set in $sets; do show "$set"; done

@@ -14,12 +14,6 @@ S_OLD=$(printf old. | sha256sum | cut -c1-64)
 # many PLACE COUNT: a folder of so many small files
 many() { mkdir "$1" && seq "$2" | split -l 1 -a 3 - "$1/f"; }
 
-# until_stopped: stops the run that was started last, and waits until it stands
-until_stopped() {
-  kill -STOP "$child" 2>/dev/null
-  until grep -qs '^State:.T' "/proc/$child/status" || ! kill -0 "$child" 2>/dev/null; do sleep 0.001; done
-}
-
 # ---- edits while the new tree is written: the target, /f in the replica `to`, is edited when a part of the tree is there
 # had KIND: what both replicas and the archive had
 had() {
@@ -91,10 +85,10 @@ while_filling() {
   local name="$1, from $from" got
   "$program" "${sync[@]}" >out 2>err &
   child=$!
-  until_there "$to/.twosync/new-0"
+  until_there "$to/.twosync/stage-0"
   until_stopped
-  got=$(find "$to/.twosync/new-0" -type f 2>/dev/null | wc -l)
-  holds_true "$name: it is stopped while it writes ($got files)" test -d "$to/.twosync/new-0" -a "$got" -lt "$count"
+  got=$(find "$to/.twosync/stage-0" -type f 2>/dev/null | wc -l)
+  holds_true "$name: it is stopped while it writes ($got files)" test -d "$to/.twosync/stage-0" -a "$got" -lt "$count"
   edit_now "$2"
   kill -CONT "$child" 2>/dev/null
   wait "$child"
@@ -456,12 +450,12 @@ tree 604"
     "$program" "${sync[@]}" >out 2>err &
     child=$!
     umask 022
-    until_there "$to/.twosync/new-0/fabc"
+    until_there "$to/.twosync/stage-0/fabc"
     until_stopped
-    got=$(find "$to/.twosync/new-0" -type f | wc -l)
-    holds_true "$name: stopped while it writes ($got files)" test -d "$to/.twosync/new-0" -a "$got" -gt 0 -a "$got" -lt 1000
-    holds_true "$name: staged files are shut" test -z "$(find "$to/.twosync/new-0" -type f ! -perm 600)"
-    holds_true "$name: staged folders are shut" test -z "$(find "$to/.twosync/new-0" -type d ! -perm 700)"
+    got=$(find "$to/.twosync/stage-0" -type f | wc -l)
+    holds_true "$name: stopped while it writes ($got files)" test -d "$to/.twosync/stage-0" -a "$got" -gt 0 -a "$got" -lt 1000
+    holds_true "$name: staged files are shut" test -z "$(find "$to/.twosync/stage-0" -type f ! -perm 600)"
+    holds_true "$name: staged folders are shut" test -z "$(find "$to/.twosync/stage-0" -type d ! -perm 700)"
     own_mode "$name: while it writes"
     kill -CONT "$child" 2>/dev/null
     wait "$child"

@@ -145,7 +145,8 @@ class Failing(Case):
 
     def problem_in(self, replica):
         problem = super().problem_in(replica) or self.problem_of_modes(replica)
-        other = [name for name in own_names(replica) if not OWN.match(name)]
+        # where more calls failed than one, what was stored may stay for the next run
+        other = [name for name in own_names(replica) if not OWN.match(name) and (self.is_strict or not name.startswith("stage-"))]
         return problem or (other and "%s lies in .twosync of %s" % (other, replica))
 
     def may_stay(self, replica, name):

@@ -1,0 +1,88 @@
+"""How much memory a first sync holds: it doesn't grow with the bytes that are copied, only with the number of paths.
+
+Each set is synced into an empty folder by 1, 4 and 64 workers. The program may hold 64 MiB, and 300 bytes for each path; then both
+folders have to be alike, and nothing of the run may be left beside the lock's folder. It works in the folder that it is run in.
+
+usage: tests/memory.py PROGRAM
+"""
+
+import filecmp
+import os
+import shutil
+import subprocess
+import sys
+
+from runs import hold, write_counts
+
+PROGRAM = sys.argv[1]
+MIB = 1 << 20
+BASE = 64 * MIB
+EACH = 300
+
+
+def write(path, size, seed):
+    """Writes a file of this size. No two seeds give the same bytes."""
+    block = (f"{seed} ".encode() * (MIB // 2))[:MIB]
+    os.makedirs(os.path.dirname(path), exist_ok=True)
+    with open(path, "wb") as file:
+        while size > 0:
+            file.write(block[:size])
+            size -= len(block)
+
+
+def one_file(root):
+    write(f"{root}/large", 192 * MIB + 5, 1)
+    return 1
+
+
+def one_directory(root):
+    for number in range(12):
+        write(f"{root}/new/{number}", 16 * MIB + number, number)
+    return 13
+
+
+def many_files(root):
+    for number in range(20_000):
+        write(f"{root}/new/{number % 100}/{number}", 1 + number % 3000, number)
+    return 20_101
+
+
+def held(words):
+    """Runs the program. Returns its status, and the most bytes that it held."""
+    child = subprocess.Popen([PROGRAM, *words], stdin=subprocess.DEVNULL, stdout=subprocess.DEVNULL, stderr=subprocess.DEVNULL)
+    _, status, usage = os.wait4(child.pid, 0)
+    child.returncode = os.waitstatus_to_exitcode(status)
+    return child.returncode, usage.ru_maxrss * 1024
+
+
+def alike(first, second):
+    """Whether two folders hold the same, but for what the program keeps there."""
+    seen = filecmp.dircmp(first, second, ignore=[".twosync"])
+    if seen.left_only or seen.right_only or seen.funny_files:
+        return False
+    _, other, failed = filecmp.cmpfiles(first, second, seen.common_files, shallow=False)
+    return not other and not failed and all(alike(f"{first}/{it}", f"{second}/{it}") for it in seen.common_dirs)
+
+
+def main():
+    for name, make in (("one file", one_file), ("one new directory", one_directory), ("20,000 files in new directories", many_files)):
+        shutil.rmtree("first", ignore_errors=True)
+        os.mkdir("first")
+        paths = make("first")
+        for workers in (1, 4, 64):
+            shutil.rmtree("second", ignore_errors=True)
+            os.mkdir("second")
+            if os.path.exists("archive"):
+                os.remove("archive")
+            shutil.rmtree("first/.twosync", ignore_errors=True)
+            status, bytes_held = held(["sync", "first", "second", "archive", "--workers", str(workers), "--quiet"])
+            case = f"{name} by {workers}"
+            hold(case, f"status {status}" if status else None)
+            hold(case, f"{bytes_held / MIB:.1f} MiB were held" if bytes_held > BASE + EACH * paths else None)
+            hold(case, None if alike("first", "second") else "the folders differ")
+            left = [it for side in ("first", "second") for it in os.listdir(f"{side}/.twosync")]
+            hold(case, f"{left} is left" if left else None)
+    write_counts()
+
+
+main()
