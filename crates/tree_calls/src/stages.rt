@@ -175,8 +175,9 @@ fn staged(
     }
     let mut staged = checked.staged(alloc, COMMIT).ok()?;
     for (number, piece) in pieces.into_iter().enumerate() {
+        let number = u32::try_from(number).ok()?;
         let piece = piece?.ok()?;
-        if !puts(alloc, &mut staged, checked.plan(), number as u32, piece) {
+        if !puts(alloc, &mut staged, checked.plan(), number, piece) {
             return None;
         }
     }
