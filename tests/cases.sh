@@ -3,6 +3,10 @@
 # shellcheck shell=bash
 . tests/program.sh
 program=$(program_of twosync "${1:-}") || exit 1
+# A script that writes much says before how many MiB: it works in memory where as much is free.
+if [ -n "${room:-}" ] && [ -w /dev/shm ] && [ "$(df --output=avail -m /dev/shm | tail -n 1)" -gt "$room" ]; then
+  export TMPDIR=/dev/shm
+fi
 work=$(mktemp -d) || exit 1
 # What was started here and still runs is ended with the script, also where it is stopped.
 leave() {

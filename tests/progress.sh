@@ -6,8 +6,8 @@
 set -u
 cd "$(dirname "$0")/.." || exit 1
 top=$PWD
-# In memory, where there is room: a run writes its files there some times.
-if [ -w /dev/shm ] && [ "$(df --output=avail -m /dev/shm | tail -n 1)" -gt 1500 ]; then export TMPDIR=/dev/shm; fi
+# shellcheck disable=SC2034
+room=1500
 . tests/cases.sh
 
 PYTHONDONTWRITEBYTECODE=1 python3 "$top/tests/progress.py" "$program"
