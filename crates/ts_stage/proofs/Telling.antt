@@ -1,8 +1,7 @@
 -- What was staged of files, told as their bytes.
-use Rattle.std.proofs.Common.{◌≡◌, ℕ, zero, suc, ◌<◌, Bool, true, false, List, [], ◌∷◌, ◌++◌, length, get_or, take, drop, ◌+◌, refl, sym, ap, ap₂, ◌∙◌, subst, arith, append_assoc, append-nil, ◌⊎◌, inl, inr}
+use Rattle.std.proofs.Common.{◌≡◌, ℕ, zero, suc, ◌<◌, Bool, true, false, List, [], ◌∷◌, ◌++◌, length, get_or, take, drop, ◌+◌, refl, sym, ap, ap₂, ◌∙◌, subst, arith, ◌⊎◌, inl, inr}
 use Rattle.std.proofs.Math.ListN.{set}
 use Rattle.std.proofs.lemmas.List.{set-get_or, take_more}
-use Rattle.std.specs.declared.snapshot.Snapshot.{Snapshot}
 use Rattle.ts_name.specs.Paths.{Path}
 use Rattle.ts_model.specs.Trees.{Listing, Ascend, IsSubListing, listed, stamped}
 use Rattle.ts_model.specs.declared.row.Content.{Content}
@@ -12,12 +11,8 @@ use Rattle.ts_model.specs.declared.row.Stamp.{Stamp}
 use Rattle.ts_model.proofs.Rows.{stamped_absent}
 use Rattle.ts_print.specs.Prints.{stamped_row, stamped_rows}
 use Rattle.ts_stage.specs.Assemblies.{begun, begun_rows, more, with_more}
-use Rattle.ts_stage.specs.Stagings.{Staging, all_held, all_parts, both, is_held, joined_to, told, told_row, told_rows}
+use Rattle.ts_stage.specs.Stagings.{Staging, all_held, both, is_held, joined_to, told, told_row, told_rows}
 use Rattle.ts_stage.proofs.Assembling.{IsSubListing-changed, IsSubListing-more, IsSubListing-of_changed, KeepsKinds, ascend-changed, listed-changed, put_more}
-
-pub all_parts_push : (parts : List (Snapshot (List ℕ))) (part : Snapshot (List ℕ)) → all_parts (parts ++ part ∷ []) ≡ all_parts parts ++ part.value
-all_parts_push [] part = append-nil part.value
-all_parts_push (first ∷ parts) part = ap (λ z. first.value ++ z) (all_parts_push parts part) ∙ sym (append_assoc first.value (all_parts parts) part.value)
 
 told_there : (x : Content Staging) → told x ≡ Absent → x ≡ Absent
 told_there Absent e = refl

@@ -1,12 +1,9 @@
 -- What was staged of a file: its bytes, and whether they are in memory.
---     all_parts parts      the bytes of parts, one after another
---     bytes_in held told   those in memory, where they are; else those that were seen
 --     joined a b           the bytes of both, in memory where both are
 --     joined_to piece x    a file with the piece at its end
 --     told x, told_rows    contents and rows with what was staged of each file told as its bytes
 --     is_held, all_held    each file's bytes are in memory
-use Rattle.std.specs.Prelude.{ℕ, Bool, true, false, cond, List, [], ◌∷◌, ◌++◌, map, Option, Some, None}
-use Rattle.std.specs.declared.snapshot.Snapshot.{Snapshot}
+use Rattle.std.specs.Prelude.{ℕ, Bool, true, false, cond, List, [], ◌∷◌, ◌++◌, map}
 use Rattle.ts_model.specs.Trees.{Listing}
 use Rattle.ts_model.specs.declared.row.Content.{Content}
 use Rattle.ts_model.specs.declared.row.Content.TheVariants.{Absent, Dir, File}
@@ -15,18 +12,6 @@ use Rattle.ts_model.specs.declared.row.Row.{Row}
 pub record Staging : Type 0 where
   pub bytes : List ℕ
   pub held : Bool
-
-abbrev pub all_parts : List (Snapshot (List ℕ)) → List ℕ
-all_parts [] = []
-all_parts (part ∷ parts) = part.value ++ all_parts parts
-
-abbrev pub bytes_in : Option (List ℕ) → List ℕ → List ℕ
-bytes_in None told = told
-bytes_in (Some held) told = held
-
-abbrev pub held_in : Option (List ℕ) → Bool
-held_in None = false
-held_in (Some held) = true
 
 abbrev pub both : Bool → Bool → Bool
 both a b = cond a b false

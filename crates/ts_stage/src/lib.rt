@@ -3,9 +3,11 @@
 
 pub mod fault;
 pub mod file;
+mod kept;
 pub mod memory;
 pub mod piece;
 pub mod read_back;
+mod seen;
 pub mod stage;
 pub mod staged;
 pub mod told;
