@@ -1,7 +1,6 @@
 -- Each lawful piece of an entry is looked for among those that stand.
-use Rattle.std.proofs.Common.{◌≡◌, ◌≢◌, ℕ, ◌+◌, ◌%◌, ◌<◌, ◌≤◌, [], ◌∷◌, ◌++◌, length, Some, slice_get, sym, refl, ap, ◌∙◌, subst, inl, inr, append-nil, arith}
-use Rattle.std.specs.BTreeMap.{BTreeMap, get}
-use Rattle.std.proofs.lemmas.Bool.{cases_eq, cases_lt, cases_order}
+use Rattle.std.proofs.Common.{◌≡◌, ◌≢◌, ℕ, ◌+◌, ◌%◌, ◌<◌, ◌≤◌, ◌↔◌, Bool, true, false, not, IsTrue, List, [], ◌∷◌, ◌++◌, length, Some, slice_get, sym, refl, ap, ◌∙◌, subst, inl, inr, append-nil, arith}
+use Rattle.std.proofs.lemmas.Bool.{cases_eq, cases_lt, cases_order, false≢true}
 use Rattle.std.proofs.lemmas.Option.{none-some, same_Some, slice_get_within}
 use Rattle.ts_name.specs.Paths.{Path, IsAbove, IsBefore}
 use Rattle.ts_name.proofs.Order.{before_itself, before_trans, before_from_above, above_between}
@@ -17,30 +16,30 @@ use Rattle.ts_model.specs.declared.plan.Kind.TheVariants.{Piece}
 use Rattle.ts_model.specs.declared.plan.Plan.{Plan}
 use Rattle.ts_check.proofs.Rowed.{row_is, dir_row, file_row, rows_order}
 use Rattle.ts_check.proofs.Staging.{IsPieceOf-from, IsPieceIn-from, one_source}
-use Rattle.ts_check.specs.Pieces.{IsSourceOf, IsRowOf, IsStagedMap, HasAll, HasAllBelow, LacksBelow, LacksSome, NotEachOnce, IsAgain, Place, place_cmp}
+use Rattle.ts_check.specs.Pieces.{IsSourceOf, IsRowOf, IsStagedMap, HasAll, HasAllBelow, LacksBelow, LacksSome, NotEachOnce, IsAgain, Place, staged_at}
 use Rattle.ts_table.proofs.Listings.{at_row}
 use Rattle.ts_model.proofs.Deciding.{same_stamp_at, same_names}
 
 -- ---- the ranges of one file
 
 -- each range before this offset has its piece
-pub record AreBefore (map : BTreeMap Place ℕ) (e row offset : ℕ) : Type 0 where
+pub record AreBefore (staged : List (Place × ℕ)) (e row offset : ℕ) : Type 0 where
   pub aligned : offset % 1048576 ≡ 0
-  pub each : (o : ℕ) → o % 1048576 ≡ 0 → o < offset → (i : ℕ) × (get place_cmp map (e, (row, o)) ≡ Some i)
+  pub each : (o : ℕ) → o % 1048576 ≡ 0 → o < offset → (i : ℕ) × (staged_at staged (e, (row, o)) ≡ Some i)
 
 -- one range more
-pub AreBefore-more : (map : BTreeMap Place ℕ) (e row offset i : ℕ) → AreBefore map e row offset → get place_cmp map (e, (row, offset)) ≡ Some i → AreBefore map e row (offset + 1048576)
-AreBefore-more map e row offset i so_far here = record {
+pub AreBefore-more : (staged : List (Place × ℕ)) (e row offset i : ℕ) → AreBefore staged e row offset → staged_at staged (e, (row, offset)) ≡ Some i → AreBefore staged e row (offset + 1048576)
+AreBefore-more staged e row offset i so_far here = record {
   aligned = (let a = so_far.aligned in omega arith);
   each = λ o even less. elim (cases_lt o offset) [
     | inl before ↦ so_far.each o even before
-    | inr after ↦ (let same : o ≡ offset = (let a = so_far.aligned in omega arith) in (i, ap (λ z. get place_cmp map (e, (row, z))) same ∙ here))
+    | inr after ↦ (let same : o ≡ offset = (let a = so_far.aligned in omega arith) in (i, ap (λ z. staged_at staged (e, (row, z))) same ∙ here))
   ];
 }
 
 -- all of them
-pub HasAll-from : (map : BTreeMap Place ℕ) (e row size offset : ℕ) → size ≤ offset → AreBefore map e row offset → HasAll map e row size
-HasAll-from map e row size offset past so_far o len range = so_far.each o range.aligned (let w = range.within in omega arith)
+pub HasAll-from : (staged : List (Place × ℕ)) (e row size offset : ℕ) → size ≤ offset → AreBefore staged e row offset → HasAll staged e row size
+HasAll-from staged e row size offset past so_far o len range = so_far.each o range.aligned (let w = range.within in omega arith)
 
 -- ---- the rows at or below a path
 
@@ -84,7 +83,7 @@ to_end rows top start stop k last row lists at_start less is_last out is above =
 
 -- ---- an entry
 
-module _ (xs ys : Listing Stamp) (plan : Plan) (map : BTreeMap Place ℕ) (staged : IsStagedMap xs ys plan (length plan.actions) map) where
+module _ (xs ys : Listing Stamp) (plan : Plan) (map : List (Place × ℕ)) (staged : IsStagedMap xs ys plan (length plan.actions) map) where
   -- an entry whose ranges all have pieces lacks none
   pub lacks_none : (e : ℕ) (entry : Entry) (rows : Listing Stamp) → EntryIs plan e entry → IsListing rows → IsSourceOf xs ys plan e rows → HasAllBelow entry.path rows map e → ¬ LacksSome xs ys plan e
   lacks_none e entry rows is lists src all lacks =
@@ -124,6 +123,12 @@ module _ (xs ys : Listing Stamp) (plan : Plan) (map : BTreeMap Place ℕ) (stage
   -- an entry that isn't copied lacks none
   pub lacks_nothing : (e : ℕ) → ¬ IsCopied plan e → ¬ LacksSome xs ys plan e
   lacks_nothing e not lacks = not (lacks.3.0, lacks.3.1, lacks.3.3)
+
+-- an entry lacks a piece exactly where the look for its ranges says no
+pub tells_lacks : (xs ys : Listing Stamp) (plan : Plan) (staged : List (Place × ℕ)) → IsStagedMap xs ys plan (length plan.actions) staged → (e : ℕ) (entry : Entry) (rows : Listing Stamp) → EntryIs plan e entry → IsListing rows → IsSourceOf xs ys plan e rows
+    → (b : Bool) → (IsTrue b → HasAllBelow entry.path rows staged e) → (b ≡ false → LacksBelow entry.path rows staged e) → (IsTrue (not b) ↔ LacksSome xs ys plan e)
+tells_lacks xs ys plan staged are e entry rows is lists src true all lacking = (λ wrong. absurd (false≢true wrong), λ lacks. absurd (lacks_none xs ys plan staged are e entry rows is lists src (all refl) lacks))
+tells_lacks xs ys plan staged are e entry rows is lists src false all lacking = (λ right. lacks_one xs ys plan staged are e entry rows is lists src (lacking refl), λ lacks. refl)
 
 -- ---- all places
 

@@ -1,7 +1,6 @@
 -- Commits that lack a piece.
-use Rattle.std.proofs.Common.{◌≡◌, ◌≢◌, ◌↔◌, ℕ, ◌<◌, Bool, List, [], length, Contains, IsTrue, MatchOption, Option, Some, None, slice_get, sym, refl, ap, ◌∙◌, subst, arith}
-use Rattle.std.proofs.lemmas.Option.{none-some}
-use Rattle.ts_model.specs.Plans.{ActionIs, KindIs, Waits}
+use Rattle.std.proofs.Common.{◌≡◌, ◌↔◌, ℕ, ◌<◌, Bool, List, [], Contains, IsTrue, MatchOption, Option, Some, None, slice_get, sym, refl, ◌∙◌, subst, arith}
+use Rattle.ts_model.specs.Plans.{ActionIs, Waits}
 use Rattle.ts_model.specs.declared.plan.Action.{Action}
 use Rattle.ts_model.specs.declared.plan.Kind.TheVariants.{Commit}
 use Rattle.ts_model.specs.declared.plan.Plan.{Plan}

@@ -13,3 +13,4 @@ pub mod Verdicts
 pub mod Checking
 pub mod Answered
 pub mod Lacking
+pub mod InOrder

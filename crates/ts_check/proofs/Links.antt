@@ -3,16 +3,14 @@ use Rattle.std.proofs.Common.{◌≡◌, ◌≢◌, ℕ, ◌≤◌, List, [], le
 use Rattle.std.proofs.lemmas.Option.{same_Some, slice_get_within}
 use Rattle.ts_name.specs.Paths.{IsAbove, IsBefore}
 use Rattle.ts_name.proofs.Order.{before_itself, before_trans, before_from_above}
-use Rattle.ts_model.specs.Plans.{ActionIs, KindIs, Waits, NearestDir, IsOutOfOrder}
+use Rattle.ts_model.specs.Plans.{NearestDir, IsOutOfOrder}
 use Rattle.ts_model.specs.declared.plan.Entry.{Entry}
-use Rattle.ts_model.specs.declared.plan.Action.{Action}
 use Rattle.ts_model.specs.declared.plan.Plan.{Plan}
 use Rattle.ts_model.specs.declared.plan.Kind.TheVariants.{Commit, Mark}
 use Rattle.ts_need.specs.Needs.{IsFirst}
 use Rattle.ts_check.specs.Places.{IsIndex, no_action}
-use Rattle.ts_check.specs.Waiting.{IsLinked, LacksCommit, LacksDir, LacksLink, LacksVia}
+use Rattle.ts_check.specs.Waiting.{LacksCommit, LacksDir, LacksLink, LacksVia}
 use Rattle.ts_check.specs.Nearest.{IsDirAbove, IsNearestIndex, IsNearestOf}
-use Rattle.ts_check.proofs.Scans.{same_kind}
 use Rattle.ts_need.proofs.Lacking.{IsFirst-same}
 use Rattle.ts_name.proofs.Basics.{element_at}
 

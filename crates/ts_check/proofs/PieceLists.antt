@@ -1,7 +1,6 @@
 -- The pieces of each entry, by path and offset.
 use Rattle.std.proofs.Common.{◌≡◌, ◌⊎◌, ◌↔◌, ℕ, ◌<◌, List, [], ◌∷◌, length, get_or, Contains, Option, Some, None, MatchOption, Result, Ok, Err, IfOk, slice_get, Ordering, Less, Equal, Greater, sym, refl, ap, ◌∙◌, subst, inl, inr, arith}
 use Rattle.std.specs.Ordering.{nat_cmp, ordering_then}
-use Rattle.std.specs.BTreeMap.{BTreeMap, IsOrdered, get}
 use Rattle.std.specs.Map.{keys_of}
 use Rattle.std.specs.List.{All, AllPairs, AllByRecursion}
 use Rattle.std.specs.List.Sorted.{IsStrictlySortedBy}
@@ -22,10 +21,10 @@ use Rattle.ts_model.specs.declared.plan.Plan.{Plan}
 use Rattle.ts_check.proofs.Scans.{same_kind}
 use Rattle.ts_check.proofs.Rowed.{rows_order}
 use Rattle.ts_check.proofs.Staging.{one_source, source_lists, same_piece}
-use Rattle.ts_check.proofs.Placing.{place_eq}
+use Rattle.ts_check.proofs.InOrder.{place_eq}
 use Rattle.ts_check.proofs.Succeeding.{contains_cons, contains_tail, contains_none, at_key-yes, at_key-no}
 use Rattle.ts_check.specs.Lists.{at_key, AreKeysBelow}
-use Rattle.ts_check.specs.Pieces.{IsSourceOf, IsRowOf, IsStagedMap, Place, place_cmp, by_entry, IsPieceFor, IsEarlierPiece, ArePieces, AreAllPieces}
+use Rattle.ts_check.specs.Pieces.{IsSourceOf, IsRowOf, IsStagedMap, AreInOrder, Place, place_cmp, staged_at, by_entry, IsPieceFor, IsEarlierPiece, ArePieces, AreAllPieces}
 use Rattle.ts_name.proofs.Basics.{element_at}
 use Rattle.ts_name.specs.Laws.{is_eq_Equal}
 
@@ -106,27 +105,27 @@ keys_within : (n : ℕ) (xs : List (Place × ℕ)) → All (λ (x : Place × ℕ
 keys_within n [] all = λ k d less. absurd (omega arith)
 keys_within n (x ∷ xs) all = All-cons (λ (p : ℕ × ℕ). p.0 < n) (x.0.0, x.1) (by_entry xs) (All-head (λ (x : Place × ℕ). x.0.0 < n) x xs all) (keys_within n xs (All-tail (λ (x : Place × ℕ). x.0.0 < n) x xs all))
 
-module _ (xs ys : Listing Stamp) (first : IsListing xs) (second : IsListing ys) (plan : Plan) (map : BTreeMap Place ℕ) (staged : IsStagedMap xs ys plan (length plan.actions) map) where
+module _ (xs ys : Listing Stamp) (first : IsListing xs) (second : IsListing ys) (plan : Plan) (map : List (Place × ℕ)) (staged : IsStagedMap xs ys plan (length plan.actions) map) where
   abbrev Found : Place × ℕ → Type 0
-  Found x = get place_cmp map x.0 ≡ Some x.1
+  Found x = staged_at map x.0 ≡ Some x.1
 
   -- what is found at a place is a piece of its entry
-  piece_at : (z : Place) (k : ℕ) → get place_cmp map z ≡ Some k → (len : ℕ) × (p : Path) × KindIs plan k (Piece z.0 z.1.1 len p)
+  piece_at : (z : Place) (k : ℕ) → staged_at map z ≡ Some k → (len : ℕ) × (p : Path) × KindIs plan k (Piece z.0 z.1.1 len p)
   piece_at z k found = let h = staged.found z k found in (h.1.2.0, h.1.2.1, (h.1.1.0, h.1.1.1, h.1.1.2 ∙ h.1.2.3))
 
-  entry_at : (z : Place) (k : ℕ) → get place_cmp map z ≡ Some k → z.0 < length plan.entries
+  entry_at : (z : Place) (k : ℕ) → staged_at map z ≡ Some k → z.0 < length plan.entries
   entry_at z k found = let h = staged.found z k found in slice_get_within plan.entries z.0 h.1.2.4.0 h.1.2.4.2.0
 
   -- each piece is found at a place of its entry
-  place_of : (e k : ℕ) → IsPieceFor plan e k → (z : Place) × (get place_cmp map z ≡ Some k) × (z.0 ≡ e)
+  place_of : (e k : ℕ) → IsPieceFor plan e k → (z : Place) × (staged_at map z ≡ Some k) × (z.0 ≡ e)
   place_of e k piece =
       let at = staged.each k e piece.0 piece.1 piece.2 (slice_get_within plan.actions k piece.3.0 piece.3.1) piece.3 in
       let h = piece_at at.0 k at.1 in
       let kinds : Piece at.0.0 at.0.1.1 h.0 h.1 ≡ Piece e piece.0 piece.1 piece.2 = sym h.2.2 ∙ same_kind plan k h.2.0 (Piece e piece.0 piece.1 piece.2) h.2.1 piece.3 in
       (at.0, at.1, (same_piece at.0.0 at.0.1.1 h.0 e piece.0 piece.1 h.1 piece.2 kinds).0)
 
-  contained : (z : Place) (k : ℕ) → get place_cmp map z ≡ Some k → Contains map.entries (z, k)
-  contained z k found = Contains-from_lookup (λ (x y : Place) e. place_eq x y (is_eq_Equal (place_cmp x y) e)) z k map.entries found
+  contained : (z : Place) (k : ℕ) → staged_at map z ≡ Some k → Contains map (z, k)
+  contained z k found = Contains-from_lookup (λ (x y : Place) e. place_eq x y (is_eq_Equal (place_cmp x y) e)) z k map found
 
   relates : (x y : Place × ℕ) → Found x → Found y → x.0.0 ≡ y.0.0 → place_cmp x.0 y.0 ≡ Less → IsEarlierPiece plan x.1 y.1
   relates x y found_x found_y one less =
@@ -149,31 +148,31 @@ module _ (xs ys : Listing Stamp) (first : IsListing xs) (second : IsListing ys) 
         earlier = earlier;
       }
 
-  module _ (all : All (λ (x : Place × ℕ). get place_cmp map x.0 ≡ Some x.1) map.entries) where
-    pieces_are : IsOrdered place_cmp map → (e : ℕ) → ArePieces plan e (at_key e (by_entry map.entries))
+  module _ (all : All (λ (x : Place × ℕ). staged_at map x.0 ≡ Some x.1) map) where
+    pieces_are : AreInOrder map → (e : ℕ) → ArePieces plan e (at_key e (by_entry map))
     pieces_are ordered e = record {
       each = λ k. (
         λ h.
-            let x = listed_from e map.entries k h in
-            let found = All-contains (λ (x : Place × ℕ). get place_cmp map x.0 ≡ Some x.1) map.entries x.0 all x.1 in
+            let x = listed_from e map k h in
+            let found = All-contains (λ (x : Place × ℕ). staged_at map x.0 ≡ Some x.1) map x.0 all x.1 in
             let piece = piece_at x.0.0 x.0.1 found in
             subst (λ (z : ℕ). IsPieceFor plan z k) x.2 (subst (λ (z : ℕ). IsPieceFor plan x.0.0.0 z) x.3 (x.0.0.1.1, piece.0, piece.1, piece.2)),
-        λ piece. let z = place_of e k piece in listed_to e map.entries (z.0, k) (contained z.0 k z.1) z.2,
+        λ piece. let z = place_of e k piece in listed_to e map (z.0, k) (contained z.0 k z.1) z.2,
       );
-      order = in_order (IsEarlierPiece plan) (λ (x : Place × ℕ). get place_cmp map x.0 ≡ Some x.1) e (λ x y known_x known_y is_x is_y less. relates x y known_x known_y (is_x ∙ sym is_y) less) map.entries all ordered;
+      order = in_order (IsEarlierPiece plan) (λ (x : Place × ℕ). staged_at map x.0 ≡ Some x.1) e (λ x y known_x known_y is_x is_y less. relates x y known_x known_y (is_x ∙ sym is_y) less) map all ordered;
     }
 
-    pub keys_at : (entries : List Entry) (pairs : List (ℕ × ℕ)) → entries ≡ plan.entries → pairs ≡ by_entry map.entries → AreKeysBelow (length entries) pairs
+    pub keys_at : (entries : List Entry) (pairs : List (ℕ × ℕ)) → entries ≡ plan.entries → pairs ≡ by_entry map → AreKeysBelow (length entries) pairs
     keys_at entries pairs same is =
         subst (λ (z : List Entry). AreKeysBelow (length z) pairs) (sym same) (subst (λ (z : List (ℕ × ℕ)). AreKeysBelow (length plan.entries) z) (sym is)
-        (keys_within (length plan.entries) map.entries (λ k d less. entry_at (get_or map.entries k d).0 (get_or map.entries k d).1 (all k d less))))
+        (keys_within (length plan.entries) map (λ k d less. entry_at (get_or map k d).0 (get_or map k d).1 (all k d less))))
 
-    pub if_all : {E : Type 0} → IsOrdered place_cmp map → (entries : List Entry) (pairs : List (ℕ × ℕ)) → entries ≡ plan.entries → pairs ≡ by_entry map.entries → (r : Result (List (List ℕ)) E) → IfOk r (λ lists. length lists ≡ length entries)
+    pub if_all : {E : Type 0} → AreInOrder map → (entries : List Entry) (pairs : List (ℕ × ℕ)) → entries ≡ plan.entries → pairs ≡ by_entry map → (r : Result (List (List ℕ)) E) → IfOk r (λ lists. length lists ≡ length entries)
         → IfOk r (λ lists. (k : ℕ) → k < length entries → slice_get lists k ≡ Some (at_key k pairs)) → IfOk r (AreAllPieces plan)
     if_all ordered entries pairs same is (Ok lists) size are = record {
       size = size ∙ ap length same;
       each = λ e numbers at. let within = slice_get_within lists e numbers at in
-          subst (λ (z : List ℕ). ArePieces plan e z) (same_Some (at_key e (by_entry map.entries)) numbers (ap (λ (z : List (ℕ × ℕ)). Some (at_key e z)) (sym is) ∙ sym (are e (omega arith)) ∙ at)) (pieces_are ordered e);
+          subst (λ (z : List ℕ). ArePieces plan e z) (same_Some (at_key e (by_entry map)) numbers (ap (λ (z : List (ℕ × ℕ)). Some (at_key e z)) (sym is) ∙ sym (are e (omega arith)) ∙ at)) (pieces_are ordered e);
       within = λ e k piece. let z = place_of e k piece in subst (λ (n : ℕ). n < length plan.entries) z.2 (entry_at z.0 k z.1);
     }
     if_all ordered entries pairs same is (Err e) size are = tt

@@ -1,9 +1,11 @@
 -- The places of pieces in a map, and the first piece that stands again.
-use Rattle.std.proofs.Common.{◌≡◌, ◌⊎◌, ℕ, ◌+◌, ◌<◌, ◌≤◌, Bool, true, false, length, Option, Some, None, is_some, slice_get, Equal, sym, refl, ap, ◌∙◌, subst, inl, inr, arith}
-use Rattle.std.specs.Ordering.{is_eq, nat_cmp, ordering_then}
+use Rattle.std.proofs.Common.{◌≡◌, ◌⊎◌, ℕ, zero, suc, List, [], ◌∷◌, Contains, ap₂, ◌+◌, ◌<◌, ◌≤◌, Bool, true, false, length, Option, Some, None, is_some, slice_get, sym, refl, ap, ◌∙◌, subst, inl, inr, arith}
+use Rattle.std.specs.Ordering.{is_eq}
+use Rattle.rayon.specs.Numbers.{nat_range}
 use Rattle.std.specs.BTreeMap.{BTreeMap, get, Updates, IsEmpty}
+use Rattle.std.specs.List.{AllZip, filter_map, range_with_len}
 use Rattle.std.proofs.lemmas.Bool.{cases_eq, false≢true}
-use Rattle.std.proofs.lemmas.Map.Lookups.{exact_pairs, exact_unsigned}
+use Rattle.std.proofs.lemmas.Map.Views.{Contains-from_lookup}
 use Rattle.std.proofs.lemmas.Option.{none-some, same_Some, slice_get_within}
 use Rattle.ts_name.specs.Paths.{Path}
 use Rattle.ts_model.specs.Trees.{Listing, IsListing}
@@ -14,15 +16,13 @@ use Rattle.ts_model.specs.declared.plan.Action.{Action}
 use Rattle.ts_model.specs.declared.plan.Kind.{Kind}
 use Rattle.ts_model.specs.declared.plan.Kind.TheVariants.{Piece}
 use Rattle.ts_model.specs.declared.plan.Plan.{Plan}
+use Rattle.ts_check.proofs.InOrder.{place_eq, found_from}
 use Rattle.ts_check.proofs.Scans.{same_kind}
+use Rattle.ts_check.proofs.Succeeding.{contains_cons, contains_tail, contains_none}
 use Rattle.ts_check.proofs.Rowed.{file_row, one_row}
 use Rattle.ts_check.proofs.Staging.{IsPieceOf-from, one_source, source_lists, same_piece}
-use Rattle.ts_check.specs.Pieces.{on_side, IsSourceOf, IsPieceIn, IsRowOf, IsUnlawful, IsAgain, NotEachOnce, IsPlaceOf, IsStagedMap, Place, place_cmp}
+use Rattle.ts_check.specs.Pieces.{on_side, IsSourceOf, IsPieceIn, IsRowOf, IsUnlawful, IsAgain, NotEachOnce, IsPlaceOf, IsPlacing, IsStagedMap, IsMapOfAll, ArePlaces, AreInOrder, Place, place_cmp, staged_at}
 use Rattle.ts_name.specs.Laws.{is_eq_Equal}
-
--- places that compare equal are equal
-pub place_eq : (x y : Place) → place_cmp x y ≡ Equal → x ≡ y
-place_eq x y e = exact_pairs nat_cmp (λ (a b : ℕ × ℕ). ordering_then (nat_cmp a.0 b.0) (nat_cmp a.1 b.1)) exact_unsigned (exact_pairs nat_cmp nat_cmp exact_unsigned exact_unsigned) x y e
 
 -- what a map has at a place after another was put in
 after_put : (m n : BTreeMap Place ℕ) (z : Place) (i : ℕ) → Updates place_cmp m n z (Some i) → (q : Place) → ((q ≡ z) × (get place_cmp n q ≡ Some i)) ⊎ (get place_cmp n q ≡ get place_cmp m q)
@@ -34,7 +34,7 @@ after_put m n z i puts q = go (is_eq (place_cmp z q)) refl
 
 -- the map after n actions, none of which stands again
 pub record IsPlaced (xs ys : Listing Stamp) (plan : Plan) (n : ℕ) (map : BTreeMap Place ℕ) : Type 0 where
-  pub map_is : IsStagedMap xs ys plan n map
+  pub map_is : IsStagedMap xs ys plan n map.entries
   pub fresh : (k : ℕ) → k < n → ¬ IsAgain plan k
 
 module _ (xs ys : Listing Stamp) (first : IsListing xs) (second : IsListing ys) (plan : Plan) where
@@ -170,6 +170,53 @@ module _ (xs ys : Listing Stamp) (first : IsListing xs) (second : IsListing ys) 
         ],
       )
 
+  -- the places of all pieces, in order, are a map of all
+  pub is_map : (staged : List (Place × ℕ)) → ((k : ℕ) → ¬ IsUnlawful xs ys plan k) → AreInOrder staged → ArePlaces xs ys plan staged → IsMapOfAll xs ys plan staged
+  is_map staged right order are = (
+    record {
+      found = λ z i e. let h = are.each z i (listed z i e) in (slice_get_within plan.actions i h.1.0 h.1.1, h);
+      complete = λ z i kind less at of. (i, found_at i kind z less at of);
+      each = λ i e offset len p less at. let h = stands i e offset len p less at in (h.0, found_from staged order h.0 i h.1);
+    },
+    fresh,
+  )
+    where
+      listed : (z : Place) (i : ℕ) → staged_at staged z ≡ Some i → Contains staged (z, i)
+      listed z i e = Contains-from_lookup (λ (x y : Place) e. place_eq x y (is_eq_Equal (place_cmp x y) e)) z i staged e
+
+      -- a piece stands somewhere
+      stands : (i e offset len : ℕ) (p : Path) → i < length plan.actions → KindIs plan i (Piece e offset len p) → (z : Place) × Contains staged (z, i)
+      stands i e offset len p less at = elim (are.all i less) [
+        | inl h ↦ h
+        | inr none ↦ absurd (right i (e, offset, len, p, at, λ piece. let h = has_place e offset len p piece in none (Piece e offset len p) h.0 at h.1))
+      ]
+
+      -- and is found at its place
+      found_at : (i : ℕ) (kind : Kind) (z : Place) → i < length plan.actions → KindIs plan i kind → IsPlaceOf xs ys plan kind z → staged_at staged z ≡ Some i
+      found_at i kind z less at of = elim (are.all i less) [
+        | inl h ↦ (
+            let g = are.each h.0 i h.1 in
+            let kinds : g.0 ≡ kind = sym g.1.2 ∙ same_kind plan i g.1.0 kind g.1.1 at in
+            let one : h.0 ≡ z = one_place kind h.0 z (subst (λ k. IsPlaceOf xs ys plan k h.0) kinds g.2) of in
+            found_from staged order z i (subst (λ w. Contains staged (w, i)) one h.1))
+        | inr none ↦ absurd (none kind z at of)
+      ]
+
+      fresh : (k : ℕ) → ¬ IsAgain plan k
+      fresh k again =
+          let less = slice_get_within plan.actions k again.4.0 again.4.1 in
+          let h = stands k again.0 again.1 again.2 again.3 less again.4 in
+          let z = h.0 in
+          let g = are.each z k h.1 in
+          let of = g.2 in
+          let kinds : g.0 ≡ Piece again.0 again.1 again.2 again.3 = sym g.1.2 ∙ same_kind plan k g.1.0 (Piece again.0 again.1 again.2 again.3) g.1.1 again.4 in
+          let same = same_piece z.0 z.1.1 of.0 again.0 again.1 again.2 of.1 again.3 (sym of.3 ∙ kinds) in
+          let earlier : again.5.1 ≡ Piece z.0 z.1.1 again.5.4.0 of.1 = again.5.4.1 ∙ ap (λ w. Piece w again.1 again.5.4.0 again.3) (sym same.0) ∙ ap (λ w. Piece z.0 w again.5.4.0 again.3) (sym same.1) ∙ ap (λ w. Piece z.0 z.1.1 again.5.4.0 w) (sym same.3) in
+          let other = found_at again.5.0 again.5.1 z (let low = again.5.2 in omega arith) again.5.3 (subst (λ w. IsPlaceOf xs ys plan w z) (sym earlier) (place_like g.0 z again.5.4.0 of)) in
+          let one : again.5.0 ≡ k = same_Some again.5.0 k (sym other ∙ found_from staged order z k h.1) in
+          let low = again.5.2 in
+          omega arith
+
   -- where the path of a piece has no row in its source, it has no place
   pub no_place : (kind : Kind) (e offset len : ℕ) (p : Path) (rows : Listing Stamp) → kind ≡ Piece e offset len p → IsSourceOf xs ys plan e rows → ((k : ℕ) → ¬ IsRowOf rows k p) → (z : Place) → ¬ IsPlaceOf xs ys plan kind z
   no_place kind e offset len p rows is src none z of =
@@ -188,7 +235,7 @@ none_of None e = refl
 none_of (Some j) e = absurd (false≢true (sym e))
 
 -- after all actions
-pub finish_placing : (xs ys : Listing Stamp) (plan : Plan) (n : ℕ) (map : BTreeMap Place ℕ) → length plan.actions ≤ n → IsPlaced xs ys plan n map → IsStagedMap xs ys plan (length plan.actions) map × ((k : ℕ) → ¬ IsAgain plan k)
+pub finish_placing : (xs ys : Listing Stamp) (plan : Plan) (n : ℕ) (map : BTreeMap Place ℕ) → length plan.actions ≤ n → IsPlaced xs ys plan n map → IsStagedMap xs ys plan (length plan.actions) map.entries × ((k : ℕ) → ¬ IsAgain plan k)
 finish_placing xs ys plan n map all placed = (
   record {
     found = λ z i e. let h = placed.map_is.found z i e in (slice_get_within plan.actions i h.1.1.0 h.1.1.1, h.1);
@@ -197,3 +244,46 @@ finish_placing xs ys plan n map all placed = (
   },
   λ k again. placed.fresh k (let h = slice_get_within plan.actions k again.4.0 again.4.1 in omega arith) again,
 )
+
+-- ---- places that were looked for one by one
+
+module _ (xs ys : Listing Stamp) (plan : Plan) where
+  each_from : (ns : List ℕ) (os : List (Option (Place × ℕ))) → AllZip (IsPlacing xs ys plan) ns os → (z : Place) (i : ℕ) → Contains (filter_map (λ o. o) os) (z, i) → (kind : Kind) × KindIs plan i kind × IsPlaceOf xs ys plan kind z
+  each_from [] [] zip z i h = absurd (contains_none (z, i) h)
+  each_from [] (o ∷ os) zip z i h = absurd zip
+  each_from (n ∷ ns) [] zip z i h = absurd zip
+  each_from (n ∷ ns) (None ∷ os) zip z i h = each_from ns os zip.1 z i h
+  each_from (n ∷ ns) (Some x ∷ os) zip z i h = elim (contains_cons x (filter_map (λ o. o) os) (z, i) h) [
+    | inl here ↦ (
+        let number : n ≡ i = sym zip.0.0 ∙ ap (λ (w : Place × ℕ). w.1) here in
+        let g = zip.0.1 in
+        (g.0, subst (λ k. KindIs plan k g.0) number g.1, subst (λ w. IsPlaceOf xs ys plan g.0 w) (ap (λ (w : Place × ℕ). w.0) here) g.2))
+    | inr later ↦ each_from ns os zip.1 z i later
+  ]
+
+  abbrev Stands : List (Place × ℕ) → ℕ → Type 0
+  Stands staged i = ((z : Place) × Contains staged (z, i)) ⊎ ((kind : Kind) (z : Place) → KindIs plan i kind → ¬ IsPlaceOf xs ys plan kind z)
+
+  all_from : (a n : ℕ) (os : List (Option (Place × ℕ))) → AllZip (IsPlacing xs ys plan) (range_with_len a n) os → (i : ℕ) → a ≤ i → i < a + n → Stands (filter_map (λ o. o) os) i
+  all_from a zero os zip i low high = absurd (omega arith)
+  all_from a (suc n) [] zip i low high = absurd zip
+  all_from a (suc n) (None ∷ os) zip i low high = elim (cases_eq i a) [
+    | inl same ↦ inr (subst (λ k. (kind : Kind) (z : Place) → KindIs plan k kind → ¬ IsPlaceOf xs ys plan kind z) (sym same) zip.0)
+    | inr differ ↦ all_from (a + 1) n os zip.1 i (omega arith) (omega arith)
+  ]
+  all_from a (suc n) (Some x ∷ os) zip i low high = elim (cases_eq i a) [
+    | inl same ↦ inl (x.0, (0, omega arith, (let number : x.1 ≡ i = zip.0.0 ∙ sym same in λ j. (x.0, number j))))
+    | inr differ ↦ elim (all_from (a + 1) n os zip.1 i (omega arith) (omega arith)) [
+      | inl h ↦ inl (h.0, contains_tail x (filter_map (λ o. o) os) (h.0, i) h.1)
+      | inr none ↦ inr none
+    ]
+  ]
+
+  pub are_places : (start end : ℕ) (ns : List ℕ) (os : List (Option (Place × ℕ))) (staged : List (Place × ℕ)) → (start ≡ 0) × (end ≡ length plan.actions) → ns ≡ nat_range start end → AllZip (IsPlacing xs ys plan) ns os → staged ≡ filter_map (λ o. o) os → ArePlaces xs ys plan staged
+  are_places start end ns os staged ends range zip is =
+      let whole : ns ≡ range_with_len 0 (length plan.actions) = range ∙ ap₂ range_with_len ends.0 (let low = ends.0 in let high = ends.1 in omega arith) in
+      let moved : AllZip (IsPlacing xs ys plan) (range_with_len 0 (length plan.actions)) os = subst (λ z. AllZip (IsPlacing xs ys plan) z os) whole zip in
+      record {
+        each = λ z i h. each_from (range_with_len 0 (length plan.actions)) os moved z i (subst (λ w. Contains w (z, i)) is h);
+        all = λ i less. subst (λ w. Stands w i) (sym is) (all_from 0 (length plan.actions) os moved i (omega arith) (omega arith));
+      }

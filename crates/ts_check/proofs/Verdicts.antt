@@ -90,7 +90,7 @@ broken_here s plan rule place before first = record { earlier = λ r k less. bef
 
 -- ---- what the rules that hold say
 
-pub limits_hold : (s : Snapshot) (plan : Plan) → HoldBelow s plan 5 → (length plan.entries ≤ 1048576) × (length plan.actions ≤ 1048576)
+pub limits_hold : (s : Snapshot) (plan : Plan) → HoldBelow s plan 3 → (length plan.entries ≤ 1048576) × (length plan.actions ≤ 1048576)
 limits_hold s plan before = (entries, actions)
   where
     within : ¬ (¬ WithinLimits plan)

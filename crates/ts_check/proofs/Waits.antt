@@ -1,21 +1,16 @@
 -- Ascending predecessors, and what an action waits for.
-use Rattle.std.proofs.Common.{◌≡◌, ◌≢◌, ◌⊎◌, ℕ, zero, suc, ◌+◌, ◌<◌, ◌≤◌, List, [], ◌∷◌, length, drop, get_or, Contains, MatchResult, IsTrue, is_ok, Result, Ok, Err, Option, Some, None, slice_get, sym, refl, ◌∙◌, subst, inl, inr, arith}
-use Rattle.std.proofs.lemmas.Bool.{cases_eq, cases_lt}
+use Rattle.std.proofs.Common.{◌≡◌, ℕ, zero, suc, ◌+◌, ◌<◌, ◌≤◌, List, [], ◌∷◌, length, drop, get_or, Contains, MatchResult, IsTrue, is_ok, Result, Ok, Err, sym, refl, ◌∙◌, subst, inl, inr, arith}
+use Rattle.std.proofs.lemmas.Bool.{cases_lt}
 use Rattle.std.specs.Ordering.{nat_cmp}
 use Rattle.std.specs.List.Sorted.{IsBinarySearchResult}
 use Rattle.std.proofs.lemmas.Bool.{true≢false}
 use Rattle.std.proofs.lemmas.List.Sorted.{searched}
-use Rattle.std.proofs.lemmas.Option.{same_Some, slice_get-get_or, get_or_from_slice_get, slice_get_within}
-use Rattle.ts_model.specs.Plans.{ActionIs, KindIs, Waits, AscendBelow}
+use Rattle.std.proofs.lemmas.Option.{same_Some, slice_get-get_or, get_or_from_slice_get}
+use Rattle.ts_model.specs.Plans.{ActionIs, Waits, AscendBelow}
 use Rattle.ts_model.specs.declared.plan.Action.{Action}
 use Rattle.ts_model.specs.declared.plan.Plan.{Plan}
-use Rattle.ts_model.specs.declared.plan.Kind.TheVariants.{Piece, Commit, Mark}
-use Rattle.ts_name.specs.Paths.{Path}
-use Rattle.ts_check.proofs.Scans.{same_kind}
-use Rattle.ts_check.specs.Places.{IsFirst, IsIndex}
 use Rattle.ts_check.specs.Waiting.{AscendFrom, HasBadPreds}
 use Rattle.ts_laws.proofs.Lists.{decide_ascend}
-use Rattle.ts_need.proofs.Lacking.{IsFirst-same}
 
 -- ---- ascending numbers
 

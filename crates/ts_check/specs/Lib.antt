@@ -7,3 +7,4 @@ pub mod Lists
 pub mod Checkup
 pub mod Answers
 pub mod Answered
+pub mod Gathered

@@ -1,5 +1,5 @@
 -- Words for the rules about what an action waits for.
-use Rattle.std.specs.Prelude.{◌≡◌, ◌≢◌, ◌↔◌, ℕ, ◌+◌, ◌<◌, ◌≤◌, min, List, [], ◌∷◌, ◌++◌, length, map, Contains, Option, Some, None, slice_get}
+use Rattle.std.specs.Prelude.{◌≡◌, ◌≢◌, ◌↔◌, ℕ, ◌+◌, ◌<◌, ◌≤◌, List, [], ◌∷◌, ◌++◌, length, map, Contains, Some, slice_get}
 use Rattle.ts_name.specs.Paths.{Path}
 use Rattle.ts_model.specs.Plans.{ActionIs, KindIs, Waits, AscendBelow, NearestDir}
 use Rattle.ts_model.specs.declared.plan.Action.{Action}

@@ -14,6 +14,7 @@ mod piece_lists;
 mod pieces;
 mod rules;
 mod safety;
+mod standing;
 mod successors;
 mod waiting;
 

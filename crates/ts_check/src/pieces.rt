@@ -1,8 +1,8 @@
 //! The pieces: each is lawful, and each lawful one stands once.
 
 ghost use Rattle.std.specs.Prelude.{◌≡◌, ◌≢◌, ◌≤◌, ◌<◌, ◌↔◌, ℕ, length, IsTrue, IsSome, IfSome, IfNone, IfOk, IfErr, Some, None, false, []};
-ghost use Rattle.ts_check.specs.Pieces.{HasAll, HasAllBelow, HasNoRoot, IsPieceIn, IsRowOf, IsSourceOf, IsUnlawful, IsPlaceOf, IsStagedMap, LacksBelow};
-ghost use Rattle.ts_check.specs.Pieces.{LacksRange, LacksSome, NotEachOnce, Place, IsMapOfAll, IsMapOfEach, IsSizeOf};
+ghost use Rattle.ts_check.specs.Pieces.{AreInOrder, HasAll, HasAllBelow, HasNoRoot, IsListOfEach, IsPieceIn, IsReady, IsRowOf, IsSourceOf, IsUnlawful};
+ghost use Rattle.ts_check.specs.Pieces.{IsStagedMap, LacksBelow, LacksRange, LacksSome, NotEachOnce, IsSizeOf};
 ghost use Rattle.ts_check.specs.Places.{IsFirst, Never};
 ghost use Rattle.ts_model.specs.Plans.{EntryIs, IsCopied, IsRange, action_limit, entry_limit};
 ghost use Rattle.ts_model.specs.Trees.{IsListing};
@@ -11,15 +11,12 @@ ghost use Rattle.ts_name.specs.Paths.{IsAbove};
 
 use crate::finding::first_where;
 use crate::order::row_of;
+use crate::standing::{Place, Staged, staged, stands_at};
 use std::alloc::{AllocError, Global};
-use std::collections::BTreeMap;
 use std::thread::Threads;
 use ts_model::plan::{Kind, PIECE_SIZE, Plan, Side};
 use ts_model::row::{Content, Row, Stamp};
 use ts_name::Path;
-
-/// An entry, a row of its source, and an offset.
-pub type Place = (u32, (usize, u64));
 
 /// Whether a piece of a file of this size begins here and has this length.
 fn is_range(size: u64, offset: u64, length: u64) -> bool
@@ -28,41 +25,38 @@ fn is_range(size: u64, offset: u64, length: u64) -> bool
     offset % PIECE_SIZE == 0 && offset < size && length == PIECE_SIZE.min(size - offset)
 }
 
-/// A row of each side where a look begins: the one that was found last.
+/// A row of each side where a look begins.
 #[derive(Clone, Copy)]
-struct Found {
+pub struct Near {
     first: usize,
     second: usize,
 }
 
-impl Found {
-    /// Nothing was found yet.
-    fn none() -> Found {
-        Found {
-            first: 0,
-            second: 0,
+impl Near {
+    /// As far into the rows as number `i` is among as many. Where paths come in order, a look that begins there isn't long.
+    pub fn new(first: &[Row<Stamp>], second: &[Row<Stamp>], i: usize, count: usize) -> Near {
+        Near {
+            first: share(first.len(), i, count),
+            second: share(second.len(), i, count),
         }
     }
 
-    /// The row that was found last on a side.
-    fn at(&self, side: Side) -> usize {
+    /// The row of a side.
+    pub fn at(&self, side: Side) -> usize {
         match side {
             Side::First => self.first,
             Side::Second => self.second,
         }
     }
+}
 
-    /// Keeps a row as the one that was found last.
-    fn set(&mut self, side: Side, row: usize) {
-        match side {
-            Side::First => self.first = row,
-            Side::Second => self.second = row,
-        }
-    }
+/// As far into the rows as number `i` is among as many.
+fn share(rows: usize, i: usize, count: usize) -> usize {
+    rows.saturating_mul(i) / count.max(1)
 }
 
 /// The side that an entry is copied from, and its rows.
-fn source_of<'a>(
+pub fn source_of<'a>(
     plan: &Plan,
     first: &'a [Row<Stamp>],
     second: &'a [Row<Stamp>],
@@ -104,7 +98,7 @@ fn is_piece(
     plan: &Plan,
     first: &[Row<Stamp>],
     second: &[Row<Stamp>],
-    near: Found,
+    near: Near,
     e: usize,
     offset: u64,
     length: u64,
@@ -126,11 +120,6 @@ fn is_piece(
     is_below_entry(plan, e, path) && is_range(size, offset, length)
 }
 
-/// As far into the rows as action `i` is into the actions. Where pieces are in path order, a look that begins there isn't long.
-fn share(rows: usize, i: usize, actions: usize) -> usize {
-    rows.saturating_mul(i) / actions.max(1)
-}
-
 /// Whether action `i` is a piece that isn't lawful.
 fn is_unlawful(plan: &Plan, first: &[Row<Stamp>], second: &[Row<Stamp>], i: usize) -> bool
     requires first { IsListing first.now }
@@ -150,10 +139,7 @@ fn is_unlawful(plan: &Plan, first: &[Row<Stamp>], second: &[Row<Stamp>], i: usiz
     else {
         return false;
     };
-    let near = Found {
-        first: share(first.len(), i, actions.len()),
-        second: share(second.len(), i, actions.len()),
-    };
+    let near = Near::new(first, second, i, actions.len());
     !is_piece(
         plan,
         first,
@@ -188,71 +174,15 @@ pub fn first_unlawful(
     )
 }
 
-/// The number of the action that stages each place.
-pub type Staged = BTreeMap<Place, u32>;
-
-/// Where the file of a piece stands: its entry, the row of its source, and the offset.
-fn place_of(
-    plan: &Plan,
-    first: &[Row<Stamp>],
-    second: &[Row<Stamp>],
-    found: &mut Found,
-    kind: &Kind,
-) -> Option<Place>
-    requires first { IsListing first.now }
-    requires second { IsListing second.now }
-    ensures some { IfSome result (λ place. IsPlaceOf first.now second.now plan.now kind.now place) }
-    ensures none { IfNone result ((place : Place) → ¬ IsPlaceOf first.now second.now plan.now kind.now place) }
-{
-    let Kind::Piece {
-        entry,
-        offset,
-        path,
-        ..
-    } = kind
-    else {
-        return None;
-    };
-    let (side, rows) = source_of(plan, first, second, *entry as usize)?;
-    let row = row_of(rows, found.at(side), path)?;
-    found.set(side, row);
-    Some((*entry, (row, *offset)))
-}
-
-/// The place of each piece, or the first piece that stands again.
-fn staged(
-    alloc: Global,
-    plan: &Plan,
-    first: &[Row<Stamp>],
-    second: &[Row<Stamp>],
-) -> Result<Result<Staged, u64>, AllocError>
-    requires first { IsListing first.now }
-    requires second { IsListing second.now }
-    requires few { length plan.now.actions ≤ action_limit }
-    requires lawful { Never (IsUnlawful first.now second.now plan.now) }
-    ensures staged { IfOk result (λ found. IfOk found (IsMapOfAll first.now second.now plan.now)) }
-    ensures wrong { IfOk result (λ found. IfErr found (λ place. IsFirst (NotEachOnce first.now second.now plan.now) (Some place))) }
-{
-    let mut map = BTreeMap::new(alloc);
-    let mut found = Found::none();
-    for (i, action) in plan.actions.as_slice().iter().enumerate() {
-        if let Some(place) = place_of(plan, first, second, &mut found, &action.kind) {
-            if map.insert(place, i as u32)?.is_some() {
-                return Ok(Err(i as u64));
-            }
-        }
-    }
-    Ok(Ok(map))
-}
-
 /// Whether each range of a file of this size is staged, for the entry and the row.
-fn has_all(map: &Staged, e: u32, row: usize, size: u64) -> bool
-    ensures all { IsTrue result → HasAll map.now e row size }
-    ensures lacking { result ≡ false → LacksRange map.now e row size }
+fn has_all(staged: &[(Place, u32)], e: u32, row: usize, size: u64) -> bool
+    requires { AreInOrder staged.now }
+    ensures all { IsTrue result → HasAll staged.now e row size }
+    ensures lacking { result ≡ false → LacksRange staged.now e row size }
 {
     let mut offset: u64 = 0;
     while offset < size {
-        if !map.contains_key(&(e, (row, offset))) {
+        if !stands_at(staged, &(e, (row, offset))) {
             return false;
         }
         if size - offset <= PIECE_SIZE {
@@ -263,31 +193,24 @@ fn has_all(map: &Staged, e: u32, row: usize, size: u64) -> bool
     true
 }
 
-/// Whether each file at a path or below it has all its pieces of an entry.
-fn is_staged(
-    top: &Path,
-    side: Side,
-    rows: &[Row<Stamp>],
-    found: &mut Found,
-    map: &Staged,
-    e: u32,
-) -> bool
+/// Whether each file at a path or below it has all its pieces of an entry. The look for its row begins at `near`.
+fn is_staged(top: &Path, rows: &[Row<Stamp>], near: usize, staged: &[(Place, u32)], e: u32) -> bool
     requires listing { IsListing rows.now }
     requires some { top.now ≢ [] }
-    ensures all { IsTrue result → HasAllBelow top.now rows.now map.now e }
-    ensures lacking { result ≡ false → LacksBelow top.now rows.now map.now e }
+    requires order { AreInOrder staged.now }
+    ensures all { IsTrue result → HasAllBelow top.now rows.now staged.now e }
+    ensures lacking { result ≡ false → LacksBelow top.now rows.now staged.now e }
 {
-    let Some(start) = row_of(rows, found.at(side), top) else {
+    let Some(start) = row_of(rows, near, top) else {
         return true;
     };
-    found.set(side, start);
     for k in start..rows.len() {
         let row = &rows[k];
         if !top.is_prefix(&row.path) {
             return true;
         }
         if let Some(size) = file_size(row) {
-            if !has_all(map, e, k, size) {
+            if !has_all(staged, e, k, size) {
                 return false;
             }
         }
@@ -295,33 +218,63 @@ fn is_staged(
     true
 }
 
-/// The first entry of which a lawful piece isn't staged.
-fn first_unstaged(
+/// Whether a lawful piece of entry `e` isn't staged.
+fn is_unstaged(
     plan: &Plan,
     first: &[Row<Stamp>],
     second: &[Row<Stamp>],
-    map: &Staged,
+    staged: &[(Place, u32)],
+    e: usize,
+) -> bool
+    requires few { length plan.now.entries ≤ entry_limit }
+    requires first { IsListing first.now }
+    requires second { IsListing second.now }
+    requires places { HasNoRoot plan.now }
+    requires staged { IsStagedMap first.now second.now plan.now (length plan.now.actions) staged.now }
+    requires order { AreInOrder staged.now }
+    ensures { IsTrue result ↔ LacksSome first.now second.now plan.now e }
+{
+    let entries = plan.entries.as_slice();
+    let Some(entry) = entries.get(e) else {
+        return false;
+    };
+    let Some((side, rows)) = source_of(plan, first, second, e) else {
+        return false;
+    };
+    let near = Near::new(first, second, e, entries.len());
+    !is_staged(&entry.path, rows, near.at(side), staged, e as u32)
+}
+
+/// The first entry of which a lawful piece isn't staged.
+fn first_unstaged(
+    rt: &(impl Threads + Sync),
+    plan: &Plan,
+    first: &[Row<Stamp>],
+    second: &[Row<Stamp>],
+    staged: &[(Place, u32)],
 ) -> Option<usize>
     requires few { length plan.now.entries ≤ entry_limit }
     requires first { IsListing first.now }
     requires second { IsListing second.now }
     requires places { HasNoRoot plan.now }
-    requires map { IsStagedMap first.now second.now plan.now (length plan.now.actions) map.now }
+    requires staged { IsStagedMap first.now second.now plan.now (length plan.now.actions) staged.now }
+    requires order { AreInOrder staged.now }
     ensures { IsFirst (LacksSome first.now second.now plan.now) result }
 {
-    let mut found = Found::none();
-    for (e, entry) in plan.entries.as_slice().iter().enumerate() {
-        if let Some((side, rows)) = source_of(plan, first, second, e) {
-            if !is_staged(&entry.path, side, rows, &mut found, map, e as u32) {
-                return Some(e);
-            }
-        }
-    }
-    None
+    let count = plan.entries.as_slice().len();
+    first_where(
+        rt,
+        count,
+        |e: &usize| -> bool
+            requires { IsReady first.now second.now plan.now staged.now }
+            ensures { IsTrue result ↔ LacksSome first.entry.now second.entry.now plan.entry.now e.now }
+        { is_unstaged(plan, first, second, staged, *e) },
+    )
 }
 
 /// The place of each piece, or the first place where not each lawful piece stands once.
 pub fn each_once(
+    rt: &(impl Threads + Sync),
     alloc: Global,
     plan: &Plan,
     first: &[Row<Stamp>],
@@ -333,15 +286,15 @@ pub fn each_once(
     requires second { IsListing second.now }
     requires places { HasNoRoot plan.now }
     requires lawful { Never (IsUnlawful first.now second.now plan.now) }
-    ensures staged { IfOk result (λ found. IfOk found (IsMapOfEach first.now second.now plan.now)) }
+    ensures staged { IfOk result (λ found. IfOk found (λ staged. IsListOfEach first.now second.now plan.now staged.items)) }
     ensures wrong { IfOk result (λ found. IfErr found (λ place. IsFirst (NotEachOnce first.now second.now plan.now) (Some place))) }
 {
-    let map = match staged(alloc, plan, first, second)? {
-        Ok(map) => map,
+    let staged = match staged(rt, alloc, plan, first, second)? {
+        Ok(staged) => staged,
         Err(place) => return Ok(Err(place)),
     };
-    match first_unstaged(plan, first, second, &map) {
+    match first_unstaged(rt, plan, first, second, &staged) {
         Some(e) => Ok(Err((plan.actions.as_slice().len() + e) as u64)),
-        None => Ok(Ok(map)),
+        None => Ok(Ok(staged)),
     }
 }

@@ -1,8 +1,9 @@
 ghost use Rattle.std.specs.Prelude.{◌≡◌, ◌≤◌, ℕ, length, IfOk, IfErr, OnOk};
-ghost use Rattle.ts_check.specs.Pieces.{AreAllPieces, IsStagedMap};
-ghost use Rattle.ts_check.specs.Places.{IsIndex, kind_of};
+ghost use Rattle.ts_check.specs.Gathered.{IsGathered, IsIndexed};
+ghost use Rattle.ts_check.specs.Pieces.{AreAllPieces};
+ghost use Rattle.ts_check.specs.Places.{Never};
 ghost use Rattle.ts_check.specs.Verdict.{HoldBelow, IsSafe, IsTold};
-ghost use Rattle.ts_check.specs.declared.census.Role.TheVariants.{Commits, Marks};
+ghost use Rattle.ts_check.specs.Waiting.{HasBadPreds};
 ghost use Rattle.ts_check.specs.declared.fault.CheckFault.TheVariants.{Broken};
 ghost use Rattle.ts_model.specs.Plans.{Valid, action_limit, entry_limit};
 ghost use Rattle.ts_model.specs.Sync.{listed_snapshot};
@@ -16,26 +17,36 @@ use crate::fault::CheckFault;
 use crate::limits;
 use crate::lists::Lists;
 use crate::piece_lists::piece_lists;
-use crate::pieces::{Staged, each_once, first_unlawful};
+use crate::pieces::{each_once, first_unlawful};
 use crate::safety::valid_plans_are_safe;
 use crate::successors::successors;
 use crate::waiting::{
     first_bad_preds, first_without_commit, first_without_dir, first_without_piece,
 };
-use std::alloc::Global;
-use std::thread::Threads;
+use std::alloc::{AllocError, Global};
+use std::thread::{Threads, join};
 use ts_hold::Holds;
 use ts_model::plan::{Plan, PlanRule};
 use ts_need::first_wrong;
 use ts_need::state::State;
 use ts_print::Print;
 
-/// What was found of a plan's actions: the commit and the mark of each entry, and where each piece stands.
+/// What is found of a plan's actions without a look at the prints: the commit and the mark of each entry, or the first place
+/// where not just each entry that wants one has one, and the actions that wait for each action.
+#[derive(Drop)]
+struct Gathered {
+    commits: Result<Vec<u32>, u64>,
+    marks: Result<Vec<u32>, u64>,
+    successors: Lists,
+}
+
+/// What was found of the actions of a plan that keeps all rules but those about what commits and marks wait for.
 #[derive(Drop)]
 struct Index {
     commits: Vec<u32>,
     marks: Vec<u32>,
-    staged: Staged,
+    pieces: Lists,
+    successors: Lists,
 }
 
 /// The refusal of a plan that breaks this rule first, and here.
@@ -45,76 +56,153 @@ fn broken(rule: PlanRule, place: u64) -> CheckFault
     CheckFault::Broken { rule, place }
 }
 
-/// The rules about limits, entries and reasons.
-fn check_entries(
-    rt: &(impl Threads + Sync),
-    alloc: Global,
-    plan: &Plan,
-    state: &State,
-) -> Result<(), CheckFault>
-    requires { AreListings state.now }
-    ensures holds { OnOk result (HoldBelow (snapshot_of state.now) plan.now 5) }
-    ensures told { IfErr result (IsTold (snapshot_of state.now) plan.now) }
+/// The rules about limits, and about the order of the entries.
+fn check_limits(rt: &(impl Threads + Sync), plan: &Plan, _state: &State) -> Result<(), CheckFault>
+    requires { AreListings _state.now }
+    ensures holds { OnOk result (HoldBelow (snapshot_of _state.now) plan.now 3) }
+    ensures told { IfErr result (IsTold (snapshot_of _state.now) plan.now) }
 {
     if let Some(place) = limits::first_wrong(plan) {
         return Err(broken(PlanRule::Limits, place));
     }
-    let entries = plan.entries.as_slice();
-    if let Some(place) = first_out_of_order(rt, entries) {
-        return Err(broken(PlanRule::EntriesAscend, place as u64));
+    match first_out_of_order(rt, plan.entries.as_slice()) {
+        Some(place) => Err(broken(PlanRule::EntriesAscend, place as u64)),
+        None => Ok(()),
     }
-    match first_wrong(
-        alloc,
-        entries,
-        state.archive,
-        state.first,
-        state.second,
-        state.holds,
-    )? {
+}
+
+/// The rules about reasons.
+fn check_reasons(
+    alloc: Global,
+    plan: &Plan,
+    archive: &Print,
+    first: &Print,
+    second: &Print,
+    holds: &Holds,
+) -> Result<(), CheckFault>
+    requires { HoldBelow (listed_snapshot archive.now first.now second.now holds.now) plan.now 3 }
+    ensures holds { OnOk result (HoldBelow (listed_snapshot archive.now first.now second.now holds.now) plan.now 5) }
+    ensures told { IfErr result (IsTold (listed_snapshot archive.now first.now second.now holds.now) plan.now) }
+{
+    let entries = plan.entries.as_slice();
+    match first_wrong(alloc, entries, archive, first, second, holds)? {
         Some(found) => Err(broken(found.rule, found.place)),
         None => Ok(()),
     }
 }
 
-/// The rules about predecessors, commits, pieces and marks, each by itself.
-fn check_actions(
+/// What is found of the actions without a look at the prints.
+fn gather(alloc: Global, plan: &Plan) -> Result<Gathered, AllocError>
+    requires entries { length plan.now.entries ≤ entry_limit }
+    requires actions { length plan.now.actions ≤ action_limit }
+    requires ascending { Never (HasBadPreds plan.now) }
+    ensures { IfOk result (IsGathered plan.now) }
+{
+    let commits = one_each(alloc, plan, Role::Commits)?;
+    let marks = one_each(alloc, plan, Role::Marks)?;
+    let successors = successors(alloc, plan)?;
+    Ok(Gathered {
+        commits,
+        marks,
+        successors,
+    })
+}
+
+/// The rules about reasons and predecessors. The actions are looked at while the reasons are compared.
+fn check_entries(
     rt: &(impl Threads + Sync),
     alloc: Global,
     plan: &Plan,
     state: &State,
-) -> Result<Index, CheckFault>
+) -> Result<Gathered, CheckFault>
     requires listing { AreListings state.now }
-    requires before { HoldBelow (snapshot_of state.now) plan.now 5 }
-    ensures holds { OnOk result (HoldBelow (snapshot_of state.now) plan.now 10) }
+    requires before { HoldBelow (snapshot_of state.now) plan.now 3 }
+    ensures holds { OnOk result (HoldBelow (snapshot_of state.now) plan.now 6) }
     ensures told { IfErr result (IsTold (snapshot_of state.now) plan.now) }
-    ensures commits { IfOk result (λ index. IsIndex plan.now (kind_of Commits) (length plan.now.actions) index.commits.items) }
-    ensures marks { IfOk result (λ index. IsIndex plan.now (kind_of Marks) (length plan.now.actions) index.marks.items) }
-    ensures staged { IfOk result (λ index. IsStagedMap state.now.first.now state.now.second.now plan.now (length plan.now.actions) index.staged) }
+    ensures gathered { IfOk result (IsGathered plan.now) }
 {
+    let archive = state.archive;
+    let first = state.first;
+    let second = state.second;
+    let holds = state.holds;
     if let Some(place) = first_bad_preds(rt, plan) {
+        check_reasons(alloc, plan, archive, first, second, holds)?;
         return Err(broken(PlanRule::PredsAscend, place as u64));
     }
-    let commits = match one_each(alloc, plan, Role::Commits)? {
-        Ok(commits) => commits,
-        Err(place) => return Err(broken(PlanRule::OneCommit, place)),
-    };
+    let (gathered, reasons) = join(
+        rt,
+        || gather(alloc, plan),
+        || -> Result<(), CheckFault>
+            requires { HoldBelow (listed_snapshot archive.now first.now second.now holds.now) plan.now 3 }
+            ensures holds { OnOk result (HoldBelow (listed_snapshot archive.entry.now first.entry.now second.entry.now holds.entry.now) plan.entry.now 5) }
+            ensures told { IfErr result (IsTold (listed_snapshot archive.entry.now first.entry.now second.entry.now holds.entry.now) plan.entry.now) }
+        { check_reasons(alloc, plan, archive, first, second, holds) },
+    );
+    match reasons {
+        Ok(()) => Ok(gathered?),
+        Err(fault) => Err(fault),
+    }
+}
+
+/// The rules about pieces.
+fn check_pieces(
+    rt: &(impl Threads + Sync),
+    alloc: Global,
+    plan: &Plan,
+    state: &State,
+) -> Result<Lists, CheckFault>
+    requires listing { AreListings state.now }
+    requires before { HoldBelow (snapshot_of state.now) plan.now 7 }
+    ensures holds { OnOk result (HoldBelow (snapshot_of state.now) plan.now 9) }
+    ensures told { IfErr result (IsTold (snapshot_of state.now) plan.now) }
+    ensures pieces { IfOk result (AreAllPieces plan.now) }
+{
     let first = state.first.rows();
     let second = state.second.rows();
     if let Some(place) = first_unlawful(rt, plan, first, second) {
         return Err(broken(PlanRule::PiecesLawful, place as u64));
     }
-    let staged = match each_once(alloc, plan, first, second)? {
+    let staged = match each_once(rt, alloc, plan, first, second)? {
         Ok(staged) => staged,
         Err(place) => return Err(broken(PlanRule::PiecesComplete, place)),
     };
-    let marks = match one_each(alloc, plan, Role::Marks)? {
+    Ok(piece_lists(alloc, plan, first, second, &staged)?)
+}
+
+/// The rules about commits, pieces and marks, each by itself.
+fn check_actions(
+    rt: &(impl Threads + Sync),
+    alloc: Global,
+    plan: &Plan,
+    state: &State,
+    gathered: Gathered,
+) -> Result<Index, CheckFault>
+    requires listing { AreListings state.now }
+    requires before { HoldBelow (snapshot_of state.now) plan.now 6 }
+    requires gathered { IsGathered plan.now gathered }
+    ensures holds { OnOk result (HoldBelow (snapshot_of state.now) plan.now 10) }
+    ensures told { IfErr result (IsTold (snapshot_of state.now) plan.now) }
+    ensures index { IfOk result (IsIndexed plan.now) }
+{
+    let Gathered {
+        commits,
+        marks,
+        successors,
+    } = gathered;
+    let commits = match commits {
+        Ok(commits) => commits,
+        Err(place) => return Err(broken(PlanRule::OneCommit, place)),
+    };
+    let pieces = check_pieces(rt, alloc, plan, state)?;
+    let marks = match marks {
         Ok(marks) => marks,
         Err(place) => return Err(broken(PlanRule::OneMark, place)),
     };
     Ok(Index {
         commits,
         marks,
-        staged,
+        pieces,
+        successors,
     })
 }
 
@@ -125,16 +213,13 @@ fn check_order(
     plan: &Plan,
     state: &State,
     index: &Index,
-    pieces: &Lists,
 ) -> Result<(), CheckFault>
     requires before { HoldBelow (snapshot_of state.now) plan.now 10 }
-    requires commits { IsIndex plan.now (kind_of Commits) (length plan.now.actions) index.now.commits.items }
-    requires marks { IsIndex plan.now (kind_of Marks) (length plan.now.actions) index.now.marks.items }
-    requires pieces { AreAllPieces plan.now pieces.now }
+    requires index { IsIndexed plan.now index.now }
     ensures holds { OnOk result (Valid (snapshot_of state.now) plan.now) }
     ensures told { IfErr result (IsTold (snapshot_of state.now) plan.now) }
 {
-    if let Some(place) = first_without_piece(rt, plan, pieces) {
+    if let Some(place) = first_without_piece(rt, plan, &index.pieces) {
         return Err(broken(PlanRule::PiecesFirst, place as u64));
     }
     if let Some(place) = first_without_commit(rt, plan, &index.commits) {
@@ -164,20 +249,24 @@ pub fn check<'a>(
     ensures told { IfErr result (IsTold (listed_snapshot archive.entry.now first.entry.now second.entry.now holds.entry.now) plan.entry.now) }
 {
     let _archive = archive.rows();
-    let first_rows = first.rows();
-    let second_rows = second.rows();
+    let _first = first.rows();
+    let _second = second.rows();
     let state = State {
         archive,
         first,
         second,
         holds,
     };
-    check_entries(rt, alloc, plan, &state)?;
-    let index = check_actions(rt, alloc, plan, &state)?;
-    let pieces = piece_lists(alloc, plan, first_rows, second_rows, &index.staged)?;
-    check_order(rt, alloc, plan, &state, &index, &pieces)?;
-    let successors = successors(alloc, plan)?;
-    let commits = index.commits;
+    check_limits(rt, plan, &state)?;
+    let gathered = check_entries(rt, alloc, plan, &state)?;
+    let index = check_actions(rt, alloc, plan, &state, gathered)?;
+    check_order(rt, alloc, plan, &state, &index)?;
+    let Index {
+        commits,
+        marks: _,
+        pieces,
+        successors,
+    } = index;
     valid_plans_are_safe();
     Ok(Checked::new(
         plan, archive, first, second, holds, commits, pieces, successors,

@@ -27,7 +27,7 @@ returns-then-not-has_all-clause-lacking c = λ e.
     let here = item_at rows rows c.loop-k.k c.index-rows-k.result refl c.loop-k-test.true c.index-rows-k.is in
     let size = c.in-Some-file_size.ensures in
     let range = c.if-not-has_all.ensures.lacking refl in
-    (c.loop-k.k, c.index-rows-k.result, size.0, here, c.is_prefix.ensures.0 c.if-not-is_prefix.false, size.1, subst (λ z. LacksRange c.args.map.now c.args.e c.loop-k.k z) size.2 range)
+    (c.loop-k.k, c.index-rows-k.result, size.0, here, c.is_prefix.ensures.0 c.if-not-is_prefix.false, size.1, subst (λ z. LacksRange c.args.staged.now c.args.e c.loop-k.k z) size.2 range)
 
 pub loop-k-preserved : goal.loop-k-preserved
 loop-k-preserved c = λ k row stamp past less is content.
@@ -42,7 +42,7 @@ loop-k-preserved c = λ k row stamp past less is content.
                 let size = w.in-Some-file_size.ensures in
                 let content_here : c.index-rows-k.result.content ≡ File size.0 = size.1 in
                 let stamps : size.0 ≡ stamp = one_file size.0 stamp (sym content_here ∙ ap (λ (z : Row Stamp). z.content) (sym one) ∙ content) in
-                subst (λ z. HasAll c.args.map.now c.args.e z stamp.size) (sym same) (subst (λ z. HasAll c.args.map.now c.args.e c.loop-k.k z) (size.2 ∙ ap (λ (z : Stamp). z.size) stamps) (w.has_all.ensures.all w.if-not-has_all.false)))
+                subst (λ z. HasAll c.args.staged.now c.args.e z stamp.size) (sym same) (subst (λ z. HasAll c.args.staged.now c.args.e c.loop-k.k z) (size.2 ∙ ap (λ (z : Stamp). z.size) stamps) (w.has_all.ensures.all w.if-not-has_all.false)))
             | in_default-file_size w ↦ absurd (w.in_default-file_size.ensures stamp (subst (λ (z : Row Stamp). z.content ≡ File stamp) one content))
           ])
     ]

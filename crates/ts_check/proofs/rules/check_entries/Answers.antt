@@ -1,30 +1,11 @@
 use Rattle.std.proofs.Common.{refl}
-use Rattle.ts_model.specs.declared.plan.PlanRule.TheVariants.{Limits, EntriesAscend}
+use Rattle.ts_model.specs.declared.plan.PlanRule.TheVariants.{PredsAscend}
 use Rattle.ts_need.specs.Needs.{snapshot_of}
-use Rattle.ts_check.proofs.Verdicts.{hold_none, hold_more, broken_here, need_told, need_holds}
+use Rattle.ts_check.proofs.Verdicts.{hold_more}
 use Rattle.ts_check.proofs.rules.check_entries.Goals as goal
 
-pub returns-in-Some-clause-told : goal.returns-in-Some-clause-told
-returns-in-Some-clause-told g c =
+pub returns-in_ok-gathered-in-Ok-clause-holds : goal.returns-in_ok-gathered-in-Ok-clause-holds
+returns-in_ok-gathered-in-Ok-clause-holds g c =
     let s = snapshot_of c.args.state.now in
-    rw c.broken.ensures (broken_here s c.args.plan.now Limits c.in-Some.place (hold_none s c.args.plan.now) (c.in-Some.ensures s))
-
-pub returns-in-Some-first_out_of_order-clause-told : goal.returns-in-Some-first_out_of_order-clause-told
-returns-in-Some-first_out_of_order-clause-told g c =
-    let s = snapshot_of c.args.state.now in
-    let plan = c.args.plan.now in
-    rw c.broken-in-Some-first_out_of_order.ensures (broken_here s plan EntriesAscend c.in-Some-first_out_of_order.place (hold_more s plan 1 Limits refl (hold_none s plan) (c.in_default.ensures s)) (rw c.as_slice-entries.ensures at c.in-Some-first_out_of_order.ensures))
-
-pub returns-in-Some-2-clause-told : goal.returns-in-Some-2-clause-told
-returns-in-Some-2-clause-told g c =
-    let s = snapshot_of c.args.state.now in
-    let plan = c.args.plan.now in
-    rw c.broken-in-Some-2.ensures (need_told s plan c.in-Some-2.found (hold_more s plan 2 EntriesAscend refl (hold_more s plan 1 Limits refl (hold_none s plan) (c.in_default.ensures s)) (rw c.as_slice-entries.ensures at c.in_default-first_out_of_order.ensures))
-    (rw (c.as_slice-entries.ensures, c.in-Some-2.is) at c.in_ok-found.ensures.answer))
-
-pub returns-in-None-clause-holds : goal.returns-in-None-clause-holds
-returns-in-None-clause-holds g c =
-    let s = snapshot_of c.args.state.now in
-    let plan = c.args.plan.now in
-    need_holds s plan (hold_more s plan 2 EntriesAscend refl (hold_more s plan 1 Limits refl (hold_none s plan) (c.in_default.ensures s)) (rw c.as_slice-entries.ensures at c.in_default-first_out_of_order.ensures))
-    (rw (c.as_slice-entries.ensures, c.in-None.is) at c.in_ok-found.ensures.answer)
+    let told = rw c.in-Ok.is at c.join-gathered.ensures.second in
+    hold_more s c.args.plan.now 5 PredsAscend refl told.0 c.in_default.ensures

@@ -22,12 +22,12 @@ nearest_dirs-requires-clause-ascending g c = rw c.as_slice.ensures (λ k wrong. 
 pub first_without_dir-requires-clause-actions : goal.first_without_dir-requires-clause-actions
 first_without_dir-requires-clause-actions g c = λ κs lives.
     let s = snapshot_of c.args.state.now in
-    (limits_hold s c.args.plan.now (hold_fewer s c.args.plan.now 5 10 (omega arith) c.requires.before)).1
+    (limits_hold s c.args.plan.now (hold_fewer s c.args.plan.now 3 10 (omega arith) c.requires.before)).1
 
 pub first_without_dir-requires-clause-entries : goal.first_without_dir-requires-clause-entries
 first_without_dir-requires-clause-entries g c = λ κs lives.
     let s = snapshot_of c.args.state.now in
-    (limits_hold s c.args.plan.now (hold_fewer s c.args.plan.now 5 10 (omega arith) c.requires.before)).0
+    (limits_hold s c.args.plan.now (hold_fewer s c.args.plan.now 3 10 (omega arith) c.requires.before)).0
 
 pub first_without_dir-requires-clause-ascending : goal.first_without_dir-requires-clause-ascending
 first_without_dir-requires-clause-ascending g c = λ κs lives k bad. c.requires.before PredsAscend k (omega arith) bad
@@ -53,4 +53,4 @@ returns-clause-holds g c =
 pub nearest_dirs-requires-clause-few : goal.nearest_dirs-requires-clause-few
 nearest_dirs-requires-clause-few g c =
     let s = snapshot_of c.args.state.now in
-    rw c.as_slice.ensures (limits_hold s c.args.plan.now (hold_fewer s c.args.plan.now 5 10 (omega arith) c.requires.before)).0
+    rw c.as_slice.ensures (limits_hold s c.args.plan.now (hold_fewer s c.args.plan.now 3 10 (omega arith) c.requires.before)).0

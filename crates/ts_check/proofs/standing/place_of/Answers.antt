@@ -1,5 +1,5 @@
 use Rattle.ts_check.proofs.Placing.{no_place}
-use Rattle.ts_check.proofs.pieces.place_of.Goals as goal
+use Rattle.ts_check.proofs.standing.place_of.Goals as goal
 
 pub returns-in_err-row-clause-none : goal.returns-in_err-row-clause-none
 returns-in_err-row-clause-none c = rw c.from_residual-in_err-row.ensures
