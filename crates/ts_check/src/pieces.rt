@@ -1,7 +1,7 @@
 //! The pieces: each is lawful, and each lawful one stands once.
 
 ghost use Rattle.std.specs.Prelude.{◌≡◌, ◌≢◌, ◌≤◌, ◌<◌, ◌↔◌, ℕ, length, IsTrue, IsSome, IfSome, IfNone, IfOk, IfErr, Some, None, false, []};
-ghost use Rattle.ts_check.specs.Pieces.{AreInOrder, HasAll, HasAllBelow, HasNoRoot, IsListOfEach, IsPieceIn, IsReady, IsRowOf, IsSourceOf, IsUnlawful};
+ghost use Rattle.ts_check.specs.Pieces.{AreInOrder, HasAll, HasAllBelow, HasNoRoot, IsListOfAll, IsListOfEach, IsPieceIn, IsReady, IsRowOf, IsSourceOf, IsUnlawful};
 ghost use Rattle.ts_check.specs.Pieces.{IsStagedMap, LacksBelow, LacksRange, LacksSome, NotEachOnce, IsSizeOf};
 ghost use Rattle.ts_check.specs.Places.{IsFirst, Never};
 ghost use Rattle.ts_model.specs.Plans.{EntryIs, IsCopied, IsRange, action_limit, entry_limit};
@@ -272,29 +272,52 @@ fn first_unstaged(
     )
 }
 
-/// The place of each piece, or the first place where not each lawful piece stands once.
-pub fn each_once(
+/// The place of each piece, or the first piece that stands again; or, in their stead, the first that isn't lawful.
+pub fn stage(
     rt: &(impl Threads + Sync),
     alloc: Global,
     plan: &Plan,
     first: &[Row<Stamp>],
     second: &[Row<Stamp>],
-) -> Result<Result<Staged, u64>, AllocError>
+) -> Result<Result<Result<Staged, u64>, u64>, AllocError>
+    requires actions { length plan.now.actions ≤ action_limit }
+    requires first { IsListing first.now }
+    requires second { IsListing second.now }
+    ensures unlawful { IfOk result (λ found. IfErr found (λ place. IsFirst (IsUnlawful first.now second.now plan.now) (Some place))) }
+    ensures lawful { IfOk result (λ found. IfOk found (λ _. Never (IsUnlawful first.now second.now plan.now))) }
+    ensures staged { IfOk result (λ found. IfOk found (λ once. IfOk once (λ staged. IsListOfAll first.now second.now plan.now staged.items))) }
+    ensures again { IfOk result (λ found. IfOk found (λ once. IfErr once (λ place. IsFirst (NotEachOnce first.now second.now plan.now) (Some place)))) }
+{
+    if let Some(place) = first_unlawful(rt, plan, first, second) {
+        return Ok(Err(place as u64));
+    }
+    Ok(Ok(staged(rt, alloc, plan, first, second)?))
+}
+
+/// The place of each piece, or the first place where not each lawful piece stands once, where it is known whether one stands again.
+pub fn each_once(
+    rt: &(impl Threads + Sync),
+    plan: &Plan,
+    first: &[Row<Stamp>],
+    second: &[Row<Stamp>],
+    found: Result<Staged, u64>,
+) -> Result<Staged, u64>
     requires actions { length plan.now.actions ≤ action_limit }
     requires entries { length plan.now.entries ≤ entry_limit }
     requires first { IsListing first.now }
     requires second { IsListing second.now }
     requires places { HasNoRoot plan.now }
-    requires lawful { Never (IsUnlawful first.now second.now plan.now) }
-    ensures staged { IfOk result (λ found. IfOk found (λ staged. IsListOfEach first.now second.now plan.now staged.items)) }
-    ensures wrong { IfOk result (λ found. IfErr found (λ place. IsFirst (NotEachOnce first.now second.now plan.now) (Some place))) }
+    requires staged { IfOk found (λ staged. IsListOfAll first.now second.now plan.now staged.items) }
+    requires again { IfErr found (λ place. IsFirst (NotEachOnce first.now second.now plan.now) (Some place)) }
+    ensures staged { IfOk result (λ staged. IsListOfEach first.now second.now plan.now staged.items) }
+    ensures wrong { IfErr result (λ place. IsFirst (NotEachOnce first.now second.now plan.now) (Some place)) }
 {
-    let staged = match staged(rt, alloc, plan, first, second)? {
+    let staged = match found {
         Ok(staged) => staged,
-        Err(place) => return Ok(Err(place)),
+        Err(place) => return Err(place),
     };
     match first_unstaged(rt, plan, first, second, &staged) {
-        Some(e) => Ok(Err((plan.actions.as_slice().len() + e) as u64)),
-        None => Ok(Ok(staged)),
+        Some(e) => Err((plan.actions.as_slice().len() + e) as u64),
+        None => Ok(staged),
     }
 }

@@ -1,12 +1,13 @@
-ghost use Rattle.std.specs.Prelude.{◌≡◌, ◌≤◌, ℕ, length, IfOk, IfErr, OnOk};
-ghost use Rattle.ts_check.specs.Gathered.{IsGathered, IsIndexed};
-ghost use Rattle.ts_check.specs.Pieces.{AreAllPieces};
-ghost use Rattle.ts_check.specs.Places.{Never};
+ghost use Rattle.std.specs.Prelude.{◌≡◌, ◌≤◌, ℕ, length, IfOk, IfErr, OnOk, Some};
+ghost use Rattle.ts_check.specs.Gathered.{IsGathered, IsIndexed, IsLooked};
+ghost use Rattle.ts_check.specs.Pieces.{AreAllPieces, IsListOfAll, IsUnlawful, NotEachOnce};
+ghost use Rattle.ts_check.specs.Places.{IsFirst, Never};
 ghost use Rattle.ts_check.specs.Verdict.{HoldBelow, IsSafe, IsTold};
 ghost use Rattle.ts_check.specs.Waiting.{HasBadPreds};
 ghost use Rattle.ts_check.specs.declared.fault.CheckFault.TheVariants.{Broken};
 ghost use Rattle.ts_model.specs.Plans.{Valid, action_limit, entry_limit};
 ghost use Rattle.ts_model.specs.Sync.{listed_snapshot};
+ghost use Rattle.ts_model.specs.Trees.{IsListing};
 ghost use Rattle.ts_need.specs.Needs.{AreListings, snapshot_of};
 ghost use Rattle.ts_check.specs.Checkup.{checkup_with};
 
@@ -17,8 +18,9 @@ use crate::fault::CheckFault;
 use crate::limits;
 use crate::lists::Lists;
 use crate::piece_lists::piece_lists;
-use crate::pieces::{each_once, first_unlawful};
+use crate::pieces::{each_once, stage};
 use crate::safety::valid_plans_are_safe;
+use crate::standing::Staged;
 use crate::successors::successors;
 use crate::waiting::{
     first_bad_preds, first_without_commit, first_without_dir, first_without_piece,
@@ -27,6 +29,7 @@ use std::alloc::{AllocError, Global};
 use std::thread::{Threads, join};
 use ts_hold::Holds;
 use ts_model::plan::{Plan, PlanRule};
+use ts_model::row::{Row, Stamp};
 use ts_need::first_wrong;
 use ts_need::state::State;
 use ts_print::Print;
@@ -38,6 +41,14 @@ struct Gathered {
     commits: Result<Vec<u32>, u64>,
     marks: Result<Vec<u32>, u64>,
     successors: Lists,
+}
+
+/// What is found of a plan's actions before it is known whether its entries are right: beside what was gathered, the place of
+/// each piece, or the first piece that stands again; or, in their stead, the first piece that isn't lawful.
+#[derive(Drop)]
+struct Looked {
+    pieces: Result<Result<Staged, u64>, u64>,
+    actions: Gathered,
 }
 
 /// What was found of the actions of a plan that keeps all rules but those about what commits and marks wait for.
@@ -108,18 +119,49 @@ fn gather(alloc: Global, plan: &Plan) -> Result<Gathered, AllocError>
     })
 }
 
+/// What is found of the actions: some by this thread, and what it takes the prints for by others.
+fn look(
+    rt: &(impl Threads + Sync),
+    alloc: Global,
+    plan: &Plan,
+    first: &[Row<Stamp>],
+    second: &[Row<Stamp>],
+) -> Result<Looked, AllocError>
+    requires entries { length plan.now.entries ≤ entry_limit }
+    requires actions { length plan.now.actions ≤ action_limit }
+    requires ascending { Never (HasBadPreds plan.now) }
+    requires first { IsListing first.now }
+    requires second { IsListing second.now }
+    ensures { IfOk result (IsLooked first.now second.now plan.now) }
+{
+    let (pieces, actions) = join(
+        rt,
+        || -> Result<Result<Result<Staged, u64>, u64>, AllocError>
+            requires { (length plan.now.actions ≤ action_limit) × IsListing first.now × IsListing second.now }
+        { stage(rt, alloc, plan, first, second) },
+        || gather(alloc, plan),
+    );
+    match pieces {
+        Ok(pieces) => Ok(Looked {
+            pieces,
+            actions: actions?,
+        }),
+        Err(fault) => Err(fault),
+    }
+}
+
 /// The rules about reasons and predecessors. The actions are looked at while the reasons are compared.
 fn check_entries(
     rt: &(impl Threads + Sync),
     alloc: Global,
     plan: &Plan,
     state: &State,
-) -> Result<Gathered, CheckFault>
+) -> Result<Looked, CheckFault>
     requires listing { AreListings state.now }
     requires before { HoldBelow (snapshot_of state.now) plan.now 3 }
     ensures holds { OnOk result (HoldBelow (snapshot_of state.now) plan.now 6) }
     ensures told { IfErr result (IsTold (snapshot_of state.now) plan.now) }
-    ensures gathered { IfOk result (IsGathered plan.now) }
+    ensures looked { IfOk result (IsLooked state.now.first.now state.now.second.now plan.now) }
 {
     let archive = state.archive;
     let first = state.first;
@@ -129,17 +171,21 @@ fn check_entries(
         check_reasons(alloc, plan, archive, first, second, holds)?;
         return Err(broken(PlanRule::PredsAscend, place as u64));
     }
-    let (gathered, reasons) = join(
+    let first_rows = first.rows();
+    let second_rows = second.rows();
+    let (reasons, looked) = join(
         rt,
-        || gather(alloc, plan),
         || -> Result<(), CheckFault>
             requires { HoldBelow (listed_snapshot archive.now first.now second.now holds.now) plan.now 3 }
             ensures holds { OnOk result (HoldBelow (listed_snapshot archive.entry.now first.entry.now second.entry.now holds.entry.now) plan.entry.now 5) }
             ensures told { IfErr result (IsTold (listed_snapshot archive.entry.now first.entry.now second.entry.now holds.entry.now) plan.entry.now) }
         { check_reasons(alloc, plan, archive, first, second, holds) },
+        || -> Result<Looked, AllocError>
+            requires { (length plan.now.entries ≤ entry_limit) × (length plan.now.actions ≤ action_limit) × Never (HasBadPreds plan.now) × IsListing first_rows.now × IsListing second_rows.now }
+        { look(rt, alloc, plan, first_rows, second_rows) },
     );
     match reasons {
-        Ok(()) => Ok(gathered?),
+        Ok(()) => Ok(looked?),
         Err(fault) => Err(fault),
     }
 }
@@ -150,19 +196,25 @@ fn check_pieces(
     alloc: Global,
     plan: &Plan,
     state: &State,
+    pieces: Result<Result<Staged, u64>, u64>,
 ) -> Result<Lists, CheckFault>
     requires listing { AreListings state.now }
     requires before { HoldBelow (snapshot_of state.now) plan.now 7 }
+    requires unlawful { IfErr pieces (λ place. IsFirst (IsUnlawful state.now.first.now state.now.second.now plan.now) (Some place)) }
+    requires lawful { IfOk pieces (λ _. Never (IsUnlawful state.now.first.now state.now.second.now plan.now)) }
+    requires staged { IfOk pieces (λ once. IfOk once (λ staged. IsListOfAll state.now.first.now state.now.second.now plan.now staged.items)) }
+    requires again { IfOk pieces (λ once. IfErr once (λ place. IsFirst (NotEachOnce state.now.first.now state.now.second.now plan.now) (Some place))) }
     ensures holds { OnOk result (HoldBelow (snapshot_of state.now) plan.now 9) }
     ensures told { IfErr result (IsTold (snapshot_of state.now) plan.now) }
     ensures pieces { IfOk result (AreAllPieces plan.now) }
 {
+    let found = match pieces {
+        Ok(found) => found,
+        Err(place) => return Err(broken(PlanRule::PiecesLawful, place)),
+    };
     let first = state.first.rows();
     let second = state.second.rows();
-    if let Some(place) = first_unlawful(rt, plan, first, second) {
-        return Err(broken(PlanRule::PiecesLawful, place as u64));
-    }
-    let staged = match each_once(rt, alloc, plan, first, second)? {
+    let staged = match each_once(rt, plan, first, second, found) {
         Ok(staged) => staged,
         Err(place) => return Err(broken(PlanRule::PiecesComplete, place)),
     };
@@ -175,25 +227,26 @@ fn check_actions(
     alloc: Global,
     plan: &Plan,
     state: &State,
-    gathered: Gathered,
+    looked: Looked,
 ) -> Result<Index, CheckFault>
     requires listing { AreListings state.now }
     requires before { HoldBelow (snapshot_of state.now) plan.now 6 }
-    requires gathered { IsGathered plan.now gathered }
+    requires looked { IsLooked state.now.first.now state.now.second.now plan.now looked }
     ensures holds { OnOk result (HoldBelow (snapshot_of state.now) plan.now 10) }
     ensures told { IfErr result (IsTold (snapshot_of state.now) plan.now) }
     ensures index { IfOk result (IsIndexed plan.now) }
 {
+    let Looked { pieces, actions } = looked;
     let Gathered {
         commits,
         marks,
         successors,
-    } = gathered;
+    } = actions;
     let commits = match commits {
         Ok(commits) => commits,
         Err(place) => return Err(broken(PlanRule::OneCommit, place)),
     };
-    let pieces = check_pieces(rt, alloc, plan, state)?;
+    let pieces = check_pieces(rt, alloc, plan, state, pieces)?;
     let marks = match marks {
         Ok(marks) => marks,
         Err(place) => return Err(broken(PlanRule::OneMark, place)),
@@ -258,8 +311,8 @@ pub fn check<'a>(
         holds,
     };
     check_limits(rt, plan, &state)?;
-    let gathered = check_entries(rt, alloc, plan, &state)?;
-    let index = check_actions(rt, alloc, plan, &state, gathered)?;
+    let looked = check_entries(rt, alloc, plan, &state)?;
+    let index = check_actions(rt, alloc, plan, &state, looked)?;
     check_order(rt, alloc, plan, &state, &index)?;
     let Index {
         commits,
