@@ -5,6 +5,7 @@ use Rattle.std.specs.Map.{keys_of}
 use Rattle.std.specs.List.{All, AllPairs, AllByRecursion}
 use Rattle.std.specs.List.Sorted.{IsStrictlySortedBy}
 use Rattle.std.proofs.lemmas.Bool.{cases_eq, cases_order, eq-eqb, ne_eqb, le-ltb}
+use Rattle.std.proofs.lemmas.List.{length-map}
 use Rattle.std.proofs.lemmas.List.Elements.{All-cons, All-head, All-tail, All-contains}
 use Rattle.std.proofs.lemmas.List.Kept.{AllPairs-cons}
 use Rattle.std.proofs.lemmas.Map.Views.{Contains-from_lookup}
@@ -100,6 +101,10 @@ module _ (R : ℕ → ℕ → Type 0) (Known : Place × ℕ → Type 0) (e : ℕ
         | inl same ↦ subst (λ (z : List ℕ). AllPairs R z) (sym (at_key-yes e x.0.0 x.1 (by_entry xs) same)) (AllPairs-cons R x.1 (at_key e (by_entry xs)) (all_later x (All-head Known x xs all) same xs (All-tail Known x xs all) sorted.0) rest)
         | inr differ ↦ subst (λ (z : List ℕ). AllPairs R z) (sym (at_key-no e x.0.0 x.1 (by_entry xs) differ)) rest
       ]
+
+-- there are as many pairs as places
+pub count_pairs : (xs : List (Place × ℕ)) → length (by_entry xs) ≡ length xs
+count_pairs xs = length-map xs (λ (x : Place × ℕ). (x.0.0, x.1))
 
 keys_within : (n : ℕ) (xs : List (Place × ℕ)) → All (λ (x : Place × ℕ). x.0.0 < n) xs → AreKeysBelow n (by_entry xs)
 keys_within n [] all = λ k d less. absurd (omega arith)

@@ -1,5 +1,5 @@
 -- The places of pieces in a map, and the first piece that stands again.
-use Rattle.std.proofs.Common.{◌≡◌, ◌⊎◌, ℕ, zero, suc, List, [], ◌∷◌, Contains, ap₂, ◌+◌, ◌<◌, ◌≤◌, Bool, true, false, length, Option, Some, None, is_some, slice_get, sym, refl, ap, ◌∙◌, subst, inl, inr, arith}
+use Rattle.std.proofs.Common.{◌≡◌, ◌⊎◌, cond, ℕ, zero, suc, List, [], ◌∷◌, Contains, ap₂, ◌+◌, ◌<◌, ◌≤◌, Bool, true, false, length, Option, Some, None, is_some, slice_get, sym, refl, ap, ◌∙◌, subst, inl, inr, arith}
 use Rattle.std.specs.Ordering.{is_eq}
 use Rattle.rayon.specs.Numbers.{nat_range}
 use Rattle.std.specs.BTreeMap.{BTreeMap, get, Updates, IsEmpty}
@@ -36,6 +36,7 @@ after_put m n z i puts q = go (is_eq (place_cmp z q)) refl
 pub record IsPlaced (xs ys : Listing Stamp) (plan : Plan) (n : ℕ) (map : BTreeMap Place ℕ) : Type 0 where
   pub map_is : IsStagedMap xs ys plan n map.entries
   pub fresh : (k : ℕ) → k < n → ¬ IsAgain plan k
+  pub few : length map.entries ≤ n
 
 module _ (xs ys : Listing Stamp) (first : IsListing xs) (second : IsListing ys) (plan : Plan) where
   -- a piece has one place
@@ -71,6 +72,7 @@ module _ (xs ys : Listing Stamp) (first : IsListing xs) (second : IsListing ys) 
   IsPlaced-none map empty = record {
     map_is = record { found = λ z i e. absurd (none-some i (rw empty at e)); complete = λ z i kind less. absurd (omega arith); each = λ i e offset len p less. absurd (omega arith) };
     fresh = λ k less. absurd (omega arith);
+    few = subst (λ (z : List (Place × ℕ)). length z ≤ 0) (sym empty) (omega arith);
   }
 
   -- an action without a place changes nothing
@@ -91,6 +93,7 @@ module _ (xs ys : Listing Stamp) (first : IsListing xs) (second : IsListing ys) 
       | inl same ↦ here (subst (λ z. IsAgain plan z) same again)
       | inr differ ↦ placed.fresh k (omega arith) again
     ];
+    few = (let h = placed.few in omega arith);
   }
     where
       nowhere : (e offset len : ℕ) (p : Path) → ¬ KindIs plan n (Piece e offset len p)
@@ -109,13 +112,14 @@ module _ (xs ys : Listing Stamp) (first : IsListing xs) (second : IsListing ys) 
       here again = nowhere again.0 again.1 again.2 again.3 again.4
 
   -- a piece whose place was free is put in
-  pub IsPlaced-put : (n : ℕ) (m map : BTreeMap Place ℕ) (z : Place) (action : Action) → ActionIs plan n action → IsPlaceOf xs ys plan action.kind z → get place_cmp m z ≡ None → Updates place_cmp m map z (Some n) → IsPlaced xs ys plan n m → IsPlaced xs ys plan (n + 1) map
-  IsPlaced-put n m map z action is of free puts placed = record {
+  pub IsPlaced-put : (n : ℕ) (m map : BTreeMap Place ℕ) (z : Place) (action : Action) → ActionIs plan n action → IsPlaceOf xs ys plan action.kind z → get place_cmp m z ≡ None → Updates place_cmp m map z (Some n) → length map.entries ≤ length m.entries + 1 → IsPlaced xs ys plan n m → IsPlaced xs ys plan (n + 1) map
+  IsPlaced-put n m map z action is of free puts grown placed = record {
     map_is = record { found = found; complete = complete; each = each };
     fresh = λ k less again. elim (cases_eq k n) [
       | inl same ↦ here (subst (λ w. IsAgain plan w) same again)
       | inr differ ↦ placed.fresh k (omega arith) again
     ];
+    few = (let h = placed.few in omega arith);
   }
     where
       found : (q : Place) (i : ℕ) → get place_cmp map q ≡ Some i → (i < n + 1) × ((kind : Kind) × KindIs plan i kind × IsPlaceOf xs ys plan kind q)
@@ -234,6 +238,11 @@ pub none_of : (o : Option ℕ) → is_some o ≡ false → o ≡ None
 none_of None e = refl
 none_of (Some j) e = absurd (false≢true (sym e))
 
+-- by at most one
+pub at_most_one : (b : Bool) (m n : ℕ) → n ≡ m + cond b 0 1 → n ≤ m + 1
+at_most_one true m n e = omega arith
+at_most_one false m n e = omega arith
+
 -- after all actions
 pub finish_placing : (xs ys : Listing Stamp) (plan : Plan) (n : ℕ) (map : BTreeMap Place ℕ) → length plan.actions ≤ n → IsPlaced xs ys plan n map → IsStagedMap xs ys plan (length plan.actions) map.entries × ((k : ℕ) → ¬ IsAgain plan k)
 finish_placing xs ys plan n map all placed = (
@@ -279,11 +288,19 @@ module _ (xs ys : Listing Stamp) (plan : Plan) where
     ]
   ]
 
+  few_from : (a n : ℕ) (os : List (Option (Place × ℕ))) → AllZip (IsPlacing xs ys plan) (range_with_len a n) os → length (filter_map (λ o. o) os) ≤ n
+  few_from a zero [] zip = omega arith
+  few_from a zero (o ∷ os) zip = absurd zip
+  few_from a (suc n) [] zip = absurd zip
+  few_from a (suc n) (None ∷ os) zip = let h = few_from (a + 1) n os zip.1 in omega arith
+  few_from a (suc n) (Some x ∷ os) zip = let h = few_from (a + 1) n os zip.1 in omega arith
+
   pub are_places : (start end : ℕ) (ns : List ℕ) (os : List (Option (Place × ℕ))) (staged : List (Place × ℕ)) → (start ≡ 0) × (end ≡ length plan.actions) → ns ≡ nat_range start end → AllZip (IsPlacing xs ys plan) ns os → staged ≡ filter_map (λ o. o) os → ArePlaces xs ys plan staged
   are_places start end ns os staged ends range zip is =
       let whole : ns ≡ range_with_len 0 (length plan.actions) = range ∙ ap₂ range_with_len ends.0 (let low = ends.0 in let high = ends.1 in omega arith) in
       let moved : AllZip (IsPlacing xs ys plan) (range_with_len 0 (length plan.actions)) os = subst (λ z. AllZip (IsPlacing xs ys plan) z os) whole zip in
       record {
         each = λ z i h. each_from (range_with_len 0 (length plan.actions)) os moved z i (subst (λ w. Contains w (z, i)) is h);
+        few = subst (λ (w : List (Place × ℕ)). length w ≤ length plan.actions) (sym is) (few_from 0 (length plan.actions) os moved);
         all = λ i less. subst (λ w. Stands w i) (sym is) (all_from 0 (length plan.actions) os moved i (omega arith) (omega arith));
       }

@@ -1,8 +1,9 @@
 -- The actions that wait for each action.
 use Rattle.std.proofs.Common.{◌≡◌, ◌≢◌, ◌⊎◌, ℕ, zero, suc, ◌+◌, ◌<◌, ◌≤◌, ◌==◌, List, [], ◌∷◌, ◌++◌, length, get_or, drop, map, Contains, Some, Result, Ok, Err, IfOk, slice_get, sym, refl, ap, ◌∙◌, subst, inl, inr, arith}
-use Rattle.std.specs.List.{filter, All}
+use Rattle.std.specs.List.{filter, All, sum_by}
 use Rattle.std.proofs.lemmas.Bool.{cases_eq, eq-eqb, ne_eqb}
-use Rattle.std.proofs.lemmas.List.{map-append, append_assoc, drop_more}
+use Rattle.std.proofs.lemmas.List.{map-append, append_assoc, drop_more, length-append}
+use Rattle.std.proofs.lemmas.List.Sums.{sum_by-cons}
 use Rattle.std.proofs.lemmas.List.Elements.{filter-append, Contains-append_cases, Contains-append_left, Contains-append_right, All-append, All-cons, All-contains, All-map, All-weaker}
 use Rattle.std.proofs.lemmas.Option.{none-some, same_Some, slice_get_within}
 use Rattle.ts_model.specs.Plans.{AscendBelow}
@@ -148,6 +149,18 @@ module _ (plan : Plan) (right : (k : ℕ) → ¬ HasBadPreds plan k) where
         let within = slice_get_within plan.actions j waits.0 waits.1 in
         omega arith;
   }
+
+-- there are as many pairs as predecessors
+count_beside : (n : ℕ) (js : List ℕ) → length (beside n js) ≡ length js
+count_beside n [] = refl
+count_beside n (j ∷ js) = let rest = count_beside n js in omega arith
+
+count_sum : (a b c d e f : ℕ) → a ≡ b + c → b ≡ d → c ≡ e → f ≡ d + e → a ≡ f
+count_sum a b c d e f p q r s = omega arith
+
+pub count_waits : (n : ℕ) (actions : List Action) → length (waits_from n actions) ≡ sum_by (λ (a : Action). length a.preds) actions
+count_waits n [] = refl
+count_waits n (action ∷ actions) = count_sum _ _ _ _ _ _ (length-append (beside n action.preds) (waits_from (n + 1) actions)) (count_beside n action.preds) (count_waits (n + 1) actions) (sum_by-cons (λ (a : Action). length a.preds) action actions)
 
 -- one action more
 pub waits_more : (actions : List Action) (i : ℕ) (action : Action) (pairs more : List (ℕ × ℕ)) → i < length actions → action ≡ get_or actions i action → more ≡ pairs ++ beside i action.preds → pairs ++ waits_from i (drop i actions) ≡ waits_from 0 actions

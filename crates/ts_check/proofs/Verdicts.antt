@@ -1,5 +1,6 @@
 -- From rule to rule.
 use Rattle.std.proofs.Common.{◌≡◌, ℕ, zero, suc, ◌+◌, ◌<◌, ◌≤◌, List, length, Option, Some, None, sym, refl, ap, ◌∙◌, subst, inl, inr, arith}
+use Rattle.std.specs.List.{sum_by}
 use Rattle.std.proofs.lemmas.Bool.{cases_eq, cases_lt}
 use Rattle.ts_name.specs.Paths.{Path}
 use Rattle.ts_name.proofs.Prefixes.{snoc_not_empty}
@@ -7,6 +8,7 @@ use Rattle.ts_model.specs.Sync.{Snapshot, listed_snapshot, replica}
 use Rattle.ts_model.specs.Trees.{Listing, at}
 use Rattle.ts_model.specs.Plans.{Wrong, Broken, Valid, WithinLimits, NotOneEach, IsCopied, IsPiece, rule_number}
 use Rattle.ts_model.specs.declared.hold.Rule.{Rule}
+use Rattle.ts_model.specs.declared.plan.Action.{Action}
 use Rattle.ts_model.specs.declared.plan.Side.{Side}
 use Rattle.ts_model.specs.declared.plan.Side.TheVariants as side
 use Rattle.ts_model.specs.declared.plan.Kind.TheVariants.{Commit}
@@ -101,6 +103,9 @@ limits_hold s plan before = (entries, actions)
 
     actions : length plan.actions ≤ 1048576
     actions = elim (cases_lt 1048576 (length plan.actions)) [ inl past ↦ absurd (within (λ h. let e = h.actions in omega arith)) | inr fine ↦ fine ]
+
+pub preds_hold : (s : Snapshot) (plan : Plan) → HoldBelow s plan 3 → sum_by (λ (a : Action). length a.preds) plan.actions ≤ 4194304
+preds_hold s plan before = elim (cases_lt 4194304 (sum_by (λ (a : Action). length a.preds) plan.actions)) [ inl past ↦ absurd (before Limits 0 (omega arith) (refl, λ (h : WithinLimits plan). let e = h.preds in omega arith)) | inr fine ↦ fine ]
 
 pub no_root : (s : Snapshot) (plan : Plan) → HoldBelow s plan 5 → HasNoRoot plan
 no_root s plan before e entry is root = before ReasonsHold e (omega arith) (entry, is, λ has. snoc_not_empty has.0.0 has.0.1 (sym has.0.2 ∙ root))

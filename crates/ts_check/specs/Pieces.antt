@@ -73,6 +73,7 @@ IsPlacing xs ys plan i found = MatchOption found ((kind : Kind) (place : Place) 
 -- the place of each action that has one, beside its number
 pub record ArePlaces (xs ys : Listing Stamp) (plan : Plan) (staged : List (Place × ℕ)) : Type 0 where
   pub each : (place : Place) (i : ℕ) → Contains staged (place, i) → (kind : Kind) × KindIs plan i kind × IsPlaceOf xs ys plan kind place
+  pub few : length staged ≤ length plan.actions
   pub all : (i : ℕ) → i < length plan.actions → ((place : Place) × Contains staged (place, i)) ⊎ ((kind : Kind) (place : Place) → KindIs plan i kind → ¬ IsPlaceOf xs ys plan kind place)
 
 -- what stands at each place: the number of its piece among the first n actions
@@ -100,17 +101,17 @@ IsMapOfAll xs ys plan staged = IsStagedMap xs ys plan (length plan.actions) stag
 abbrev pub NotEachOnce : Listing Stamp → Listing Stamp → Plan → ℕ → Type 0
 NotEachOnce xs ys plan place = IsAgain plan place ⊎ ((e : ℕ) × (place ≡ length plan.actions + e) × LacksSome xs ys plan e)
 
--- the same, in the order of the places
+-- the same, in the order of the places, and no more than there are actions
 abbrev pub IsListOfAll : Listing Stamp → Listing Stamp → Plan → List (Place × ℕ) → Type 0
-IsListOfAll xs ys plan staged = IsMapOfAll xs ys plan staged × AreInOrder staged
+IsListOfAll xs ys plan staged = IsMapOfAll xs ys plan staged × AreInOrder staged × (length staged ≤ length plan.actions)
 
 -- the place of each piece, where each lawful one stands once
 abbrev pub IsMapOfEach : Listing Stamp → Listing Stamp → Plan → List (Place × ℕ) → Type 0
 IsMapOfEach xs ys plan staged = IsStagedMap xs ys plan (length plan.actions) staged × Never (NotEachOnce xs ys plan)
 
--- the same, in the order of the places
+-- the same, in the order of the places, and no more than there are actions
 abbrev pub IsListOfEach : Listing Stamp → Listing Stamp → Plan → List (Place × ℕ) → Type 0
-IsListOfEach xs ys plan staged = IsMapOfEach xs ys plan staged × AreInOrder staged
+IsListOfEach xs ys plan staged = IsMapOfEach xs ys plan staged × AreInOrder staged × (length staged ≤ length plan.actions)
 
 -- each range of a file of this size has a piece of entry e, of the file in this row
 abbrev pub HasAll : List (Place × ℕ) → ℕ → ℕ → ℕ → Type 0

@@ -1,6 +1,6 @@
 //! The pieces of each entry.
 
-ghost use Rattle.std.specs.Prelude.{◌≡◌, IfOk, length};
+ghost use Rattle.std.specs.Prelude.{◌≡◌, ◌≤◌, IfOk, length};
 ghost use Rattle.ts_check.specs.Pieces.{AreAllPieces, AreInOrder, IsStagedMap, by_entry};
 ghost use Rattle.ts_model.specs.Plans.{action_limit};
 ghost use Rattle.ts_model.specs.Trees.{IsListing};
@@ -34,6 +34,7 @@ pub fn piece_lists(
     requires second { IsListing _second.now }
     requires staged { IsStagedMap _first.now _second.now plan.now (length plan.now.actions) staged.now }
     requires order { AreInOrder staged.now }
+    requires few { length staged.now ≤ action_limit }
     ensures { IfOk result (AreAllPieces plan.now) }
 {
     let pairs = piece_pairs(alloc, staged)?;

@@ -1,11 +1,11 @@
-ghost use Rattle.std.specs.Prelude.{◌≡◌, ◌≤◌, ℕ, length, IfOk, IfErr, OnOk, Some};
+ghost use Rattle.std.specs.Prelude.{◌≡◌, ◌≤◌, ℕ, length, sum_by, IfOk, IfErr, OnOk, Some};
 ghost use Rattle.ts_check.specs.Gathered.{IsGathered, IsIndexed, IsLooked};
 ghost use Rattle.ts_check.specs.Pieces.{AreAllPieces, IsListOfAll, IsUnlawful, NotEachOnce};
 ghost use Rattle.ts_check.specs.Places.{IsFirst, Never};
 ghost use Rattle.ts_check.specs.Verdict.{HoldBelow, IsSafe, IsTold};
 ghost use Rattle.ts_check.specs.Waiting.{HasBadPreds};
 ghost use Rattle.ts_check.specs.declared.fault.CheckFault.TheVariants.{Broken};
-ghost use Rattle.ts_model.specs.Plans.{Valid, action_limit, entry_limit};
+ghost use Rattle.ts_model.specs.Plans.{Valid, action_limit, entry_limit, pred_limit};
 ghost use Rattle.ts_model.specs.Sync.{listed_snapshot};
 ghost use Rattle.ts_model.specs.Trees.{IsListing};
 ghost use Rattle.ts_need.specs.Needs.{AreListings, snapshot_of};
@@ -106,6 +106,7 @@ fn check_reasons(
 fn gather(alloc: Global, plan: &Plan) -> Result<Gathered, AllocError>
     requires entries { length plan.now.entries ≤ entry_limit }
     requires actions { length plan.now.actions ≤ action_limit }
+    requires preds { sum_by (λ a. length a.preds) plan.now.actions ≤ pred_limit }
     requires ascending { Never (HasBadPreds plan.now) }
     ensures { IfOk result (IsGathered plan.now) }
 {
@@ -129,6 +130,7 @@ fn look(
 ) -> Result<Looked, AllocError>
     requires entries { length plan.now.entries ≤ entry_limit }
     requires actions { length plan.now.actions ≤ action_limit }
+    requires preds { sum_by (λ a. length a.preds) plan.now.actions ≤ pred_limit }
     requires ascending { Never (HasBadPreds plan.now) }
     requires first { IsListing first.now }
     requires second { IsListing second.now }
@@ -181,7 +183,8 @@ fn check_entries(
             ensures told { IfErr result (IsTold (listed_snapshot archive.entry.now first.entry.now second.entry.now holds.entry.now) plan.entry.now) }
         { check_reasons(alloc, plan, archive, first, second, holds) },
         || -> Result<Looked, AllocError>
-            requires { (length plan.now.entries ≤ entry_limit) × (length plan.now.actions ≤ action_limit) × Never (HasBadPreds plan.now) × IsListing first_rows.now × IsListing second_rows.now }
+            requires { (length plan.now.entries ≤ entry_limit) × (length plan.now.actions ≤ action_limit) × (sum_by (λ a. length a.preds) plan.now.actions ≤ pred_limit)
+                × Never (HasBadPreds plan.now) × IsListing first_rows.now × IsListing second_rows.now }
         { look(rt, alloc, plan, first_rows, second_rows) },
     );
     match reasons {

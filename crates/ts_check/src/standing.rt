@@ -122,6 +122,7 @@ fn by_map(
     requires few { length plan.now.actions ≤ action_limit }
     requires lawful { Never (IsUnlawful first.now second.now plan.now) }
     ensures staged { IfOk result (λ found. IfOk found (λ map. IsMapOfAll first.now second.now plan.now map.entries)) }
+    ensures few { IfOk result (λ found. IfOk found (λ map. length map.entries ≤ length plan.now.actions)) }
     ensures wrong { IfOk result (λ found. IfErr found (λ place. IsFirst (NotEachOnce first.now second.now plan.now) (Some place))) }
 {
     let actions = plan.actions.as_slice();

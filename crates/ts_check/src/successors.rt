@@ -1,9 +1,9 @@
 //! Which actions wait for each action.
 
-ghost use Rattle.std.specs.Prelude.{◌≡◌, ◌≤◌, ◌++◌, length, map, IfOk, OnOk};
+ghost use Rattle.std.specs.Prelude.{◌≡◌, ◌≤◌, ◌++◌, length, map, sum_by, IfOk, OnOk};
 ghost use Rattle.ts_check.specs.Places.{Never};
 ghost use Rattle.ts_check.specs.Waiting.{AreAllSuccessors, HasBadPreds, waits_from};
-ghost use Rattle.ts_model.specs.Plans.{action_limit};
+ghost use Rattle.ts_model.specs.Plans.{action_limit, pred_limit};
 
 use crate::lists::Lists;
 use std::alloc::{AllocError, Global};
@@ -34,6 +34,7 @@ fn wait_pairs(alloc: Global, actions: &[Action]) -> Result<Vec<(u32, u32)>, Allo
 /// The actions that wait for each action.
 pub fn successors(alloc: Global, plan: &Plan) -> Result<Lists, AllocError>
     requires few { length plan.now.actions ≤ action_limit }
+    requires preds { sum_by (λ a. length a.preds) plan.now.actions ≤ pred_limit }
     requires ascending { Never (HasBadPreds plan.now) }
     ensures { IfOk result (AreAllSuccessors plan.now) }
 {

@@ -9,4 +9,4 @@ returns-in-Some-clause-wrong g c = rw c.as_slice.ensures (
 pub returns-in-None-clause-staged : goal.returns-in-None-clause-staged
 returns-in-None-clause-staged g c =
     let staged = rw c.in-Ok.is at c.requires.staged in
-    ((staged.0.0, never_lacking c.args.first.now c.args.second.now c.args.plan.now staged.0.1 c.in-None.ensures), staged.1)
+    ((staged.0.0, never_lacking c.args.first.now c.args.second.now c.args.plan.now staged.0.1 c.in-None.ensures), staged.1, staged.2)
