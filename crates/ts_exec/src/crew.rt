@@ -7,9 +7,14 @@ use crate::outcome::ActionResult;
 use crossbeam_deque::{Steal, Stealer, Worker};
 use std::alloc::{AllocError, Global};
 use ts_check::Checked;
+use ts_model::plan::{Action, Kind, PIECE_SIZE};
 
 /// How many hints a queue has room for at first.
 const FIRST_HINTS: usize = 64;
+
+/// How many small actions in a row are dealt to one share, and how many are taken from one before a look begins at the next. What
+/// neighbours need lies side by side in memory, so that one worker should have them.
+const BLOCK: u32 = 16;
 
 /// The number of an action that failed, and why.
 #[derive(Clone, Copy, Debug, Drop)]
@@ -27,11 +32,13 @@ pub struct Queues {
     pub freed: Stealer<u32>,
 }
 
-/// What a worker needs to find hints: those that it leaves itself, and whose share it looks at first.
+/// What a worker needs to find hints: those that it leaves itself, whose share it looks at first, and how many hints it has taken
+/// from shares.
 #[derive(Drop)]
 pub struct Hints {
     pub freed: Worker<u32>,
     pub turn: usize,
+    pub taken: u32,
 }
 
 /// What a worker starts with: hints, and room for as many failures as there are actions.
@@ -54,7 +61,7 @@ pub struct Crew {
 }
 
 impl Crew {
-    /// A crew of so many workers. The actions that wait for nothing are dealt out to them round by number.
+    /// A crew of so many workers. The actions that wait for nothing are dealt out to them in blocks, by number.
     pub fn gather(alloc: Global, checked: &Checked<'_>, workers: u32) -> Result<Crew, AllocError>
         ensures workers { IfOk result (λ crew. (length crew.members.items ≡ workers) × (length crew.queues.items ≡ workers)) }
         ensures members { IfOk result (λ crew. AreFresh crew.members.items) }
@@ -100,41 +107,66 @@ fn members_with(
         let failures = Vec::with_capacity(alloc, actions)?;
         let turn = members.len();
         members.push(Member {
-            hints: Hints { freed, turn },
+            hints: Hints {
+                freed,
+                turn,
+                taken: 0,
+            },
             failures,
         })?;
     }
     Ok(members)
 }
 
-/// Deals out the actions that wait for nothing, the lowest first.
+/// Deals out the actions that wait for nothing, the lowest first, a block to each share in turn. A whole piece is a block of its
+/// own, so that a large file is read nearly in order.
 fn deal(checked: &Checked<'_>, shares: &mut [Worker<u32>]) {
     let count = shares.len();
     if count == 0 {
         return;
     }
+    let actions = checked.plan().actions.as_slice();
     let mut next = 0;
+    let mut dealt = 0u64;
     for i in 0..checked.action_count() {
         if checked.preds(i).is_empty() {
             // A hint that finds no room is dropped: the sweep comes to its action.
             let _ = shares[next].push(i);
-            next = (next + 1) % count;
+            dealt = dealt.saturating_add(weight(actions.get(i as usize)));
+            if dealt >= PIECE_SIZE {
+                dealt = 0;
+                next = (next + 1) % count;
+            }
         }
     }
 }
 
+/// How much of a block an action is, by what it reads.
+fn weight(action: Option<&Action>) -> u64 {
+    let least = PIECE_SIZE / u64::from(BLOCK);
+    match action {
+        Some(
+            Action {
+                kind: Kind::Piece { length, .. },
+                ..
+            },
+        ) => least.max(*length),
+        _ => least,
+    }
+}
+
 impl Hints {
-    /// The next hint: the last action that the worker freed; or else the lowest of a share, where each look begins one
-    /// further; or else an action that another freed. So the shares stay in step however long one worker is busy, pieces
+    /// The next hint: the last action that the worker freed; or else the lowest of a share, where the look begins one further after
+    /// each block; or else an action that another freed. So the shares stay in step however long one worker is busy, pieces
     /// are staged nearly in order, and few commits have staged bytes at once.
     pub fn next(&mut self, all: &[Queues]) -> Option<u32> {
         if let Some(hint) = self.freed.pop() {
             return Some(hint);
         }
         let (before, from) = all.split_at(self.turn.min(all.len()));
-        self.turn = before.len().wrapping_add(1) % all.len().max(1);
         for queues in from.iter().chain(before) {
             if let Steal::Success(hint) = queues.dealt.steal() {
+                self.take(all.len());
                 return Some(hint);
             }
         }
@@ -144,5 +176,13 @@ impl Hints {
             }
         }
         None
+    }
+
+    /// A hint was taken from one of so many shares. After a block the look begins at the next one.
+    fn take(&mut self, shares: usize) {
+        self.taken = self.taken.wrapping_add(1);
+        if self.taken % BLOCK == 0 {
+            self.turn = self.turn.wrapping_add(1) % shares.max(1);
+        }
     }
 }
