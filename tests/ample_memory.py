@@ -84,7 +84,7 @@ cases/main main: ts_board::Board::split ts_board::Held::commit ts_board::Closed:
 # gate runs, and the case fails where one of the calls gives up.
 SCRIPTS = """
 commands.sh: expect 'first sync' 0: ts_command::command ts_perform::perform ts_perform::HostRuntime::folder
-commands.sh: expect 'first sync' 0: ts_perform::HostRuntime::site ts_perform::HostRuntime::lock
+commands.sh: expect 'first sync' 0: ts_perform::HostRuntime::way ts_perform::HostRuntime::site ts_perform::HostRuntime::lock
 commands.sh: expect 'first sync' 0: ts_exec::run_staging ts_perform::HostRuntime::stage
 commands.sh: expect 'show' 0: ts_perform::HostRuntime::open
 commands.sh: expect 'first sync' 0: ts_perform::HostRuntime::take_part ts_perform::HostRuntime::flush_above

@@ -6,7 +6,9 @@ use std::thread::Threads;
 use std::{fs, process, thread};
 use ts_cause::Cause;
 use ts_check::{Checked, check};
-use ts_disk::{DiskSite, DiskStage, Replica, check_leftovers, clear_leftovers, recover_replica};
+use ts_disk::{
+    DiskSite, DiskStage, Replica, Way, check_leftovers, clear_leftovers, recover_replica,
+};
 use ts_folder::DiskFolder;
 use ts_hold::Holds;
 use ts_model::plan::{Kind, Plan, Side};
@@ -197,7 +199,8 @@ fn commits(
     }
     let before = checked.before(COMMIT);
     let own = files.clone().ok()?;
-    let mut site = DiskSite::new(alloc, own, pair.second, pair.first, before.top(), 0).ok()?;
+    let way = Way::new(alloc, pair.second, pair.first).ok()?;
+    let mut site = DiskSite::new(alloc, own, &way, before.top(), 0).ok()?;
     match site.commit(alloc, &before, staged) {
         Ok(_) => Some(Ok(())),
         Err(fault) => Some(Err(fault)),

@@ -31,5 +31,5 @@ pub use places::DiskPlaces;
 pub use plan_file::{remove_plan, save_plan};
 pub use recovery::{awaits_recovery, check_leftovers, clear_leftovers, recover_replica};
 pub use replica::Replica;
-pub use site::DiskSite;
+pub use site::{DiskSite, Way};
 pub use stage::DiskStage;

@@ -1,5 +1,6 @@
 //! A site on a disk.
 ghost use Rattle.std.specs.Fmt.{decimal};
+ghost use Rattle.std.specs.Arc.{arc_value};
 ghost use Rattle.std.specs.Prelude.{◌≡◌, ◌≢◌, ◌++◌, ◌<◌, IfErr, IfOk, IfSome, IsErrOf, IsTrue, None, codes};
 ghost use Rattle.std.specs.String.{string_bytes};
 ghost use Rattle.ts_model.specs.Swap.{IsThere};
@@ -13,6 +14,7 @@ use crate::places::DiskPlaces;
 use crate::replacement::Replacement;
 use std::alloc::Global;
 use std::snapshot::Snapshot;
+use std::sync::Arc;
 use ts_cause::Cause;
 use ts_folder::DiskFolder;
 use ts_name::Path;
@@ -32,16 +34,36 @@ use ts_swap::{Places, Spot};
 ///
 /// A commit that the device fails at tries to leave what was there: it brings its swap to an end once more. That this
 /// succeeded, and that the disk returns what was written to it, is for its user to know. Where the device has failed
-/// 2^64 - 1 times, each commit answers out of memory.
+/// 2^32 - 1 times, each commit answers out of memory.
 pub struct DiskSite<R> {
     files: R,
-    root: String,
-    source: String,
-    path: Path,
+    way: Arc<Way>,
+    // elsewhere, since each action of a plan has room for a site
+    path: Box<Path>,
     entry: u32,
-    failures: u64,
+    failures: u32,
     // why the commit failed last, as far as the system says
     cause: Cause,
+}
+
+/// From which replica to which one a commit copies, by their roots. All sites of a run whose commits go the same way share it.
+#[derive(Drop)]
+pub struct Way {
+    root: String,
+    source: String,
+}
+
+impl Way {
+    /// The way to the replica with the root `root` from the one with the root `source`.
+    pub fn new(alloc: Global, root: &str, source: &str) -> Result<Arc<Way>, DiskFault>
+        ensures root { IfOk result (λ way. string_bytes (arc_value way).root ≡ root.now) }
+        ensures source { IfOk result (λ way. string_bytes (arc_value way).source ≡ source.now) }
+        ensures fault { IfErr result (λ e. e ≡ DiskFault.OutOfMemory) }
+    {
+        let root = String::from_str(alloc, root)?;
+        let source = String::from_str(alloc, source)?;
+        Ok(Arc::new(alloc, Way { root, source })?)
+    }
 }
 
 /// Written out, so that a proof of what drops one stays short.
@@ -49,46 +71,39 @@ impl<R: Drop> Drop for DiskSite<R> {
     fn drop(self) {
         let DiskSite {
             files,
-            root,
-            source,
+            way,
             path,
             entry: _,
             failures: _,
             cause: _,
         } = self;
         drop(files);
-        drop(root);
-        drop(source);
+        drop(way);
         drop(path);
     }
 }
 
 impl<R: Drop> DiskSite<R> {
-    /// The place below the root for the entry of this number and path, which is copied from the replica with the root `source`.
-    /// Nothing is looked at yet.
+    /// The place for the entry of this number and path, which is copied this way. Nothing is looked at yet.
     pub fn new(
         alloc: Global,
         files: R,
-        root: &str,
-        source: &str,
+        way: &Arc<Way>,
         path: &Path,
         entry: u32,
     ) -> Result<DiskSite<R>, DiskFault>
-        ensures root { IfOk result (λ site. string_bytes site.root ≡ root.now) }
-        ensures source { IfOk result (λ site. string_bytes site.source ≡ source.now) }
-        ensures entry { IfOk result (λ site. (site.path ≡ path.now) × (site.entry ≡ entry)) }
+        ensures way { IfOk result (λ site. arc_value site.way ≡ arc_value way.now) }
+        ensures entry { IfOk result (λ site. (site.path.value ≡ path.now) × (site.entry ≡ entry)) }
         ensures failures { IfOk result (λ site. (site.failures ≡ 0) × (site.cause ≡ Cause.Unknown)) }
         ensures fault { IfErr result (λ e. e ≡ DiskFault.OutOfMemory) }
     {
         let Ok(path) = path.copy(alloc) else {
             return Err(DiskFault::OutOfMemory);
         };
-        let root = String::from_str(alloc, root)?;
-        let source = String::from_str(alloc, source)?;
+        let path = Box::new(alloc, path)?;
         Ok(DiskSite {
             files,
-            root,
-            source,
+            way: way.clone()?,
             path,
             entry,
             failures: 0,
@@ -121,7 +136,7 @@ impl DiskSite<HostRuntime> {
             return Err(SiteFault::Device);
         }
         let folder = self.folder(alloc)?;
-        let Ok(source) = self.path.place_below(alloc, self.source.as_str()) else {
+        let Ok(source) = self.path.place_below(alloc, self.way.source.as_str()) else {
             return Err(SiteFault::OutOfMemory);
         };
         let mut swap = Replacement::new(alloc, places, &folder, before, staged, source.as_str());
@@ -169,15 +184,15 @@ impl DiskSite<HostRuntime> {
     }
 
     fn places(&self, alloc: Global) -> Result<DiskPlaces<HostRuntime>, SiteFault>
-        ensures target { IfOk result (λ places. string_bytes places.at_target ≡ string_bytes self.now.root ++ place_text self.now.path) }
-        ensures new { IfOk result (λ places. string_bytes places.at_new ≡ string_bytes self.now.root ++ codes "/.twosync/new-" ++ decimal self.now.entry) }
-        ensures old { IfOk result (λ places. string_bytes places.at_old ≡ string_bytes self.now.root ++ codes "/.twosync/old-" ++ decimal self.now.entry) }
+        ensures target { IfOk result (λ places. string_bytes places.at_target ≡ string_bytes (arc_value self.now.way).root ++ place_text self.now.path.value) }
+        ensures new { IfOk result (λ places. string_bytes places.at_new ≡ string_bytes (arc_value self.now.way).root ++ codes "/.twosync/new-" ++ decimal self.now.entry) }
+        ensures old { IfOk result (λ places. string_bytes places.at_old ≡ string_bytes (arc_value self.now.way).root ++ codes "/.twosync/old-" ++ decimal self.now.entry) }
         ensures misfit { IfErr result (λ e. e ≢ SiteFault.Misfit) }
     {
         let Ok(files) = self.files.clone() else {
             return Err(SiteFault::OutOfMemory);
         };
-        match DiskPlaces::new(alloc, files, self.root.as_str(), &self.path, self.entry) {
+        match DiskPlaces::new(alloc, files, self.way.root.as_str(), &self.path, self.entry) {
             Ok(places) => Ok(places),
             Err(_) => Err(SiteFault::OutOfMemory),
         }
@@ -189,7 +204,7 @@ impl DiskSite<HostRuntime> {
         let Ok(files) = self.files.clone() else {
             return Err(SiteFault::OutOfMemory);
         };
-        match DiskFolder::new(alloc, files, self.root.as_str()) {
+        match DiskFolder::new(alloc, files, self.way.root.as_str()) {
             Ok(folder) => Ok(folder),
             Err(_) => Err(SiteFault::OutOfMemory),
         }

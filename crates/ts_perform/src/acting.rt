@@ -89,12 +89,14 @@ where
 {
     let plan = checked.plan();
     let entries = plan.entries.as_slice();
+    let to_first = rt.way(rt.alloc(), pair.first, pair.second)?;
+    let to_second = rt.way(rt.alloc(), pair.second, pair.first)?;
     let mut sites = Vec::new(rt.alloc());
     for action in plan.actions.as_slice() {
         if let Kind::Commit { entry } = action.kind {
             let place = &entries[entry as usize];
-            let (root, source) = target_and_source(pair, place.reason);
-            sites.push(rt.site(rt.alloc(), root, source, &place.path, entry)?)?;
+            let way = way_of::<R>(&to_first, &to_second, place.reason);
+            sites.push(rt.site(rt.alloc(), way, &place.path, entry)?)?;
         }
     }
     Ok(sites)
@@ -112,15 +114,14 @@ pub(crate) fn replica<'a>(pair: &Pair<'a>, side: Side) -> Replica<'a>
     Replica { root, side }
 }
 
-/// The roots of the replica that entries of this reason are copied to, and of the one that they are copied from. One that isn't
-/// copied has no commit.
-fn target_and_source<'a>(pair: &Pair<'a>, reason: Reason) -> (&'a str, &'a str)
-    ensures target { result.0.now ≡ target_root pair.now.first.now pair.now.second.now reason }
-    ensures source { result.1.now ≡ source_root pair.now.first.now pair.now.second.now reason }
+/// The way on which entries of this reason are copied, of the two between a pair's replicas. One that isn't copied has no commit.
+fn way_of<'a, R: Disk>(to_first: &'a R::Way, to_second: &'a R::Way, reason: Reason) -> &'a R::Way
+    ensures target { R.to result.now ≡ target_root (R.to to_first.now) (R.to to_second.now) reason }
+    ensures source { R.from result.now ≡ source_root (R.from to_second.now) (R.from to_first.now) reason }
 {
     match reason.source() {
-        Some(from) => (replica(pair, from.other()).root, replica(pair, from).root),
-        None => (pair.second, pair.first),
+        Some(Side::Second) => to_first,
+        Some(Side::First) | None => to_second,
     }
 }
 

@@ -11,12 +11,13 @@ use std::alloc::Global;
 use std::fs::{File, Files};
 use std::io::{ErrorKind, Read};
 use std::rt::Clock;
+use std::sync::Arc;
 use std::thread::Threads;
 use std::{fs, io};
 use ts_cause::{Cause, cause_of};
 use ts_check::Checked;
 use ts_disk::{
-    ArchivePlace, DiskFault, DiskSite, DiskStage, Lock, awaits_recovery, claim_archive,
+    ArchivePlace, DiskFault, DiskSite, DiskStage, Lock, Way, awaits_recovery, claim_archive,
     flush_above, flush_above_alone, take_lock,
 };
 use ts_folder::Folder;
@@ -36,6 +37,9 @@ pub trait Disk {
 
     type Site: Site;
 
+    /// From which replica to which one commits copy.
+    type Way: Drop;
+
     type Stage: Stage + Sync + Drop;
 
     type Lock: Drop;
@@ -46,6 +50,11 @@ pub trait Disk {
 
     // Where a site's commit is made.
     ghost stand: { Self.Site → Stand };
+
+    // To which replica a way leads, and from which one, by their roots.
+    ghost to: { Self.Way → List ℕ };
+
+    ghost from: { Self.Way → List ℕ };
 
     // The stage was asked for by these roots.
     ghost is_staged: { Self.Stage → List ℕ → List ℕ → Type 0 };
@@ -96,17 +105,21 @@ pub trait Disk {
         ensures at { IfOk result (λ folder. is_at folder root.now specials) }
         ensures quiet { IfErr result IsQuiet };
 
-    /// The place in a replica of the commit of the entry of this number and path, which is copied from the replica `source`.
-    /// Nothing is looked at yet.
+    /// The way to the replica with the root `root` from the one with the root `source`.
+    fn way(&self, alloc: Global, root: &str, source: &str) -> Result<Self::Way, PerformFault>
+        ensures to { IfOk result (λ way. to way ≡ root.now) }
+        ensures from { IfOk result (λ way. from way ≡ source.now) }
+        ensures quiet { IfErr result IsQuiet };
+
+    /// The place of the commit of the entry of this number and path, which is copied this way. Nothing is looked at yet.
     fn site(
         &self,
         alloc: Global,
-        root: &str,
-        source: &str,
+        way: &Self::Way,
         path: &Path,
         entry: u32,
     ) -> Result<Self::Site, PerformFault>
-        ensures stand { IfOk result (λ site. stand site ≡ record { root = root.now; source = source.now; path = path.now }) }
+        ensures stand { IfOk result (λ site. stand site ≡ record { root = to way.now; source = from way.now; path = path.now }) }
         ensures quiet { IfErr result IsQuiet };
 
     /// Where the pieces of a checked plan are stored until their commits take them, by the roots of both replicas: each in the one
@@ -212,8 +225,13 @@ impl<R: Disk + Files + AllocGlobal + Threads + Screen + Clock + Clone + Drop + S
 impl Disk for HostRuntime {
     ghost use Rattle.std.specs.Prelude.{◌≡◌, ⊤};
     ghost use Rattle.std.specs.String.{string_bytes};
+    ghost use Rattle.std.specs.Arc.{arc_value};
 
-    ghost stand = { λ site. record { root = string_bytes site.root; source = string_bytes site.source; path = site.path } };
+    ghost stand = { λ site. record { root = string_bytes (arc_value site.way).root; source = string_bytes (arc_value site.way).source; path = site.path.value } };
+
+    ghost to = { λ way. string_bytes (arc_value way).root };
+
+    ghost from = { λ way. string_bytes (arc_value way).source };
 
     ghost is_staged = { λ stage first second. (string_bytes stage.first ≡ first) × (string_bytes stage.second ≡ second) };
 
@@ -240,6 +258,8 @@ impl Disk for HostRuntime {
     type Folder = HoldingFolder<HostRuntime>;
 
     type Site = DiskSite<HostRuntime>;
+
+    type Way = Arc<Way>;
 
     type Stage = DiskStage<HostRuntime>;
 
@@ -269,15 +289,21 @@ impl Disk for HostRuntime {
         }
     }
 
+    fn way(&self, alloc: Global, root: &str, source: &str) -> Result<Arc<Way>, PerformFault> {
+        match Way::new(alloc, root, source) {
+            Ok(way) => Ok(way),
+            Err(_) => Err(PerformFault::OutOfMemory),
+        }
+    }
+
     fn site(
         &self,
         alloc: Global,
-        root: &str,
-        source: &str,
+        way: &Arc<Way>,
         path: &Path,
         entry: u32,
     ) -> Result<DiskSite<HostRuntime>, PerformFault> {
-        match DiskSite::new(alloc, self.clone()?, root, source, path, entry) {
+        match DiskSite::new(alloc, self.clone()?, way, path, entry) {
             Ok(site) => Ok(site),
             Err(_) => Err(PerformFault::OutOfMemory),
         }

@@ -7,7 +7,7 @@ use Rattle.ts_model.specs.declared.plan.Entry.{Entry}
 use Rattle.ts_model.specs.declared.plan.Kind.TheVariants.{Commit}
 use Rattle.ts_model.specs.declared.plan.Plan.{Plan}
 use Rattle.ts_laws.proofs.Bounds.{entry_within}
-use Rattle.ts_perform.specs.Stands.{stands_of}
+use Rattle.ts_perform.specs.Stands.{source_root, stands_of, target_root}
 use Rattle.ts_perform.proofs.Standing.{at_end, sites_counted, stands_so, with_commit, without_commit}
 use Rattle.ts_perform.proofs.acting.sites.Goals as goal
 use Rattle.ts_perform.proofs.acting.sites.Goals.{in-Commit+in_ok-site+in_ok-push, in_default}
@@ -38,7 +38,14 @@ loop-action-preserved g c =
           let e = w.in-Commit.entry in let entry = w.index-entries-entry.result in
           let read : slice_get plan.entries e ≡ Some entry =
           sym (ap (λ (l : List Entry). slice_get l e) entries_are) ∙ slice_get_read c.as_slice-entries.result.now (length c.as_slice-entries.result.now) e entry refl (there e w.in-Commit.is) w.index-entries-entry.is in
-          rw w.sites-is (rw w.in_ok-push.ensures.items (with_commit g.R.Disk.stand c.loop-action.sites.items w.in_ok-site.field-0 first second plan.entries plan.actions i c.action-item.result e entry all within is w.in-Commit.is read (stands_so (g.R.Disk.stand w.in_ok-site.field-0) w.target_and_source.result.0.now w.target_and_source.result.1.now first second entry w.in_ok-site.ensures.stand w.target_and_source.ensures.target w.target_and_source.ensures.source) c.loop-action.invariant))
+          let to = g.R.Disk.to in let from = g.R.Disk.from in
+          let target : to w.way_of-way.result.now ≡ target_root first second entry.reason =
+          w.way_of-way.ensures.target ∙ ap (λ (r : List ℕ). target_root r (to c.in_ok-to_second.to_second) entry.reason) c.in_ok-to_first.ensures.to
+          ∙ ap (λ (r : List ℕ). target_root first r entry.reason) c.in_ok-to_second.ensures.to in
+          let source : from w.way_of-way.result.now ≡ source_root first second entry.reason =
+          w.way_of-way.ensures.source ∙ ap (λ (r : List ℕ). source_root r (from c.in_ok-to_first.to_first) entry.reason) c.in_ok-to_second.ensures.from
+          ∙ ap (λ (r : List ℕ). source_root first r entry.reason) c.in_ok-to_first.ensures.from in
+          rw w.sites-is (rw w.in_ok-push.ensures.items (with_commit g.R.Disk.stand c.loop-action.sites.items w.in_ok-site.field-0 first second plan.entries plan.actions i c.action-item.result e entry all within is w.in-Commit.is read (stands_so (g.R.Disk.stand w.in_ok-site.field-0) (to w.way_of-way.result.now) (from w.way_of-way.result.now) first second entry w.in_ok-site.ensures.stand target source) c.loop-action.invariant))
       | in_default w ↦
           rw w.sites-is (without_commit first second plan.entries plan.actions i c.action-item.result (map (λ s. Some (g.R.Disk.stand s)) c.loop-action.sites.items) all within is w.in_default.not-Commit c.loop-action.invariant)
     ]
