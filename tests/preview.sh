@@ -72,4 +72,37 @@ refused 'rules that are not there' 9 "${preview[@]}" --holds nothing
 printf damaged >archive
 refused 'a damaged archive' 6 "${preview[@]}"
 expect 'no words' 3 '' "$("$program" preview 2>&1 >/dev/null)" preview
+
+# ---- colours, where standard output is a terminal that has them
+fresh
+printf a >first/deleted
+printf a >first/conflict
+printf a >first/held.tmp
+"$program" "${sync[@]}" >out
+rm second/deleted
+printf bb >first/conflict && printf ccc >second/conflict
+printf bb >first/held.tmp
+printf n >first/new
+printf s >first/same && cp first/same second/same
+echo 'name *.tmp' >holds
+# coloured VARIABLE=VALUE..: what a preview writes where standard output is a terminal, with these in its environment
+coloured() {
+  env -u NO_COLOR -u TERM "$@" python3 "$top/tests/terminal.py" --stdout "$program" "${preview[@]}" --holds holds
+}
+RED=$'\e[31m' GREEN=$'\e[32m' YELLOW=$'\e[33m' CYAN=$'\e[36m' PLAIN=$'\e[0m'
+lines="$HEAD
+${YELLOW}conflict   ${PLAIN}-                             -                 -  /conflict (first changed, second changed)
+${RED}to first   ${PLAIN}deleted                       1                 1  /deleted
+${CYAN}held       ${PLAIN}-                             -                 -  /held.tmp (first changed, second unchanged)
+${GREEN}to second  ${PLAIN}new                           1                 1  /new
+agreed     ${PLAIN}new                           -                 -  /same
+total 5: to first 1, to second 1, agreed 1, conflicts 1, held 1; files lost in first 1, in second 0"
+plain=$("$program" "${preview[@]}" --holds holds)
+holds_true 'colours on a terminal' test "$(coloured TERM=xterm)" = "$lines"
+holds_true 'an empty NO_COLOR asks for nothing' test "$(coloured TERM=xterm NO_COLOR=)" = "$lines"
+holds_true 'no colours where NO_COLOR is set' test "$(coloured TERM=xterm NO_COLOR=1)" = "$plain"
+holds_true 'no colours on a terminal without any' test "$(coloured TERM=dumb)" = "$plain"
+holds_true 'no colours where no terminal is named' test "$(coloured)" = "$plain"
+holds_true 'but for colours it is the same' test "$(coloured TERM=xterm | sed $'s/\e\\[[0-9]*m//g')" = "$plain"
+holds_true 'JSON has none' test "$(TERM=xterm python3 "$top/tests/terminal.py" --stdout "$program" "${preview[@]}" --json)" = "$("$program" "${preview[@]}" --json)"
 ended preview

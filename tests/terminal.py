@@ -1,7 +1,8 @@
 #!/usr/bin/env python3
 """Runs a command whose standard error is a terminal, prints what it wrote there, and ends with its status.
 
-usage: tests/terminal.py COMMAND ARG..
+usage: tests/terminal.py [--stdout] COMMAND ARG..
+       --stdout  standard output is the terminal, in place of standard error
 """
 
 import os
@@ -10,10 +11,11 @@ import subprocess
 import sys
 
 
-def run(words, stdout=None, env=None):
-    """Runs a command with standard error on a terminal. Returns its status, and what the terminal got."""
+def run(words, stdout=None, env=None, shows_output=False):
+    """Runs a command with standard error on a terminal, or standard output. Returns its status, and what the terminal got."""
     ours, theirs = pty.openpty()
-    child = subprocess.Popen(words, stdin=subprocess.DEVNULL, stdout=stdout, stderr=theirs, env=env)
+    streams = {"stdout": theirs} if shows_output else {"stdout": stdout, "stderr": theirs}
+    child = subprocess.Popen(words, stdin=subprocess.DEVNULL, env=env, **streams)
     os.close(theirs)
     got = b""
     while True:
@@ -29,6 +31,8 @@ def run(words, stdout=None, env=None):
 
 
 if __name__ == "__main__":
-    status, got = run(sys.argv[1:])
+    words = sys.argv[1:]
+    shows_output = words[:1] == ["--stdout"]
+    status, got = run(words[1:] if shows_output else words, shows_output=shows_output)
     sys.stdout.buffer.write(got.replace(b"\r\n", b"\n"))
     sys.exit(status)

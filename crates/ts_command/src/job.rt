@@ -39,7 +39,8 @@ pub enum Job<'a> {
 }
 
 /// A job, by how many threads it is done, 1 to 64, after how many actions of a thread the archive is written meanwhile, where
-/// that is said, 1 to 1,048,576, whether faults are put in words, too, and whether no progress line is drawn.
+/// that is said, 1 to 1,048,576, whether faults are put in words, too, whether no progress line is drawn, and whether a preview for
+/// people has colours, for which no words ask: whoever prints knows whether a terminal shows them.
 #[derive(Drop)]
 pub struct Command<'a> {
     pub job: Job<'a>,
@@ -47,6 +48,7 @@ pub struct Command<'a> {
     pub checkpoint: Option<u32>,
     pub explain: bool,
     pub quiet: bool,
+    pub coloured: bool,
     pub ghost some: { 1 ≤ workers },
     pub ghost few: { workers ≤ 64 },
     pub ghost spaced: { IfSome checkpoint (λ every. (1 ≤ every) × (every ≤ 1048576)) } by { Prim.hlevel props },

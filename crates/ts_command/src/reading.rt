@@ -76,6 +76,7 @@ fn tell<'a>(message: clap::Error) -> Result<Command<'a>, CommandFault>
             checkpoint: None,
             explain: false,
             quiet: false,
+            coloured: false,
         }),
         _ => Err(CommandFault::Usage { message }),
     }
@@ -98,6 +99,7 @@ fn read_command<'a>(matches: &ArgMatches<'a>) -> Option<Command<'a>>
         checkpoint,
         explain,
         quiet,
+        coloured: false,
     })
 }
 

@@ -18,7 +18,8 @@ use Rattle.ts_preview.specs.Previews.{preview_lines}
 use Rattle.ts_preview.specs.Totals.{best_totals}
 use Rattle.ts_preview.specs.declared.outlook.Outlook.{Outlook}
 use Rattle.ts_report.specs.Reports.{status_of}
-use Rattle.ts_perform.specs.Previewing.{IsPreviewAt, IsPreviewOf, form_of}
+use Rattle.ts_preview.specs.declared.writing.Form.{Form}
+use Rattle.ts_perform.specs.Previewing.{IsPreviewAt, IsPreviewOf}
 use Rattle.ts_perform.specs.Inputs.{Finds, IsSeenFor}
 use Rattle.ts_perform.specs.Specials.{FindsSpecial}
 use Rattle.ts_perform.specs.Stands.{IsAt}
@@ -76,17 +77,17 @@ judges_less Is Less old new (Err e) less judged = record {
 }
 
 -- a preview was written in part
-pub preview_begun : (s : Snapshot) (plan : Plan) (json : Bool) (all : List Outlook) (old new : Option (List ℕ)) (e : TextFault) → IsPlanned (checkup_of s plan)
-    → AreOutlooks s.archive s.first s.second plan.entries all → AppendsFront old new (text (preview_lines (form_of json) all))
-    → Prints (IsPreviewOf s json) old new (Err (fault_of_text Output (Unwritten Unknown) e))
-preview_begun s plan json all old new e planned each begun =
-    (text_quiet e, inr (text (preview_lines (form_of json) all), status_of (best_totals all), (plan, (all, planned, each, refl, refl)), begun))
+pub preview_begun : (s : Snapshot) (plan : Plan) (form : Form) (all : List Outlook) (old new : Option (List ℕ)) (e : TextFault) → IsPlanned (checkup_of s plan)
+    → AreOutlooks s.archive s.first s.second plan.entries all → AppendsFront old new (text (preview_lines form all))
+    → Prints (IsPreviewOf s form) old new (Err (fault_of_text Output (Unwritten Unknown) e))
+preview_begun s plan form all old new e planned each begun =
+    (text_quiet e, inr (text (preview_lines form all), status_of (best_totals all), (plan, (all, planned, each, refl, refl)), begun))
 
 -- what is printed for a snapshot is printed for the pair that it was read for
-pub preview_at : {F : Type 0} (is_at : IsAt F) (tells : F → Option (Listing (List ℕ))) (finds : Finds) (finds_special : FindsSpecial) (pair : Pair) (s : Snapshot) (json : Bool)
+pub preview_at : {F : Type 0} (is_at : IsAt F) (tells : F → Option (Listing (List ℕ))) (finds : Finds) (finds_special : FindsSpecial) (pair : Pair) (s : Snapshot) (form : Form)
     (old new : Option (List ℕ)) (r : Result ℕ PerformFault) → IsSeenFor is_at tells finds finds_special pair s.archive s.holds s.first s.second
-    → Prints (IsPreviewOf s json) old new r → Prints (IsPreviewAt is_at tells finds finds_special pair json) old new r
-preview_at is_at tells finds finds_special pair s json old new (Ok status) seen (written, (plan, is), added) = (written, (checkup_of s plan, seen, is), added)
-preview_at is_at tells finds finds_special pair s json old new (Err e) seen (quiet, inl same) = (quiet, inl same)
-preview_at is_at tells finds finds_special pair s json old new (Err e) seen (quiet, inr (written, status, (plan, is), begun)) =
+    → Prints (IsPreviewOf s form) old new r → Prints (IsPreviewAt is_at tells finds finds_special pair form) old new r
+preview_at is_at tells finds finds_special pair s form old new (Ok status) seen (written, (plan, is), added) = (written, (checkup_of s plan, seen, is), added)
+preview_at is_at tells finds finds_special pair s form old new (Err e) seen (quiet, inl same) = (quiet, inl same)
+preview_at is_at tells finds finds_special pair s form old new (Err e) seen (quiet, inr (written, status, (plan, is), begun)) =
     (quiet, inr (written, status, (checkup_of s plan, seen, is), begun))

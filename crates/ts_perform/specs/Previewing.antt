@@ -1,8 +1,9 @@
 -- What `preview` prints.
---     IsPreview k json written status          what would become of each entry of a plan that `resume` makes, for people or as JSON; with the
+--     form_of coloured json                    JSON where that is asked for, else for people, with colours or without
+--     IsPreview k form written status          what would become of each entry of a plan that `resume` makes, in this form; with the
 --                                              status of a report in which all is done but what is skipped
---     IsPreviewOf s json written status        the same of some plan for this snapshot
---     IsPreviewAt .. pair json written status  the same of scans of a pair's replicas, and of the archive and the rules that were read for it
+--     IsPreviewOf s form written status        the same of some plan for this snapshot
+--     IsPreviewAt .. pair form written status  the same of scans of a pair's replicas, and of the archive and the rules that were read for it
 use Rattle.std.specs.Prelude.{◌≡◌, ℕ, Bool, if◌then◌else◌, List, Option}
 use Rattle.ts_check.specs.Checkup.{Checkup}
 use Rattle.ts_command.specs.declared.job.Pair.{Pair}
@@ -14,7 +15,7 @@ use Rattle.ts_preview.specs.Previews.{preview_lines}
 use Rattle.ts_preview.specs.Totals.{best_totals}
 use Rattle.ts_preview.specs.declared.outlook.Outlook.{Outlook}
 use Rattle.ts_preview.specs.declared.writing.Form.{Form}
-use Rattle.ts_preview.specs.declared.writing.Form.TheVariants.{People, Json}
+use Rattle.ts_preview.specs.declared.writing.Form.TheVariants.{People, Coloured, Json}
 use Rattle.ts_report.specs.Reports.{status_of}
 use Rattle.ts_perform.specs.Inputs.{Finds, IsSeenFor}
 use Rattle.ts_perform.specs.Snapshots.{IsPlanned, checkup_of}
@@ -22,18 +23,18 @@ use Rattle.ts_perform.specs.Specials.{FindsSpecial}
 use Rattle.ts_perform.specs.Stands.{IsAt}
 use Rattle.ts_perform.specs.declared.snapshot.Snapshot.{Snapshot}
 
-abbrev pub form_of : Bool → Form
-form_of json = if json then Json else People
+abbrev pub form_of : (coloured json : Bool) → Form
+form_of coloured json = if json then Json else if coloured then Coloured else People
 
-abbrev pub IsPreview : Checkup → Bool → List ℕ → ℕ → Type 0
-IsPreview k json written status =
+abbrev pub IsPreview : Checkup → Form → List ℕ → ℕ → Type 0
+IsPreview k form written status =
     (all : List Outlook) × IsPlanned k × AreOutlooks k.archive k.first k.second k.plan.entries all
-    × (written ≡ text (preview_lines (form_of json) all)) × (status ≡ status_of (best_totals all))
+    × (written ≡ text (preview_lines form all)) × (status ≡ status_of (best_totals all))
 
-abbrev pub IsPreviewOf : Snapshot → Bool → List ℕ → ℕ → Type 0
-IsPreviewOf s json written status = (plan : Plan) × IsPreview (checkup_of s plan) json written status
+abbrev pub IsPreviewOf : Snapshot → Form → List ℕ → ℕ → Type 0
+IsPreviewOf s form written status = (plan : Plan) × IsPreview (checkup_of s plan) form written status
 
-abbrev pub IsPreviewAt : {F : Type 0} → IsAt F → (F → Option (Listing (List ℕ))) → Finds → FindsSpecial → Pair → Bool → List ℕ → ℕ → Type 0
-IsPreviewAt is_at tells finds finds_special pair json written status =
+abbrev pub IsPreviewAt : {F : Type 0} → IsAt F → (F → Option (Listing (List ℕ))) → Finds → FindsSpecial → Pair → Form → List ℕ → ℕ → Type 0
+IsPreviewAt is_at tells finds finds_special pair form written status =
     (k : Checkup) × IsSeenFor is_at tells finds finds_special pair k.archive k.rules k.first k.second
-    × IsPreview k json written status
+    × IsPreview k form written status

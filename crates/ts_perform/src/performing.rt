@@ -3,7 +3,7 @@ ghost use Rattle.std.specs.Prelude.{◌≡◌, ◌≤◌, IfErr, None};
 ghost use Rattle.ts_model.specs.Trial.{Trial};
 ghost use Rattle.ts_perform.specs.Jobs.{IfCheck, IfPlan, IfPreview, IfRun, IfScan, IfShow, IfSync, IfTell};
 ghost use Rattle.ts_perform.specs.Pending.{AnswersPending, AnswersVerdictPending, JudgesPending, PrintsPending};
-ghost use Rattle.ts_perform.specs.Previewing.{IsPreviewAt};
+ghost use Rattle.ts_perform.specs.Previewing.{IsPreviewAt, form_of};
 ghost use Rattle.ts_perform.specs.Printouts.{IsBodyOf, IsScanText, IsShown, IsTold};
 ghost use Rattle.ts_perform.specs.Runs.{AnswersOne, AnswersRun, IsRun, IsSynced, Ran, Refuses};
 ghost use Rattle.ts_perform.specs.Snapshots.{IsCheckupAt, IsPrintoutAt, Judges, Prints, PrintsAlone};
@@ -15,7 +15,7 @@ use crate::disk::{Disk, Machine};
 use crate::fault::{PerformFault, Subject, UNWRITTEN, of_archive, of_trial, on_output};
 use crate::inputs::{read_archive, scan_folder};
 use crate::pending::report_pending;
-use crate::previewing::preview;
+use crate::previewing::{form_of, preview};
 use crate::snapshot::Snapshot;
 use crate::task::Task;
 use std::alloc::Global;
@@ -50,7 +50,8 @@ pub fn perform<R: Machine, I: Source + Drop, O: Sink, E: Sink>(
         (O.holds out.old) (O.holds out.new) (E.holds err.old) (E.holds err.new) result) }
     ensures plan { IfPlan command.now.job (λ pair. AnswersPending R.awaits command.now pair (IsPrintoutAt R.is_at R.Folder.tells R.finds R.finds_special pair)
         (O.holds out.old) (O.holds out.new) (E.holds err.old) (E.holds err.new) result) }
-    ensures preview { IfPreview command.now.job (λ pair json. AnswersPending R.awaits command.now pair (IsPreviewAt R.is_at R.Folder.tells R.finds R.finds_special pair json)
+    ensures preview { IfPreview command.now.job (λ pair json. AnswersPending R.awaits command.now pair
+        (IsPreviewAt R.is_at R.Folder.tells R.finds R.finds_special pair (form_of command.now.coloured json))
         (O.holds out.old) (O.holds out.new) (E.holds err.old) (E.holds err.new) result) }
     ensures check { IfCheck command.now.job (λ pair plan. AnswersVerdictPending R.awaits command.now pair (IsCheckupAt R.is_at R.Folder.tells R.finds R.finds_special pair plan)
         (O.holds out.old) (O.holds out.new) (E.holds err.old) (E.holds err.new) result) }
@@ -109,7 +110,8 @@ fn answer<R: Machine, I: Source + Drop, O: Sink, E: Sink>(
         (O.holds out.old) (O.holds out.new) (E.holds err.old) (E.holds err.new) result) }
     ensures plan { IfPlan command.now.job (λ pair. PrintsPending R.awaits command.now pair (IsPrintoutAt R.is_at R.Folder.tells R.finds R.finds_special pair)
         (O.holds out.old) (O.holds out.new) (E.holds err.old) (E.holds err.new) result) }
-    ensures preview { IfPreview command.now.job (λ pair json. PrintsPending R.awaits command.now pair (IsPreviewAt R.is_at R.Folder.tells R.finds R.finds_special pair json)
+    ensures preview { IfPreview command.now.job (λ pair json. PrintsPending R.awaits command.now pair
+        (IsPreviewAt R.is_at R.Folder.tells R.finds R.finds_special pair (form_of command.now.coloured json))
         (O.holds out.old) (O.holds out.new) (E.holds err.old) (E.holds err.new) result) }
     ensures check { IfCheck command.now.job (λ pair plan. JudgesPending R.awaits command.now pair (IsCheckupAt R.is_at R.Folder.tells R.finds R.finds_special pair plan)
         (O.holds out.old) (O.holds out.new) (E.holds err.old) (E.holds err.new) result) }
@@ -138,7 +140,7 @@ fn answer<R: Machine, I: Source + Drop, O: Sink, E: Sink>(
         Job::Preview { pair, json } => {
             let task = Task::new(rt, command, pair);
             report_pending(&task, err);
-            preview(&task, *json, out)
+            preview(&task, form_of(command.coloured, *json), out)
         }
         Job::Check { pair, plan } => {
             let task = Task::new(rt, command, pair);

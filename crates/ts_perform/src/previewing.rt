@@ -19,14 +19,14 @@ impl Snapshot {
         &self,
         alloc: Global,
         pair: &Pair<'_>,
-        json: bool,
+        form: Form,
         out: &mut O,
     ) -> Result<u8, PerformFault>
-        ensures { Prints (IsPreviewOf self.now json) (O.holds out.old) (O.holds out.new) result }
+        ensures { Prints (IsPreviewOf self.now form) (O.holds out.old) (O.holds out.new) result }
     {
         let plan = self.plan(alloc)?;
         self.look_at_lengths(alloc, pair, &plan)?;
-        self.print_outlooks(alloc, &plan, json, out)
+        self.print_outlooks(alloc, &plan, form, out)
     }
 
     /// Shows what a plan would do.
@@ -34,15 +34,15 @@ impl Snapshot {
         &self,
         alloc: Global,
         plan: &Plan,
-        json: bool,
+        form: Form,
         out: &mut O,
     ) -> Result<u8, PerformFault>
         requires { IsPlanned (checkup_of self.now plan.now) }
-        ensures { Prints (IsPreviewOf self.now json) (O.holds out.old) (O.holds out.new) result }
+        ensures { Prints (IsPreviewOf self.now form) (O.holds out.old) (O.holds out.new) result }
     {
         let entries = plan.entries.as_slice();
         let all = outlooks(alloc, entries, &self.archive, &self.first, &self.second)?;
-        match write(alloc, form_of(json), &all, out) {
+        match write(alloc, form, &all, out) {
             Ok(()) => Ok(best_status(&all)),
             Err(fault) => Err(on_output(fault)),
         }
@@ -50,20 +50,26 @@ impl Snapshot {
 }
 
 /// For whom a preview is.
-fn form_of(json: bool) -> Form
-    ensures { result ≡ form_of json }
+pub(crate) fn form_of(coloured: bool, json: bool) -> Form
+    ensures { result ≡ form_of coloured json }
 {
-    if json { Form::Json } else { Form::People }
+    if json {
+        Form::Json
+    } else if coloured {
+        Form::Coloured
+    } else {
+        Form::People
+    }
 }
 
 /// Shows what `sync` would do for the pair.
 pub(crate) fn preview<R: Machine, O: Sink>(
     task: &Task<'_, R>,
-    json: bool,
+    form: Form,
     out: &mut O,
 ) -> Result<u8, PerformFault>
-    ensures { Prints (IsPreviewAt R.is_at R.Folder.tells R.finds R.finds_special task.now.pair.now json) (O.holds out.old) (O.holds out.new) result }
+    ensures { Prints (IsPreviewAt R.is_at R.Folder.tells R.finds R.finds_special task.now.pair.now form) (O.holds out.old) (O.holds out.new) result }
 {
     let snapshot = Snapshot::read(task)?;
-    snapshot.print_preview(task.rt.alloc(), task.pair, json, out)
+    snapshot.print_preview(task.rt.alloc(), task.pair, form, out)
 }

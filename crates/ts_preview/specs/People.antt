@@ -1,8 +1,9 @@
 -- A preview's lines for people.
 --     people_head           what stands above the columns
 --     people_line o         an entry: where it goes, what becomes of it, how many files and bytes, its path, and for one that is skipped what changed on each side
+--     coloured_line o       the same, with where it goes in a colour: green what is copied, red what is deleted, yellow a conflict, cyan what is held
 --     people_total totals   the totals
-use Rattle.std.specs.Prelude.{ℕ, List, [], ◌++◌, Option, Some, None, codes, decimal, option_map}
+use Rattle.std.specs.Prelude.{ℕ, List, [], ◌∷◌, ◌++◌, Option, Some, None, codes, decimal, option_map}
 use Rattle.ts_name.specs.Paths.{path_text}
 use Rattle.ts_model.specs.Plans.{other, source}
 use Rattle.ts_model.specs.Sync.{treatment}
@@ -69,9 +70,38 @@ why_by Skipped o = codes " (first " ++ change_word o.first.change ++ codes ", se
 abbrev pub why : Outlook → List ℕ
 why o = why_by (treatment o.reason) o
 
+abbrev pub place_column : Outlook → List ℕ
+place_column o = pad_right 11 (place_word o.reason)
+
+-- what stands behind where it goes
+abbrev pub details : Outlook → List ℕ
+details o = pad_right 22 (change_shown o) ++ amount_text (amount o) ++ shown 0 (path_text o.path.now) ++ why o
+
 abbrev pub people_line : Outlook → Line
-people_line o = pad_right 11 (place_word o.reason) ++ pad_right 22 (change_shown o) ++ amount_text (amount o)
-    ++ shown 0 (path_text o.path.now) ++ why o
+people_line o = place_column o ++ details o
+
+-- how a terminal goes over to a colour, by its number, and to its own again
+abbrev pub colour_code : List ℕ → List ℕ
+colour_code number = 27 ∷ codes "[" ++ number ++ codes "m"
+
+abbrev pub copied_colour : Change → List ℕ
+copied_colour change.Deleted = colour_code (codes "31")
+copied_colour _ = colour_code (codes "32")
+
+abbrev pub colour_by : Reason → Change → List ℕ
+colour_by reason.First c = copied_colour c
+colour_by reason.Second c = copied_colour c
+colour_by reason.Same c = []
+colour_by reason.Dir c = []
+colour_by reason.Conflict c = colour_code (codes "33")
+colour_by reason.Held c = colour_code (codes "36")
+
+-- on what both replicas agree has none
+abbrev pub colour : Outlook → List ℕ
+colour o = colour_by o.reason o.change
+
+abbrev pub coloured_line : Outlook → Line
+coloured_line o = colour o ++ place_column o ++ colour_code (codes "0") ++ details o
 
 abbrev pub losses : Totals → List ℕ
 losses t = codes "; files lost in first " ++ decimal t.lost_in_first ++ codes ", in second " ++ decimal t.lost_in_second

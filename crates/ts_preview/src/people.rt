@@ -1,6 +1,7 @@
 //! A preview's lines for people.
 ghost use Rattle.std.specs.Prelude.{◌≡◌, ◌++◌, OnOk};
-ghost use Rattle.ts_preview.specs.People.{amount, amount_text, change_shown, copied, losses, not_copied, people_line, people_total, place_word, why};
+ghost use Rattle.ts_preview.specs.People.{amount, amount_text, change_shown, colour, coloured_line, copied, copied_colour};
+ghost use Rattle.ts_preview.specs.People.{details, losses, not_copied, people_line, people_total, place_column, place_word, why};
 
 use crate::change::Change;
 use crate::field::push_field;
@@ -15,6 +16,17 @@ use ts_model::plan::{Reason, Side, Treatment};
 pub(crate) const HEAD: &[u8] =
     b"what       change                    files             bytes  path";
 
+const RED: &[u8] = b"\x1b[31m";
+
+const GREEN: &[u8] = b"\x1b[32m";
+
+const YELLOW: &[u8] = b"\x1b[33m";
+
+const CYAN: &[u8] = b"\x1b[36m";
+
+/// The terminal's own colour again.
+const PLAIN: &[u8] = b"\x1b[0m";
+
 /// Appends the line of an entry: where it goes, what becomes of it, how many files and bytes, and its path.
 pub(crate) fn push_outlook(
     alloc: Global,
@@ -23,7 +35,61 @@ pub(crate) fn push_outlook(
 ) -> Result<(), AllocError>
     ensures { OnOk result (line.new.items ≡ line.old.items ++ people_line outlook.now) }
 {
-    push_left(line, place_word(outlook.reason), 11)?;
+    push_place(outlook, line)?;
+    push_details(alloc, outlook, line)
+}
+
+/// The same, with where it goes in a colour.
+pub(crate) fn push_coloured(
+    alloc: Global,
+    outlook: &Outlook<'_>,
+    line: &mut Vec<u8>,
+) -> Result<(), AllocError>
+    ensures { OnOk result (line.new.items ≡ line.old.items ++ coloured_line outlook.now) }
+{
+    line.extend_from_slice(colour(outlook))?;
+    push_place(outlook, line)?;
+    line.extend_from_slice(PLAIN)?;
+    push_details(alloc, outlook, line)
+}
+
+/// The colour of where an entry goes.
+fn colour(outlook: &Outlook<'_>) -> &'static [u8]
+    ensures { result.now ≡ colour outlook.now }
+{
+    match outlook.reason {
+        Reason::First | Reason::Second => copied_colour(outlook.change),
+        Reason::Same | Reason::Dir => b"",
+        Reason::Conflict => YELLOW,
+        Reason::Held => CYAN,
+    }
+}
+
+/// The colour of what is copied: red where something is deleted by it.
+fn copied_colour(change: Change) -> &'static [u8]
+    ensures { result.now ≡ copied_colour change }
+{
+    match change {
+        Change::Deleted => RED,
+        Change::Unchanged
+        | Change::New
+        | Change::Changed
+        | Change::BecameDirectory
+        | Change::BecameFile => GREEN,
+    }
+}
+
+/// Appends where an entry goes.
+fn push_place(outlook: &Outlook<'_>, line: &mut Vec<u8>) -> Result<(), AllocError>
+    ensures { OnOk result (line.new.items ≡ line.old.items ++ place_column outlook.now) }
+{
+    push_left(line, place_word(outlook.reason), 11)
+}
+
+/// Appends what stands behind that.
+fn push_details(alloc: Global, outlook: &Outlook<'_>, line: &mut Vec<u8>) -> Result<(), AllocError>
+    ensures { OnOk result (line.new.items ≡ line.old.items ++ details outlook.now) }
+{
     push_left(line, change_shown(outlook), 22)?;
     push_amount(amount(outlook), line)?;
     let mut text = Vec::new(alloc);

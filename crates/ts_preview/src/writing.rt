@@ -15,6 +15,8 @@ use ts_text::{Sink, TextFault, write_line};
 #[derive(Clone, Copy, Debug, PartialEq, Eq, Drop)]
 pub enum Form {
     People,
+    /// People at a terminal that shows colours.
+    Coloured,
     /// Programs: a JSON object each line.
     Json,
 }
@@ -47,7 +49,7 @@ fn head(form: Form) -> &'static [u8]
     ensures { result.now ≡ head_line form }
 {
     match form {
-        Form::People => people::HEAD,
+        Form::People | Form::Coloured => people::HEAD,
         Form::Json => json::HEAD,
     }
 }
@@ -92,6 +94,7 @@ fn push_outlook(
 {
     match form {
         Form::People => people::push_outlook(alloc, outlook, line),
+        Form::Coloured => people::push_coloured(alloc, outlook, line),
         Form::Json => json::push_outlook(alloc, outlook, line),
     }
 }
@@ -115,7 +118,7 @@ fn push_total(form: Form, totals: &Totals, line: &mut Vec<u8>) -> Result<(), All
     ensures { OnOk result (line.new.items ≡ line.old.items ++ total_line form totals.now) }
 {
     match form {
-        Form::People => people::push_total(totals, line),
+        Form::People | Form::Coloured => people::push_total(totals, line),
         Form::Json => json::push_total(totals, line),
     }
 }

@@ -61,11 +61,32 @@ impl From<AllocError> for Fault {
     }
 }
 
+/// Which of the standard streams are terminals.
+#[derive(Clone, Copy)]
+struct Terminals {
+    out: bool,
+    err: bool,
+}
+
+/// Whether the environment lets a terminal be written to in colours: `NO_COLOR` isn't set, or is empty, and `TERM` is set to
+/// something else than `dumb`.
+fn allows_colours<R: Env + AllocGlobal>(rt: &R) -> bool {
+    let is_refused = match env::var(rt, "NO_COLOR") {
+        Ok(value) => !value.as_str().is_empty(),
+        Err(_) => false,
+    };
+    let is_plain = match env::var(rt, "TERM") {
+        Ok(value) => value.as_str() == "dumb",
+        Err(_) => true,
+    };
+    !is_refused && !is_plain
+}
+
 /// Reads the words and does what they ask for. Answers the exit status. On a terminal faults are put in words even where that
-/// isn't asked for.
+/// isn't asked for, and a preview has colours.
 fn run<R: Env + Input + Print + Machine, E: Sink>(
     rt: &R,
-    on_terminal: bool,
+    terminals: Terminals,
     err: &mut E,
 ) -> Result<u8, Fault> {
     let words = match env::args(rt) {
@@ -79,7 +100,8 @@ fn run<R: Env + Input + Print + Machine, E: Sink>(
     let words: Vec<String> = words.collect(rt.alloc())?;
     match command(rt.alloc(), words.as_slice()) {
         Ok(mut command) => {
-            command.explain = command.explain || on_terminal;
+            command.explain = command.explain || terminals.err;
+            command.coloured = terminals.out && allows_colours(rt);
             answer(rt, &command, err)
         }
         Err(CommandFault::OutOfMemory) => Err(Fault::OutOfMemory),
@@ -128,9 +150,12 @@ fn is_run_or_sync(job: &Job<'_>) -> bool
 
 fn main(rt: HostRuntime) -> ExitCode {
     let err = rt.stderr();
-    let on_terminal = err.is_terminal();
+    let terminals = Terminals {
+        out: rt.stdout().is_terminal(),
+        err: err.is_terminal(),
+    };
     let mut err = Counted::new(err);
-    match run(&rt, on_terminal, &mut err) {
+    match run(&rt, terminals, &mut err) {
         Ok(status) => ExitCode::from(status),
         Err(fault) => {
             let number = fault.number();

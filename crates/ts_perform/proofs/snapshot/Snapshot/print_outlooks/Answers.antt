@@ -12,6 +12,5 @@ returns g c =
     let s = c.args.self.now in let plan = c.args.plan.now in let all = c.in_ok-all.all.items in
     let old = g.O.Sink.holds c.args.out.now in let new = g.O.Sink.holds c.write.new.sink in
     let each = subst (λ entries. AreOutlooks s.archive s.first s.second entries all) c.as_slice-entries.ensures c.in_ok-all.ensures in
-    let given = subst (λ l. AppendsFront old new (text (preview_lines c.form_of.result l))) c.deref.ensures.value c.in-Err.ensures in
-    let begun = subst (λ f. AppendsFront old new (text (preview_lines f all))) c.form_of.ensures given in
-    rw c.on_output.ensures (preview_begun s plan c.args.json all old new c.in-Err.fault c.requires each begun)
+    let begun = subst (λ l. AppendsFront old new (text (preview_lines c.args.form l))) c.deref.ensures.value c.in-Err.ensures in
+    rw c.on_output.ensures (preview_begun s plan c.args.form all old new c.in-Err.fault c.requires each begun)
