@@ -237,6 +237,13 @@ if may_be_refused; then
   told 'it is the first one' 3 '' "closed/.twosync can't be made or used: permission denied." 'twosync: fault 5 /.twosync' sync closed first archive
   told 'an archive that must not be written' 3 '' \
     "The archive shut/archive can't be written: permission denied." 'twosync: fault 5' sync first second shut/archive
+  own 'mkdir refused sealed refused/in sealed/in && printf a >refused/in/x && printf a >sealed/in/x && chmod 000 refused/in/x sealed/in'
+  told 'a file that must not be read' 3 '' "refused/in/x can't be read: permission denied.$ALONE" 'twosync: fault 8 /in/x' plan refused second archive
+  told 'it is in the second folder' 3 '' "refused/in/x can't be read: permission denied.$ALONE" 'twosync: fault 8 /in/x' preview first refused archive
+  told 'it is in a folder that is scanned' 3 '' "refused/in/x can't be read: permission denied." 'twosync: fault 8 /in/x' scan refused
+  told 'a folder that must not be listed' 3 '' "sealed/in can't be read: permission denied.$ALONE" 'twosync: fault 10 /in' sync first sealed archive
+  told 'a scan of one that has it' 3 '' "sealed/in can't be read: permission denied." 'twosync: fault 10 /in' scan sealed
+  own 'chmod 755 sealed/in'
   own 'chmod 755 shut && mkdir second/d first/d && printf a >first/d/x && chmod 555 second/d'
   "${as[@]}" "$program" sync first second archive >../out 2>../err
   holds_true 'a file that must not be written, by its line' test "$(cat ../err)" = 'twosync: fault 8 /d/x'
@@ -273,7 +280,26 @@ if command -v strace >/dev/null; then
   fails getdents64 EIO
   told 'a .twosync that cannot be listed' 3 '' "first: its device failed, or what a stopped run left can't be finished: input/output error." \
     'twosync: fault 8' "${sync[@]}"
-
+  # middle FILE: each read of it but the first one fails
+  middle() {
+    before=(strace -f -qq -o trace -P "$(realpath "$1")" -e trace=read,pread64 -e inject=read,pread64:error=EIO:when=2+)
+  }
+  head -c 3000000 /dev/zero >first/b
+  middle first/b
+  told 'a file that fails in the middle' 3 '' "first/b can't be read: input/output error." 'twosync: fault 8 /b' scan first
+  before=()
+  rm first/b
+  seq -f 'first/%.0f' 1000 | xargs touch
+  "$program" scan first >long
+  "$program" plan first second archive >long.plan
+  seq -f 'path /%.0f' 4000 >long.rules
+  middle long
+  told 'an archive that fails in the middle' 3 '' "The archive long can't be read: input/output error." 'twosync: fault 5' show long
+  middle long.plan
+  told 'a plan that fails in the middle' 3 '' "The plan long.plan can't be read: input/output error." 'twosync: fault 5' check first second archive long.plan
+  middle long.rules
+  told 'hold rules that fail in the middle' 3 '' "The file of hold rules long.rules can't be read: input/output error." 'twosync: fault 5' \
+    plan first second archive --holds long.rules
   before=()
 else
   echo 'skipped: strace is missing, so what the system says of a failed call is not tried'
@@ -301,7 +327,17 @@ if [ -e /dev/full ]; then
   plain=$(cat err)
   "$program" show archive --explain >/dev/full 2>err
   holds_true 'a full disk at standard output: its line' test "$plain" = 'twosync: fault 5'
-  holds_true 'the line is the same where it is explained' test "$(tail -n 1 err)" = 'twosync: fault 5'
+  holds_true 'and its sentence' test "$(cat err)" = "Standard output can't be written: no space left on the device."$'\n''twosync: fault 5'
+  printf a >first/a
+  "$program" "${sync[@]}" --explain >/dev/full 2>err
+  status=$?
+  holds_true 'a report that cannot be written' test "$status" = 2
+  holds_true 'it is said why' test "$(cat err)" = "Standard output can't be written: no space left on the device."$'\n''twosync: fault 5'
+  seq -f 'first/%.0f' 2000 | xargs touch
+  "$program" scan first --explain >/dev/full 2>err
+  status=$?
+  holds_true 'a long answer that cannot be written' test "$status" = 3
+  holds_true 'it is said once' test "$(grep -c '^twosync: fault 5$' err)" = 1
 fi
 
 # ---- names that must not reach a terminal as they are

@@ -23,11 +23,11 @@ fault_number (fault.BadRule line) = 11
 fault_number fault.PastLimit = 12
 fault_number fault.TooMuch = 12
 fault_number (fault.Broken rule place) = 13
-fault_number (fault.Scan what scan) = scan_number scan
+fault_number (fault.Scan what scan cause) = scan_number scan
 
 -- only what a scan met has a place
 abbrev pub place_of : PerformFault → Option Path
-place_of (fault.Scan what scan) = scan_place scan
+place_of (fault.Scan what scan cause) = scan_place scan
 place_of other = None
 
 abbrev pub subject_of : PerformFault → Option Subject
@@ -44,7 +44,7 @@ subject_of (fault.BadRule line) = Some Holds
 subject_of fault.PastLimit = Some Plan
 subject_of fault.TooMuch = None
 subject_of (fault.Broken rule place) = Some Plan
-subject_of (fault.Scan what scan) = Some what
+subject_of (fault.Scan what scan cause) = Some what
 
 abbrev pub IsAbout : Subject → PerformFault → Type 0
 IsAbout what e = IfSome (subject_of e) (λ named. named ≡ what)

@@ -5,7 +5,9 @@
 --     sentence_of job fault   what is said of a fault of a command
 use Rattle.std.specs.Prelude.{ℕ, Bool, true, false, if◌then◌else◌, List, [], ◌∷◌, codes, decimal, nat_lt}
 use Rattle.ts_name.specs.Paths.{Path, path_text}
+use Rattle.ts_cause.specs.Causes.{is_known}
 use Rattle.ts_cause.specs.declared.cause.Cause.{Cause}
+use Rattle.ts_cause.specs.declared.cause.Cause.TheVariants.{Denied}
 use Rattle.ts_command.specs.declared.job.Job.{Job}
 use Rattle.ts_model.specs.declared.plan.PlanRule.{PlanRule}
 use Rattle.ts_model.specs.declared.plan.PlanRule.TheVariants as rule
@@ -90,10 +92,26 @@ abbrev pub is_root : Path → Bool
 is_root [] = true
 is_root (name ∷ path) = false
 
-abbrev pub scan_text : Job → Subject → ScanFault → List ℕ
-scan_text job what scan.OutOfMemory = memory_text
-scan_text job what (scan.At path refusal) =
-    said (noun what ∷ shown 0 (name_in job what) ∷ shown 0 (path_text path) ∷ refusal_text what refusal (is_root path) ∷ [])
+-- what can't be synchronized, and what the system doesn't let be read
+abbrev pub can_be_held : Refusal → Cause → Bool
+can_be_held refusal.Unreadable cause = true
+can_be_held refusal.Device Denied = true
+can_be_held refusal other = false
+
+-- commands on a pair can leave it alone
+abbrev pub offer_text : Subject → Bool → List ℕ
+offer_text subject.Folder can_be_held = []
+offer_text other true = codes " It can be left alone with --hold-special."
+offer_text other false = []
+
+-- where the system says why, that is said
+abbrev pub scan_text : Job → Subject → ScanFault → Cause → List ℕ
+scan_text job what scan.OutOfMemory cause = memory_text
+scan_text job what (scan.At path refusal) cause =
+    if is_known cause
+    then said (noun what ∷ shown 0 (name_in job what) ∷ shown 0 (path_text path) ∷ codes " can't be read" ∷ reason_text [] cause
+    ∷ offer_text what (can_be_held refusal cause) ∷ [])
+    else said (noun what ∷ shown 0 (name_in job what) ∷ shown 0 (path_text path) ∷ refusal_text what refusal (is_root path) ∷ [])
 
 abbrev pub sentence_of : Job → PerformFault → List ℕ
 sentence_of job fault.OutOfMemory = memory_text
@@ -109,4 +127,4 @@ sentence_of job (fault.BadRule line) = bad_rule_text job line
 sentence_of job fault.PastLimit = about job subject.Plan (codes " has more entries, actions or predecessors than a plan may have.")
 sentence_of job fault.TooMuch = said (codes "Too much differs for one plan, which has at most 1,048,576 entries." ∷ [])
 sentence_of job (fault.Broken rule place) = broken_text job rule place
-sentence_of job (fault.Scan what scan) = scan_text job what scan
+sentence_of job (fault.Scan what scan cause) = scan_text job what scan cause

@@ -20,31 +20,51 @@ pub enum PerformFault {
     OutOfMemory,
     /// A file, a folder, standard input or standard output can't be read or written.
     #[error("can't be read or written")]
-    Failed { what: Subject, why: Why },
+    Failed {
+        what: Subject,
+        why: Why,
+    },
     /// The program's own directory in a replica can't be made or used, as where it belongs to another user.
     #[error("the replica's .twosync can't be made or used")]
-    Own { what: Subject, cause: Cause },
+    Own {
+        what: Subject,
+        cause: Cause,
+    },
     /// A plan or an archive isn't spelled as it has to be.
     #[error("not canonical")]
-    NotCanonical { what: Subject },
+    NotCanonical {
+        what: Subject,
+    },
     /// The archive's end line tells another count or another digest than the text before it has.
     #[error("the end line is wrong")]
     WrongEnd,
     /// The device of a replica failed.
     #[error("device failed")]
-    Device { what: Subject, cause: Cause },
+    Device {
+        what: Subject,
+        cause: Cause,
+    },
     /// Another run works on a replica or on the archive.
     #[error("in use by another run")]
-    Locked { what: Subject },
+    Locked {
+        what: Subject,
+    },
     /// The plan, the hold rules or the archive to be shown aren't there, or a replica isn't there any more.
     #[error("not there")]
-    NotThere { what: Subject },
+    NotThere {
+        what: Subject,
+    },
     /// A replica never took part in a run, but the archive names so many paths.
     #[error("never took part")]
-    New { what: Subject, paths: usize },
+    New {
+        what: Subject,
+        paths: usize,
+    },
     /// The line spells no hold rule, isn't ended by a line feed, or comes after the 4,096th. Lines count from 1.
     #[error("bad hold rule on line {line}")]
-    BadRule { line: u64 },
+    BadRule {
+        line: u64,
+    },
     /// The plan that was read has more entries, actions or predecessors than a plan may have.
     #[error("a plan past a limit")]
     PastLimit,
@@ -53,10 +73,17 @@ pub enum PerformFault {
     TooMuch,
     /// The plan isn't valid for what is there: its first broken rule, with the least place.
     #[error("the plan breaks rule {rule:?} at {place}")]
-    Broken { rule: PlanRule, place: u64 },
-    /// A folder can't be scanned, or a path in it is too long for the system.
+    Broken {
+        rule: PlanRule,
+        place: u64,
+    },
+    /// A folder can't be scanned, for this reason of the system, or a path in it is too long for the system.
     #[error("{fault}")]
-    Scan { what: Subject, fault: ScanFault },
+    Scan {
+        what: Subject,
+        fault: ScanFault,
+        cause: Cause,
+    },
 }
 
 impl PerformFault {

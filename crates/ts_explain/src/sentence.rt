@@ -1,7 +1,11 @@
 //! What a fault means, in a sentence that names what it is about.
-ghost use Rattle.std.specs.Prelude.{◌≡◌, ◌++◌, OnOk};
-ghost use Rattle.ts_explain.specs.Sentences.{about, bad_line_text, bad_rule_text, because, broken_text, missing_text, new_text, pending_text, refusal_text, scan_text, sentence_of, unreadable_text};
-ghost use Rattle.ts_explain.specs.Subjects.{why_cause, why_hint, why_text};
+ghost use Rattle.std.specs.Prelude.{◌≡◌, ◌∷◌, ◌++◌, [], OnOk, codes};
+ghost use Rattle.ts_explain.specs.Pieces.{reason_text, said};
+ghost use Rattle.ts_name.specs.Paths.{path_text};
+ghost use Rattle.ts_preview.specs.Names.{shown};
+ghost use Rattle.ts_explain.specs.Sentences.{about, bad_line_text, bad_rule_text, because, broken_text, can_be_held, is_root};
+ghost use Rattle.ts_explain.specs.Sentences.{missing_text, new_text, offer_text, pending_text, refusal_text, scan_text, sentence_of, unreadable_text};
+ghost use Rattle.ts_explain.specs.Subjects.{name_in, noun, why_cause, why_hint, why_text};
 
 use crate::fault::PerformFault;
 use crate::pieces::{Piece, push_pieces};
@@ -11,6 +15,7 @@ use std::alloc::{AllocError, Global};
 use ts_cause::Cause;
 use ts_command::Job;
 use ts_model::plan::PlanRule;
+use ts_name::Path;
 use ts_scan::{Refusal, ScanFault};
 
 /// How many lines a file of hold rules has at most.
@@ -71,7 +76,9 @@ pub fn push_sentence(
         PerformFault::PastLimit => push_about(alloc, job, Subject::Plan, PAST_LIMIT, line),
         PerformFault::TooMuch => push_pieces(alloc, &[Piece::Words(TOO_MUCH)], line),
         PerformFault::Broken { rule, place } => push_broken(alloc, job, *rule, *place, line),
-        PerformFault::Scan { what, fault } => push_scan(alloc, job, *what, fault, line),
+        PerformFault::Scan { what, fault, cause } => push_scan(
+            alloc, job, *what, fault, *cause, line,
+        ),
     }
 }
 
@@ -238,22 +245,87 @@ fn push_scan(
     job: &Job<'_>,
     what: Subject,
     fault: &ScanFault,
+    cause: Cause,
     line: &mut Vec<u8>,
 ) -> Result<(), AllocError>
-    ensures { OnOk result (line.new.items ≡ line.old.items ++ scan_text job.now what fault.now) }
+    ensures { OnOk result (line.new.items ≡ line.old.items ++ scan_text job.now what fault.now cause) }
 {
     match fault {
         ScanFault::OutOfMemory => line.extend_from_slice(MEMORY),
         ScanFault::At { path, fault } => {
-            let pieces = [
-                Piece::Words(what.noun()),
-                Piece::Name(what.name_in(job)),
-                Piece::Below(path),
-                Piece::Words(refusal_text(what, *fault, path.is_root())),
-            ];
-            push_pieces(alloc, &pieces, line)
+            if cause.is_known() {
+                push_unread(alloc, job, what, path, *fault, cause, line)
+            } else {
+                push_refusal(alloc, job, what, path, *fault, line)
+            }
         }
     }
+}
+
+/// Appends what is said of a path that can't be read, and why.
+fn push_unread<'x>(
+    alloc: Global,
+    job: &Job<'x>,
+    what: Subject,
+    path: &'x Path,
+    refusal: Refusal,
+    cause: Cause,
+    line: &mut Vec<u8>,
+) -> Result<(), AllocError>
+    ensures { OnOk result (line.new.items ≡ line.old.items ++ said (noun what ∷ shown 0 (name_in job.now what) ∷ shown 0 (path_text path.now)
+        ∷ codes " can't be read" ∷ reason_text [] cause ∷ offer_text what (can_be_held refusal cause) ∷ [])) }
+{
+    let pieces = [
+        Piece::Words(what.noun()),
+        Piece::Name(what.name_in(job)),
+        Piece::Below(path),
+        Piece::Words(b" can't be read"),
+        Piece::Reason { hint: b"", cause },
+        Piece::Words(offer_text(what, can_be_held(refusal, cause))),
+    ];
+    push_pieces(alloc, &pieces, line)
+}
+
+/// How a sentence ends about something that commands on a pair can leave alone.
+fn offer_text(what: Subject, can_be_held: bool) -> &'static [u8]
+    ensures { result.now ≡ offer_text what can_be_held }
+{
+    match what {
+        Subject::Folder => b"",
+        _ if can_be_held => b" It can be left alone with --hold-special.",
+        _ => b"",
+    }
+}
+
+/// Whether a path that is refused so can be held: what can't be synchronized, and what the system doesn't let be read.
+fn can_be_held(refusal: Refusal, cause: Cause) -> bool
+    ensures { result ≡ can_be_held refusal cause }
+{
+    match (refusal, cause) {
+        (Refusal::Unreadable, _) | (Refusal::Device, Cause::Denied) => true,
+        _ => false,
+    }
+}
+
+/// Appends what is said of a path that can't be scanned, where the system doesn't say why.
+fn push_refusal<'x>(
+    alloc: Global,
+    job: &Job<'x>,
+    what: Subject,
+    path: &'x Path,
+    refusal: Refusal,
+    line: &mut Vec<u8>,
+) -> Result<(), AllocError>
+    ensures { OnOk result (line.new.items ≡ line.old.items ++ said (noun what ∷ shown 0 (name_in job.now what) ∷ shown 0 (path_text path.now)
+        ∷ refusal_text what refusal (is_root path.now) ∷ [])) }
+{
+    let pieces = [
+        Piece::Words(what.noun()),
+        Piece::Name(what.name_in(job)),
+        Piece::Below(path),
+        Piece::Words(refusal_text(what, refusal, path.is_root())),
+    ];
+    push_pieces(alloc, &pieces, line)
 }
 
 /// What is said of something in a folder that can't be scanned, or of the folder itself.

@@ -10,6 +10,7 @@ use Rattle.ts_model.specs.declared.hold.Rule.{Rule}
 use Rattle.ts_model.specs.declared.hold.Rule.TheVariants.{LastName, OnePath}
 use Rattle.ts_name.specs.Paths.{Path, IsPath, path_text}
 use Rattle.ts_name.proofs.Spelling.{one_path}
+use Rattle.ts_cause.specs.declared.cause.Cause.TheVariants.{Unknown}
 use Rattle.ts_scan.specs.declared.fault.Refusal.TheVariants.{Unreadable}
 use Rattle.ts_scan.specs.declared.fault.ScanFault.TheVariants.{At}
 use Rattle.ts_perform.specs.Specials.{IsCrowdedOut, IsWithoutRule, holder_of}
@@ -41,7 +42,7 @@ no_room rules line (name ∷ path) number lawful is (same, inl full) = inl full
 no_room rules line (name ∷ path) number lawful is (same, inr none) = absurd (none (OnePath (name ∷ path)) (record { fits = (lawful, λ e. cc); spelled = is }))
 
 pub without_rule : (what : Subject) (rules : List Rule) (line : Line) (path : Path) (number : ℕ) (e : PerformFault) → IsPath path → line ≡ rule_line (OnePath path) → RefusesLine rules line (BadRule number)
-    → (e ≡ fault.OutOfMemory) ⊎ (e ≡ fault.Scan what (At path Unreadable)) → IsWithoutRule what rules path e
+    → (e ≡ fault.OutOfMemory) ⊎ (e ≡ fault.Scan what (At path Unreadable) Unknown) → IsWithoutRule what rules path e
 without_rule what rules line path number e lawful is refuses (inl memory) = inl memory
 without_rule what rules line path number e lawful is refuses (inr told) = inr (no_room rules line path number lawful is refuses, told)
 

@@ -1,8 +1,9 @@
 -- What becomes of the faults of the crates below, and the lines of what is kept and of mounts.
-use Rattle.std.specs.Prelude.{ℕ, List, ◌++◌, codes}
+use Rattle.std.specs.Prelude.{◌≡◌, ℕ, List, ◌++◌, codes}
 use Rattle.ts_name.specs.Paths.{Path, path_text}
 use Rattle.ts_archive.specs.declared.fault.ArchiveFault.{ArchiveFault}
 use Rattle.ts_archive.specs.declared.fault.ArchiveFault.TheVariants as archive
+use Rattle.ts_cause.specs.declared.cause.Cause.{Cause}
 use Rattle.ts_cause.specs.declared.cause.Cause.TheVariants.{Unknown}
 use Rattle.ts_check.specs.declared.fault.CheckFault.{CheckFault}
 use Rattle.ts_check.specs.declared.fault.CheckFault.TheVariants as check
@@ -36,6 +37,11 @@ kept_line path place = codes "twosync: kept " ++ path_text path ++ codes " as " 
 -- another file system is mounted in a replica
 abbrev pub mount_line : Path → List ℕ
 mount_line path = codes "twosync: mount " ++ path_text path
+
+-- the fault of a scan, with another cause, or just this one
+abbrev pub IsSameButCause : PerformFault → PerformFault → Type 0
+IsSameButCause (fault.Scan what scan cause) e = (other : Cause) × (e ≡ fault.Scan what scan other)
+IsSameButCause same e = e ≡ same
 
 -- of a file that is opened
 abbrev pub fault_of_open : Subject → OpenFault → PerformFault

@@ -5,6 +5,7 @@
 --     fault_below root what fault  the fault of a scan of the folder with this root; where the system doesn't take the path at all, that is what it is
 use Rattle.std.specs.Prelude.{ℕ, ◌+◌, ◌-◌, ◌++◌, ◌||◌, Bool, List, codes, decimal, length, sum_by, nat_lt, if◌then◌else◌}
 use Rattle.ts_name.specs.Paths.{Path}
+use Rattle.ts_cause.specs.declared.cause.Cause.TheVariants.{Unknown}
 use Rattle.ts_scan.specs.declared.fault.Refusal.TheVariants.{TooLong}
 use Rattle.ts_scan.specs.declared.fault.ScanFault.{ScanFault}
 use Rattle.ts_scan.specs.declared.fault.ScanFault.TheVariants as scan
@@ -29,4 +30,4 @@ is_past root spot entry path =
 
 abbrev pub fault_below : List ℕ → Subject → ScanFault → PerformFault
 fault_below root what scan.OutOfMemory = fault.OutOfMemory
-fault_below root what (scan.At path refusal) = fault.Scan what (scan.At path (if nat_lt most_bytes (length root + path_bytes path) then TooLong else refusal))
+fault_below root what (scan.At path refusal) = fault.Scan what (scan.At path (if nat_lt most_bytes (length root + path_bytes path) then TooLong else refusal)) Unknown

@@ -9,6 +9,7 @@ use Rattle.ts_command.specs.declared.job.Pair.{Pair}
 use Rattle.ts_model.specs.declared.hold.Rule.{Rule}
 use Rattle.ts_model.specs.declared.hold.Rule.TheVariants.{OnePath}
 use Rattle.ts_name.specs.Paths.{Path}
+use Rattle.ts_cause.specs.declared.cause.Cause.TheVariants.{Unknown}
 use Rattle.ts_scan.specs.declared.fault.Refusal.TheVariants.{Unreadable}
 use Rattle.ts_scan.specs.declared.fault.ScanFault.TheVariants.{At}
 use Rattle.ts_special.specs.Specials.{is_among, joined}
@@ -32,7 +33,7 @@ pub record AreSpecials (finds_special : FindsSpecial) (pair : Pair) (paths : Spe
 
 -- the root has no rule, and no path that is searched for is the root
 abbrev pub IsWithoutRule : Subject → List Rule → Path → PerformFault → Type 0
-IsWithoutRule what rules path e = (e ≡ fault.OutOfMemory) ⊎ (((length rules ≡ 4096) ⊎ (path ≡ [])) × (e ≡ fault.Scan what (At path Unreadable)))
+IsWithoutRule what rules path e = (e ≡ fault.OutOfMemory) ⊎ (((length rules ≡ 4096) ⊎ (path ≡ [])) × (e ≡ fault.Scan what (At path Unreadable) Unknown))
 
 abbrev pub holder_of : List Path → Path → Subject
 holder_of first path = if is_among first path then First else Second

@@ -1,9 +1,12 @@
 //! Why actions failed, as far as the system says.
 ghost use Rattle.std.specs.Prelude.{◌≡◌, ◌<◌, ◌≤◌, length};
 ghost use Rattle.std.specs.Mem.Slots.{slots_len};
+ghost use Rattle.ts_perform.specs.Faults.{IsSameButCause};
+ghost use Rattle.ts_perform.specs.Trials.{IsQuiet};
 
 use crate::acting::replica;
-use crate::disk::Machine;
+use crate::disk::{Disk, Machine};
+use crate::fault::{PerformFault, Subject};
 use crate::task::Task;
 use std::alloc::AllocError;
 use ts_cause::Cause;
@@ -11,6 +14,7 @@ use ts_check::Checked;
 use ts_exec::{ActFault, ActionResult, Outcome};
 use ts_model::plan::{Entry, Kind};
 use ts_name::Path;
+use ts_scan::{Refusal, ScanFault};
 
 /// Why each action failed that did, one cause for each action, where the command asks for sentences. Where memory runs out, the
 /// last ones are left out.
@@ -62,11 +66,12 @@ fn cause_of_action<R: Machine>(
         },
         Kind::Piece {
             entry,
+            offset,
             ref path,
             ..
         } => match task.rt.stage_cause(stage, entry) {
             Cause::Unknown => match plan.entries.as_slice().get(entry as usize) {
-                Some(entry) => source_cause(task, entry, path).unwrap_or(Cause::Unknown),
+                Some(entry) => source_cause(task, entry, path, offset).unwrap_or(Cause::Unknown),
                 None => Cause::Unknown,
             },
             cause => cause,
@@ -75,16 +80,72 @@ fn cause_of_action<R: Machine>(
     }
 }
 
-/// What the system says now of the file at this path, which an entry has in the replica that it is copied from.
+/// What the system says now of the file at this path, which an entry has in the replica that it is copied from, where it is read
+/// from this offset on.
 fn source_cause<R: Machine>(
     task: &Task<'_, R>,
     entry: &Entry,
     path: &Path,
+    offset: u64,
 ) -> Result<Cause, AllocError> {
     let Some(from) = entry.reason.source() else {
         return Ok(Cause::Unknown);
     };
     let root = replica(task.pair, from).root;
     let place = path.place_below(task.rt.alloc(), root)?;
-    Ok(task.rt.read_cause(place.as_str()))
+    Ok(task.rt.read_cause(place.as_str(), offset))
+}
+
+/// The fault of a scan of the folder with this root, with what the system says now of the path that can't be read. Each other
+/// fault stays as it is.
+pub(crate) fn with_cause<R: Disk + AllocGlobal>(
+    rt: &R,
+    root: &str,
+    fault: PerformFault,
+) -> PerformFault
+    ensures same { IsSameButCause fault result }
+    ensures quiet { IsQuiet fault → IsQuiet result }
+{
+    match fault {
+        PerformFault::Scan { what, fault, .. } => {
+            let cause = scan_cause(rt, root, &fault);
+            PerformFault::Scan { what, fault, cause }
+        }
+        other => other,
+    }
+}
+
+/// What the system says now of the path that a scan of the folder with this root couldn't read.
+fn scan_cause<R: Disk + AllocGlobal>(rt: &R, root: &str, fault: &ScanFault) -> Cause {
+    let ScanFault::At {
+        path,
+        fault: Refusal::Device | Refusal::Unreadable,
+    } = fault
+    else {
+        return Cause::Unknown;
+    };
+    match path.place_below(rt.alloc(), root) {
+        Ok(place) => rt.read_cause(place.as_str(), 0),
+        Err(_) => Cause::Unknown,
+    }
+}
+
+impl<'a, R: Machine> Task<'a, R> {
+    /// The fault of a search or a scan of a replica, with what the system says now of the path that can't be read, where the command
+    /// asks for sentences.
+    pub(crate) fn explained(&self, fault: PerformFault) -> PerformFault
+        ensures same { IsSameButCause fault result }
+        ensures quiet { IsQuiet fault → IsQuiet result }
+    {
+        if !self.command.explain {
+            return fault;
+        }
+        match fault {
+            PerformFault::Scan {
+                what: Subject::Second,
+                ..
+            } => with_cause(self.rt, self.pair.second, fault),
+            _ => with_cause(self.rt, self.pair.first, fault),
+        }
+    }
 }

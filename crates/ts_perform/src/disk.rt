@@ -9,7 +9,7 @@ ghost use denote.Param.Send.{IsSync};
 use crate::fault::{OpenFault, PerformFault};
 use std::alloc::Global;
 use std::fs::{File, Files};
-use std::io::{ErrorKind, Read};
+use std::io::{ErrorKind, Read, Seek, SeekFrom};
 use std::rt::Clock;
 use std::sync::Arc;
 use std::thread::Threads;
@@ -28,6 +28,12 @@ use ts_scan::ScanFault;
 use ts_site::Site;
 use ts_special::{HoldingFolder, Specials, search};
 use ts_stage::Stage;
+
+/// How many bytes are read at once of a file that couldn't be read.
+const READ_AT_ONCE: usize = 8192;
+
+/// How often: 1 GiB in all.
+const MOST_READS: u32 = 131_072;
 
 /// Folders by their names, the places of commits in them, their locks, and the places of archives.
 pub trait Disk {
@@ -140,8 +146,8 @@ pub trait Disk {
     /// Why the commit of a site failed last, as far as the system says.
     fn site_cause(&self, site: &Self::Site) -> Cause;
 
-    /// Why a file can't be read, as far as the system says now.
-    fn read_cause(&self, place: &str) -> Cause;
+    /// Why a file can't be read from this offset on, or a directory can't be listed, as far as the system says now.
+    fn read_cause(&self, place: &str, offset: u64) -> Cause;
 
     /// Locks a replica until what is answered is dropped. There is no lock where no directory is.
     fn lock(&self, alloc: Global, root: &str) -> Result<Option<Self::Lock>, DiskFault>
@@ -330,8 +336,8 @@ impl Disk for HostRuntime {
         site.cause()
     }
 
-    fn read_cause(&self, place: &str) -> Cause {
-        match read_byte(self, place) {
+    fn read_cause(&self, place: &str, offset: u64) -> Cause {
+        match read_or_list(self, place, offset) {
             Ok(()) => Cause::Unknown,
             Err(e) => cause_of(&e),
         }
@@ -435,10 +441,42 @@ fn open_to_read<R: Files>(rt: &R, name: &str) -> Result<Option<R::File>, OpenFau
     }
 }
 
-/// Reads the first byte of a file, if it has one.
-fn read_byte<R: Files>(rt: &R, place: &str) -> io::Result<()> {
-    let mut byte = [0];
+/// Reads a file from this offset on, or lists a directory. What is neither is never opened: it might be waited for.
+fn read_or_list<R: Files + AllocGlobal + Clone + Drop>(
+    rt: &R,
+    place: &str,
+    offset: u64,
+) -> io::Result<()> {
+    let metadata = fs::metadata(rt, place)?;
+    if metadata.is_dir() {
+        list(rt, place)
+    } else if metadata.is_file() {
+        read_on(rt, place, offset)
+    } else {
+        Ok(())
+    }
+}
+
+/// Looks at each name in a directory.
+fn list<R: Files + AllocGlobal + Clone + Drop>(rt: &R, place: &str) -> io::Result<()> {
+    for entry in fs::read_dir(rt, place)? {
+        let _kind = entry?.file_type()?;
+    }
+    Ok(())
+}
+
+/// Reads a file from this offset on: to its end, or as much as a command waits for that only says why it failed.
+fn read_on<R: Files>(rt: &R, place: &str, offset: u64) -> io::Result<()> {
+    let mut buffer = [0; READ_AT_ONCE];
     let mut file = fs::open(rt, place)?;
-    let _count = file.read(&mut byte)?;
+    file.seek(SeekFrom::Start(offset))?;
+    for _ in 0..MOST_READS {
+        match file.read(&mut buffer) {
+            Ok(0) => break,
+            Ok(_) => {}
+            Err(e) if e.kind() == ErrorKind::Interrupted => {}
+            Err(e) => return Err(e),
+        }
+    }
     Ok(())
 }

@@ -9,16 +9,20 @@ ghost use Rattle.ts_perform.specs.Trials.{IsQuiet};
 
 use crate::counting::{Folders, scan_both_counted, scan_counted};
 use crate::disk::{Disk, Machine};
-use crate::fault::{PerformFault, Subject, UNREAD, of_archive, of_hold, of_open, of_plan, of_text};
+use crate::fault::{
+    PerformFault, Subject, UNREAD, Why, of_archive, of_hold, of_open, of_plan, of_text,
+};
 use crate::lengths::fault_below;
 use crate::snapshot::Snapshot;
 use crate::special::SpecialPaths;
 use crate::task::Task;
 use std::alloc::Global;
 use std::io::Read;
+use ts_archive::ArchiveFault;
 use ts_command::Pair;
 use ts_hold::{Holds, RuleReader};
 use ts_model::plan::Plan;
+use ts_plan::PlanFault;
 use ts_print::Print;
 use ts_progress::Progress;
 use ts_scan::ScanFault;
@@ -42,6 +46,16 @@ fn lines_of<S: Read + Drop>(alloc: Global, file: S) -> Result<Lines<Counted<S>>,
     Lines::new(alloc, Counted::new(file)).map_err(|_| PerformFault::OutOfMemory)
 }
 
+/// That a read of a file failed, with what the system says of that now.
+fn unread<R: Disk>(rt: &R, name: &str, what: Subject) -> PerformFault
+    ensures about { IsAbout what result }
+    ensures quiet { IsQuiet result }
+{
+    let cause = rt.read_cause(name, 0);
+    let why = Why::Unread { cause };
+    PerformFault::Failed { what, why }
+}
+
 /// The archive in a file. None where nothing is there.
 pub(crate) fn read_archive<R: Disk + AllocGlobal>(
     rt: &R,
@@ -57,6 +71,7 @@ pub(crate) fn read_archive<R: Disk + AllocGlobal>(
     let mut lines = lines_of(rt.alloc(), file)?;
     match ts_archive::decode(rt.alloc(), &mut lines) {
         Ok(archive) => Ok(Some(archive)),
+        Err(ArchiveFault::Failed) => Err(unread(rt, name, Subject::Archive)),
         Err(fault) => Err(of_archive(fault, Subject::Archive, UNREAD)),
     }
 }
@@ -75,7 +90,10 @@ fn read_holds<R: Disk + AllocGlobal>(rt: &R, name: Option<&str>) -> Result<RuleR
         return Err(PerformFault::NotThere { what });
     };
     let mut lines = lines_of(rt.alloc(), file)?;
-    rules_in(rt.alloc(), &mut lines)
+    match rules_in(rt.alloc(), &mut lines) {
+        Err(PerformFault::Failed { .. }) => Err(unread(rt, name, what)),
+        found => found,
+    }
 }
 
 /// The rules that all lines spell.
@@ -109,7 +127,11 @@ fn read_plan<R: Disk + AllocGlobal>(rt: &R, name: &str) -> Result<Plan, PerformF
         return Err(PerformFault::NotThere { what });
     };
     let mut lines = lines_of(rt.alloc(), file)?;
-    ts_plan::decode(rt.alloc(), &mut lines).map_err(|fault| of_plan(fault, what, UNREAD))
+    match ts_plan::decode(rt.alloc(), &mut lines) {
+        Ok(plan) => Ok(plan),
+        Err(PlanFault::Failed) => Err(unread(rt, name, what)),
+        Err(fault) => Err(of_plan(fault, what, UNREAD)),
+    }
 }
 
 /// The print of a folder.
@@ -154,20 +176,21 @@ struct Known {
 
 impl Known {
     /// Reads the archive, and then the rules, and adds those for what is special. An archive that isn't there has no paths.
-    fn read<R: Disk + AllocGlobal>(
-        rt: &R,
-        pair: &Pair<'_>,
-    ) -> Result<(Known, SpecialPaths), PerformFault>
-        ensures found { IfOk result (λ known. AreSpecials R.finds_special pair.now known.1) }
-        ensures read { IfOk result (λ known. IsReadFor R.finds pair.now known.1 known.0.archive known.0.holds) }
+    fn read<R: Machine>(task: &Task<'_, R>) -> Result<(Known, SpecialPaths), PerformFault>
+        ensures found { IfOk result (λ known. AreSpecials R.finds_special task.now.pair.now known.1) }
+        ensures read { IfOk result (λ known. IsReadFor R.finds task.now.pair.now known.1 known.0.archive known.0.holds) }
         ensures quiet { IfErr result IsQuiet }
     {
+        let (rt, pair) = (task.rt, task.pair);
         let archive = match read_archive(rt, pair.archive)? {
             Some(archive) => archive,
             None => Print::empty(rt.alloc()),
         };
         let mut rules = read_holds(rt, pair.holds)?;
-        let special = SpecialPaths::find(rt, pair)?;
+        let special = match SpecialPaths::find(rt, pair) {
+            Ok(special) => special,
+            Err(fault) => return Err(task.explained(fault)),
+        };
         special.add_rules(rt.alloc(), &mut rules)?;
         let holds = rules.finish();
         Ok((Known { archive, holds }, special))
@@ -197,7 +220,10 @@ impl Scanned {
             second: &second,
         };
         let (first, second) = scan_both_counted(rt, &task.progress, &folders, task.workers);
-        Scanned::of(pair, first, second)
+        match Scanned::of(pair, first, second) {
+            Ok(scanned) => Ok(scanned),
+            Err(fault) => Err(task.explained(fault)),
+        }
     }
 
     /// What two scans give. Where neither gives a print, the fault is that of the first.
@@ -240,7 +266,7 @@ impl Snapshot {
         ensures seen { IfOk result (λ s. IsSeenFor R.is_at R.Folder.tells R.finds R.finds_special task.now.pair.now s.archive s.holds s.first s.second) }
         ensures quiet { IfErr result IsQuiet }
     {
-        let (known, special) = Known::read(task.rt, task.pair)?;
+        let (known, special) = Known::read(task)?;
         let scanned = Scanned::read(task, special)?;
         Ok(Snapshot::of(known, scanned))
     }
@@ -256,7 +282,7 @@ impl Snapshot {
         ensures both { IfOk result (λ s. IsTrue is_one_new → s.archive ≡ []) }
         ensures quiet { IfErr result IsQuiet }
     {
-        let (known, special) = Known::read(task.rt, task.pair)?;
+        let (known, special) = Known::read(task)?;
         if is_one_new {
             look_at_new(&known.archive, new)?;
         }
@@ -275,7 +301,7 @@ impl Snapshot {
             read.0.archive read.0.holds read.0.first read.0.second) }
         ensures quiet { IfErr result IsQuiet }
     {
-        let (known, special) = Known::read(task.rt, task.pair)?;
+        let (known, special) = Known::read(task)?;
         let plan = read_plan(task.rt, plan)?;
         let scanned = Scanned::read(task, special)?;
         Ok((Snapshot::of(known, scanned), plan))

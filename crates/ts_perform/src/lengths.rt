@@ -6,6 +6,7 @@ ghost use Rattle.ts_perform.specs.Lengths.{fault_below, is_past, most_bytes, pat
 ghost use Rattle.ts_perform.specs.Trials.{IsQuiet};
 
 use crate::fault::{PerformFault, Subject};
+use ts_cause::Cause;
 use ts_model::row::{Row, Stamp};
 use ts_name::Path;
 use ts_scan::{Refusal, ScanFault};
@@ -79,12 +80,13 @@ fn is_past(root: &str, spot: usize, entry: &Path, path: &Path) -> bool
 
 /// That a path in this folder is too long for the system.
 pub(crate) fn too_long(what: Subject, path: Path) -> PerformFault
-    ensures fault { result ≡ PerformFault.Scan what (ScanFault.At path Refusal.TooLong) }
+    ensures fault { result ≡ PerformFault.Scan what (ScanFault.At path Refusal.TooLong) Cause.Unknown }
     ensures quiet { IsQuiet result }
 {
     let fault = Refusal::TooLong;
     let fault = ScanFault::At { path, fault };
-    PerformFault::Scan { what, fault }
+    let cause = Cause::Unknown;
+    PerformFault::Scan { what, fault, cause }
 }
 
 /// The fault of a scan of this folder. Where the system doesn't take a path at all, that is what it is.
@@ -98,7 +100,8 @@ pub(crate) fn fault_below(root: &str, what: Subject, fault: ScanFault) -> Perfor
                 too_long(what, path)
             } else {
                 let fault = ScanFault::At { path, fault };
-                PerformFault::Scan { what, fault }
+                let cause = Cause::Unknown;
+                PerformFault::Scan { what, fault, cause }
             }
         }
         ScanFault::OutOfMemory => PerformFault::OutOfMemory,

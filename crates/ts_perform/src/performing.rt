@@ -11,6 +11,7 @@ ghost use Rattle.ts_perform.specs.Trials.{Answers, IfApart, IsQuiet};
 ghost use Rattle.ts_trial.specs.Answers.{WritesOne};
 
 use crate::answers::write_refusal;
+use crate::causes::with_cause;
 use crate::disk::{Disk, Machine};
 use crate::fault::{PerformFault, Subject, UNWRITTEN, of_archive, of_trial, on_output};
 use crate::inputs::{read_archive, scan_folder};
@@ -129,7 +130,7 @@ fn answer<R: Machine, I: Source + Drop, O: Sink, E: Sink>(
         Job::Trial => answer_bundle(rt, input, out, workers),
         Job::Scan { folder } => {
             let progress = Progress::new(rt, rt.alloc(), command.quiet);
-            print_scan(rt, &progress, folder, workers, out)
+            print_scan(rt, &progress, command, folder, out)
         }
         Job::Show { archive } => show(rt, archive, out),
         Job::Plan { pair } => {
@@ -188,15 +189,17 @@ fn answer_bundle<R: AllocGlobal + Threads + Sync, I: Source + Drop, O: Sink>(
 fn print_scan<R: Machine, O: Sink>(
     rt: &R,
     progress: &Progress<'_, R>,
+    command: &Command<'_>,
     folder: &str,
-    workers: u32,
     out: &mut O,
 ) -> Result<u8, PerformFault>
-    requires some { 1 ≤ workers }
-    requires few { workers ≤ 64 }
     ensures { Prints (IsScanText R.is_at R.Folder.tells folder.now) (O.holds out.old) (O.holds out.new) result }
 {
-    let print = scan_folder(rt, progress, folder, workers)?;
+    let print = match scan_folder(rt, progress, folder, command.workers) {
+        Ok(print) => print,
+        Err(fault) if command.explain => return Err(with_cause(rt, folder, fault)),
+        Err(fault) => return Err(fault),
+    };
     ts_archive::encode(rt.alloc(), &print, out).map_err(|fault| of_archive(
         fault,
         Subject::Output,

@@ -9,6 +9,7 @@ use crate::disk::Disk;
 use crate::fault::{PerformFault, Subject};
 use crate::lengths::fault_below;
 use std::alloc::Global;
+use ts_cause::Cause;
 use ts_command::Pair;
 use ts_hold::{HoldFault, RuleReader};
 use ts_name::Path;
@@ -99,14 +100,15 @@ fn add_rule(
 
 /// That what is at a path of a replica can't be synchronized.
 fn unreadable(alloc: Global, what: Subject, path: &Path) -> PerformFault
-    ensures fault { (result ≡ PerformFault.OutOfMemory) ⊎ (result ≡ PerformFault.Scan what (ScanFault.At path.now Refusal.Unreadable)) }
+    ensures fault { (result ≡ PerformFault.OutOfMemory) ⊎ (result ≡ PerformFault.Scan what (ScanFault.At path.now Refusal.Unreadable) Cause.Unknown) }
     ensures quiet { IsQuiet result }
 {
     match path.copy(alloc) {
         Ok(path) => {
             let fault = Refusal::Unreadable;
             let fault = ScanFault::At { path, fault };
-            PerformFault::Scan { what, fault }
+            let cause = Cause::Unknown;
+            PerformFault::Scan { what, fault, cause }
         }
         Err(_) => PerformFault::OutOfMemory,
     }

@@ -11,6 +11,8 @@ use std::env;
 use std::io::{self, BufWriter, ErrorKind, Input, IsTerminal, Write};
 use std::process::ExitCode;
 use std::rt::Env;
+use ts_cause::cause_of;
+use ts_explain::{PerformFault, Subject, Why, write_sentence};
 use ts_text::{Counted, Sink, write_all};
 use twosync_library::{Command, CommandFault, FAILED, Job, Machine, REFUSED, command, perform};
 
@@ -127,8 +129,25 @@ fn answer<R: Input + Print + Machine, E: Sink>(
     let status = perform(rt, command, input, &mut out, err);
     match out.inner.flush() {
         Ok(()) => Ok(status),
-        Err(_) if status != REFUSED && is_run_or_sync(&command.job) => Err(Fault::Unreported),
-        Err(_) => Err(Fault::Failed),
+        // that was reported when a write failed
+        Err(_) if out.failures > 0 => Ok(status),
+        Err(e) => {
+            let _ = write_sentence(rt.alloc(), command, &unwritten(&e), err);
+            if status != REFUSED && is_run_or_sync(&command.job) {
+                Err(Fault::Unreported)
+            } else {
+                Err(Fault::Failed)
+            }
+        }
+    }
+}
+
+/// That standard output can't be written, since a call failed with this error.
+fn unwritten(e: &io::Error) -> PerformFault {
+    let cause = cause_of(e);
+    PerformFault::Failed {
+        what: Subject::Output,
+        why: Why::Unwritten { cause },
     }
 }
 
