@@ -6,6 +6,8 @@
 # changed: the last columns have each time divided by the one at a quarter of the size. And over 200,000 paths without hold
 # rules and with 4,096 of them, the most that there may be: of all kinds in turn, and of each kind alone, by where their stars
 # are. The last columns have each time divided by the one without rules.
+# Then measures the checker alone, on plans that copy 65,536 and 262,144 new files of two pieces, by one processor and by all: the
+# last columns have the time by all divided by the one by one, and by the one at a quarter of the size.
 # Then measures how long 1, 2 and 4 workers take to copy 262,144 new files in memory, with the speed-up over 1 worker, and
 # how much of it came after the last actions had begun: the end of the workers, the sweep and the outcome. Each is the
 # least of five runs, taken in turn.
@@ -76,6 +78,30 @@ for kind in '' path name front end middle both; do
     print ""
   }'
 done
+
+# checked FILES COMMAND..: the least milliseconds of five checks of a plan that copies so many files, by a program that this runs
+checked() {
+  local files=$1
+  shift
+  for _ in 1 2 3 4 5; do "$@" "$program" check wide "$files"; done | awk '
+    /^checked/ { if (!runs++ || $3 < least) least = $3 }
+    END { print least }'
+}
+if command -v taskset >/dev/null; then
+  quarter=''
+  for files in 65536 262144; do
+    alone=$(checked "$files" taskset -c 0)
+    all=$(checked "$files")
+    echo "$files $alone $all $quarter" | awk '{
+      printf "%7d files  check by one processor %5d ms  by all %5d ms  times: %.2f", $1, $2, $3, $3 / $2
+      if (NF > 3 && $4 > 0) printf ", %.1f", $3 / $4
+      print ""
+    }'
+    quarter=$all
+  done
+else
+  echo 'skipped: taskset is missing, so the checker is not measured by one processor'
+fi
 
 for _ in 1 2 3 4 5; do
   for workers in 1 2 4; do "$program" run 262144 "$workers"; done
