@@ -59,6 +59,12 @@ make_equal() {
   done
 }
 
+# make_crowd FOLDER COUNT SIZE: the same, for files that are too many to start a program for each
+make_crowd() {
+  mkdir -p "$1"
+  { cat pattern; tail -c +2 pattern; } | head -c $(($2 * $3)) | split -b "$3" -d -a 6 - "$1/"
+}
+
 # words TOOL: the command that makes `first` and `second` alike, in the array `words`
 words() {
   case $1 in
@@ -143,7 +149,7 @@ show() {
     directory) make_equal set/new 64 16777216; table directory '64 files of 16 MiB in one new directory' ;;
     top) make_equal set 64 16777216; table top '64 files of 16 MiB at the top' ;;
     halves) make_equal set/new 2048 524288; table halves '2,048 files of 512 KiB in one new directory' ;;
-    crowd) make_equal set/new 100000 1024; table crowd '100,000 files of 1 KiB in one new directory' ;;
+    crowd) make_crowd set/new 100000 1024; table crowd '100,000 files of 1 KiB in one new directory' ;;
   esac
   rm -rf set
 }
