@@ -100,6 +100,11 @@ name=$(printf 'n%.0s' {1..250})
 holds_true 'a path that is too long is fault 4' grep -q '^twosync: fault 4' err
 "$program" scan first --explain >out 2>err
 holds_true 'a path that is too long, explained' grep -q "^first/.* is too long or too deep, or something in it\.$" err
+"$program" plan second first archive --explain >out 2>err
+holds_true 'it can be left alone' grep -q "^first/.* is too long or too deep, or something in it\. What is too deep can be left alone with --hold-special\.$" err
+expect 'which is so' 1 "done second /d
+skip held /$name
+total 2 done 1 skipped 1 failed 0 blocked 0" '' sync second first archive --hold-special
 rm -r first
 
 # ---- another run

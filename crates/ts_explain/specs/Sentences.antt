@@ -80,9 +80,14 @@ unreadable_text subject.Folder = codes ": something in it is neither a file nor 
 unreadable_text other =
     codes ": something in it is neither a file nor a folder or has a name that isn't UTF-8, or it can't be read. It can be left alone with --hold-special."
 
+-- likewise
+abbrev pub too_deep_text : Subject → List ℕ
+too_deep_text subject.Folder = codes " is too long or too deep, or something in it."
+too_deep_text other = codes " is too long or too deep, or something in it. What is too deep can be left alone with --hold-special."
+
 -- of something in a folder, or of the folder itself
 abbrev pub refusal_text : Subject → Refusal → Bool → List ℕ
-refusal_text what refusal.TooLong is_root = codes " is too long or too deep, or something in it."
+refusal_text what refusal.TooLong is_root = too_deep_text what
 refusal_text what refusal.Device is_root = codes ": the device failed."
 refusal_text what refusal.NotThere true = codes " isn't there."
 refusal_text what refusal.NotThere false = codes " isn't there any more: it went away while it was read."

@@ -4,7 +4,7 @@ ghost use Rattle.ts_explain.specs.Pieces.{reason_text, said};
 ghost use Rattle.ts_name.specs.Paths.{path_text};
 ghost use Rattle.ts_preview.specs.Names.{shown};
 ghost use Rattle.ts_explain.specs.Sentences.{about, bad_line_text, bad_rule_text, because, broken_text, can_be_held, is_root};
-ghost use Rattle.ts_explain.specs.Sentences.{missing_text, new_text, offer_text, pending_text, refusal_text, scan_text, sentence_of, unreadable_text};
+ghost use Rattle.ts_explain.specs.Sentences.{missing_text, new_text, offer_text, pending_text, refusal_text, scan_text, sentence_of, too_deep_text, unreadable_text};
 ghost use Rattle.ts_explain.specs.Subjects.{name_in, noun, why_cause, why_hint, why_text};
 
 use crate::fault::PerformFault;
@@ -333,11 +333,24 @@ fn refusal_text(what: Subject, refusal: Refusal, is_root: bool) -> &'static [u8]
     ensures { result.now ≡ refusal_text what refusal is_root }
 {
     match refusal {
-        Refusal::TooLong => b" is too long or too deep, or something in it.",
+        Refusal::TooLong => too_deep_text(what),
         Refusal::Device => b": the device failed.",
         Refusal::NotThere if is_root => b" isn't there.",
         Refusal::NotThere => b" isn't there any more: it went away while it was read.",
         Refusal::Unreadable => unreadable_text(what),
+    }
+}
+
+/// What is said of a path that is too long, or of a folder in which something is too deep. Commands on a pair can leave the latter
+/// alone.
+fn too_deep_text(what: Subject) -> &'static [u8]
+    ensures { result.now ≡ too_deep_text what }
+{
+    match what {
+        Subject::Folder => b" is too long or too deep, or something in it.",
+        _ => {
+            b" is too long or too deep, or something in it. What is too deep can be left alone with --hold-special."
+        }
     }
 }
 
