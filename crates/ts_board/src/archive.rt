@@ -128,7 +128,7 @@ fn mark_edits(
     requires { length flags.now ≡ length entries.now }
     ensures { IfOk result (λ edits. AreEdits (marks (at first.now) (at second.now)) (picked entries.now flags.now) edits.items) }
 {
-    let mut edits = Vec::new(alloc);
+    let mut edits = Vec::with_capacity(alloc, entries.len())?;
     for (e, entry) in entries.iter().enumerate() {
         if flags[e] {
             if let Some(edit) = mark_of(alloc, entry, first, second)? {

@@ -23,8 +23,8 @@ fn first_words(alloc: Global, plan: &Plan) -> Result<Vec<u64>, AllocError>
     ensures counts { IfOk result (λ words. AreFirstWords plan.now.actions words.items) }
     ensures some { IfOk result (λ words. 0 < length words.items) }
 {
-    let mut words = Vec::new(alloc);
     let actions = plan.actions.as_slice();
+    let mut words = Vec::with_capacity(alloc, actions.len().max(1))?;
     if actions.is_empty() {
         words.push(0)?;
         return Ok(words);

@@ -93,6 +93,8 @@ fn actions_of(
         )?;
         keep(&mut dirs, entry, mark)?;
     }
+    // they stay as long as the plan does, and their room has grown by doubling
+    actions.shrink_to_fit();
     Ok(actions)
 }
 

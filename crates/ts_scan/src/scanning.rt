@@ -35,7 +35,9 @@ where
     let idle = Idle::new(u64::from(workers) - 1);
     let root = Path::root(alloc);
     let work = Work::new(alloc)?;
-    let done = scan_directory(rt, folder, &idle, alloc, &root, work)?;
+    let mut done = scan_directory(rt, folder, &idle, alloc, &root, work)?;
+    // they stay as long as the print does, and their room has grown by doubling
+    done.rows.shrink_to_fit();
     Ok(Print::from_table(Table::from_rows(done.rows)))
 }
 

@@ -52,7 +52,7 @@ pub(crate) fn copy_content<F: CopyFile>(
 fn copy_rows<F: CopyFile + Drop>(alloc: Global, rows: &[Row<F>]) -> Result<Vec<Row<F>>, AllocError>
     ensures { IfOk result (λ copy. copy.items ≡ rows.now) }
 {
-    let mut copies = Vec::new(alloc);
+    let mut copies = Vec::with_capacity(alloc, rows.len())?;
     for row in rows {
         let path = row.path.copy(alloc)?;
         let content = copy_content(alloc, &row.content)?;
@@ -84,13 +84,16 @@ impl<F: CopyFile + Drop> Table<F> {
     pub fn sub_table(&self, alloc: Global, path: &Path) -> Result<SubTable<F>, AllocError>
         ensures part { IfOk result (λ part. listed part ≡ sub (at self.now) path.now) }
     {
-        let mut rows = Vec::new(alloc);
+        let below = self.sub(path);
+        // the root has a row in the part, and none in the table
+        let more = if path.is_root() { 1 } else { 0 };
+        let mut rows = Vec::with_capacity(alloc, below.len().saturating_add(more))?;
         if path.is_root() {
             let path = Path::root(alloc);
             let content = Content::Dir;
             rows.push(Row { path, content })?;
         }
-        for row in self.sub(path) {
+        for row in below {
             if let Some(rest) = row.path.below(alloc, path)? {
                 let content = copy_content(alloc, &row.content)?;
                 let path = rest;

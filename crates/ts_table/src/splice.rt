@@ -42,7 +42,7 @@ impl<F: Drop> Table<F> {
         ensures too_long { IsErrOf result TableFault.TooLong → ¬ ArePaths edits.items }
         ensures err { OnErr result (self.new ≡ self.old) }
     {
-        let mut puts = Vec::new(alloc);
+        let mut puts = Vec::with_capacity(alloc, edits.len())?;
         let mut room = self.rows.len();
         for edit in edits {
             let Edit { path, part } = edit;

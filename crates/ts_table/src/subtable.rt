@@ -112,7 +112,7 @@ impl<F: Drop> SubTable<F> {
         ensures too_long { IsErrOf result TableFault.TooLong → ¬ AllByRecursion (λ row. IsPath row.path) (placed top.now self) }
         ensures listing { IsSubListing self }
     {
-        let mut rows = Vec::new(alloc);
+        let mut rows = Vec::with_capacity(alloc, self.rows.len())?;
         for row in self.into_rows() {
             let Row { path, content } = row;
             let path = joined(alloc, top, &path)?;

@@ -7,4 +7,4 @@ pub returns-in_err-path-clause-too_long : goal.returns-in_err-path-clause-too_lo
 returns-in_err-path-clause-too_long g c too =
     past_limit c.args.top.now c.args.self c.loop-row.yielded c.next.new.self.rest.items c.in-Some.row
     (c.loop-row.invariant.left ∙ ap (λ z. c.loop-row.yielded ++ z) c.in-Some.ensures.steps.0)
-    (c.in_err-path.ensures.too_long (exit_itself c.from_residual.result c.in_err-path.field-0.0 c.from_residual.ensures.1 too))
+    (c.in_err-path.ensures.too_long (exit_itself c.from_residual-in_err-path.result c.in_err-path.field-0.0 c.from_residual-in_err-path.ensures.1 too))
