@@ -34,6 +34,9 @@ use ts_need::first_wrong;
 use ts_need::state::State;
 use ts_print::Print;
 
+/// A plan of fewer actions is checked by one thread: to start others takes longer.
+const MANY_ACTIONS: usize = 1_024;
+
 /// What is found of a plan's actions without a look at the prints: the commit and the mark of each entry, or the first place
 /// where not just each entry that wants one has one, and the actions that wait for each action.
 #[derive(Drop)]
@@ -120,6 +123,27 @@ fn gather(alloc: Global, plan: &Plan) -> Result<Gathered, AllocError>
     })
 }
 
+/// What is found of the actions, by this thread alone.
+fn look_alone(
+    rt: &(impl Threads + Sync),
+    alloc: Global,
+    plan: &Plan,
+    first: &[Row<Stamp>],
+    second: &[Row<Stamp>],
+) -> Result<Looked, AllocError>
+    requires entries { length plan.now.entries ≤ entry_limit }
+    requires actions { length plan.now.actions ≤ action_limit }
+    requires preds { sum_by (λ a. length a.preds) plan.now.actions ≤ pred_limit }
+    requires ascending { Never (HasBadPreds plan.now) }
+    requires first { IsListing first.now }
+    requires second { IsListing second.now }
+    ensures { IfOk result (IsLooked first.now second.now plan.now) }
+{
+    let pieces = stage(rt, alloc, plan, first, second)?;
+    let actions = gather(alloc, plan)?;
+    Ok(Looked { pieces, actions })
+}
+
 /// What is found of the actions: some by this thread, and what it takes the prints for by others.
 fn look(
     rt: &(impl Threads + Sync),
@@ -175,6 +199,10 @@ fn check_entries(
     }
     let first_rows = first.rows();
     let second_rows = second.rows();
+    if plan.actions.as_slice().len() < MANY_ACTIONS {
+        check_reasons(alloc, plan, archive, first, second, holds)?;
+        return Ok(look_alone(rt, alloc, plan, first_rows, second_rows)?);
+    }
     let (reasons, looked) = join(
         rt,
         || -> Result<(), CheckFault>

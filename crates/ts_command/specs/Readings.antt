@@ -3,7 +3,7 @@
 --     HasWorkers rows n         n threads are asked for
 --     HasCheckpoint rows every  the archive is asked for after so many actions of a thread, or nothing is said of that
 --     Gives reading command     the reading gives the command
-use Rattle.std.specs.Prelude.{false, ◌≡◌, ◌≢◌, ◌⊎◌, ◌↔◌, ◌≤◌, ℕ, IsTrue, List, Option, Some, None, true, codes, option_map}
+use Rattle.std.specs.Prelude.{◌≡◌, ◌≢◌, ◌⊎◌, ◌↔◌, ◌≤◌, ℕ, IsTrue, List, Option, Some, None, false, true, codes, option_map}
 use Rattle.std.specs.Str.Parse.{IsNumeral, digits_value, without_leading_plus}
 use Rattle.clap.specs.Words.{Row, Text, first_of, kind_of, takes, subcommand_of}
 use Rattle.clap.specs.declared.error.kind.ErrorKind.TheVariants as kind

@@ -9,3 +9,8 @@ returns-in_ok-looked-in-Ok-clause-holds g c =
     let s = snapshot_of c.args.state.now in
     let told = rw c.in-Ok.is at c.join-reasons.ensures.first in
     hold_more s c.args.plan.now 5 PredsAscend refl told.0 c.in_default.ensures
+
+pub returns-then-as_slice-lt-MANY_ACTIONS-clause-holds : goal.returns-then-as_slice-lt-MANY_ACTIONS-clause-holds
+returns-then-as_slice-lt-MANY_ACTIONS-clause-holds g c =
+    let s = snapshot_of c.args.state.now in
+    hold_more s c.args.plan.now 5 PredsAscend refl c.in_ok-check_reasons-2.ensures.holds c.in_default.ensures
