@@ -91,6 +91,13 @@ noted_failed x own seen more b faults i f l later t told may within = record {
   told = all_append (IsToldStep x more) own b (told_later x seen more later own l.told) told;
 }
 
+-- what is noted still is when more was seen
+pub noted_later : (x : Setting) (own seen more : Run) (faults : List (Option ActFault)) → Noted x own seen faults → StartsWith more seen → Noted x own more faults
+noted_later x own seen more faults l later = record {
+  each = λ j h. fault_later x seen more faults j later (l.each j h);
+  told = told_later x seen more later own l.told;
+}
+
 pub noted_none : (x : Setting) (own seen more b : Run) (faults : List (Option ActFault)) (i : ℕ) → Noted x own seen faults → StartsWith more seen → IsTry x.checkup.plan i None b → AreTold x more b → Noted x (own ++ b) more faults
 noted_none x own seen more b faults i l later t told = record {
   each = λ j h. ⊎_elim

@@ -53,6 +53,8 @@ pub struct Member {
 pub struct Crew {
     pub members: Vec<Member>,
     pub queues: Vec<Queues>,
+    /// What is put into the queues of `dealt`: nothing so far.
+    pub shares: Vec<Worker<u32>>,
     /// The sweep's own hints, which nobody reads.
     pub unread: Worker<u32>,
     /// Why each action failed.
@@ -61,7 +63,7 @@ pub struct Crew {
 }
 
 impl Crew {
-    /// A crew of so many workers. The actions that wait for nothing are dealt out to them in blocks, by number.
+    /// A crew of so many workers, to whom nothing is dealt out yet.
     pub fn gather(alloc: Global, checked: &Checked<'_>, workers: u32) -> Result<Crew, AllocError>
         ensures workers { IfOk result (λ crew. (length crew.members.items ≡ workers) × (length crew.queues.items ≡ workers)) }
         ensures members { IfOk result (λ crew. AreFresh crew.members.items) }
@@ -82,10 +84,10 @@ impl Crew {
             shares.push(share)?;
             freed.push(own)?;
         }
-        deal(checked, shares.as_mut_slice());
         Ok(Crew {
             members: members_with(alloc, freed, actions)?,
             queues,
+            shares,
             unread: Worker::new_lifo(alloc, FIRST_HINTS)?,
             faults: vec![in alloc; None; actions]?,
             results: Vec::with_capacity(alloc, actions)?,
@@ -120,7 +122,7 @@ fn members_with(
 
 /// Deals out the actions that wait for nothing, the lowest first, a block to each share in turn. A whole piece is a block of its
 /// own, so that a large file is read nearly in order.
-fn deal(checked: &Checked<'_>, shares: &mut [Worker<u32>]) {
+pub fn deal(checked: &Checked<'_>, shares: &mut [Worker<u32>]) {
     let count = shares.len();
     if count == 0 {
         return;

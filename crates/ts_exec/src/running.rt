@@ -1,7 +1,8 @@
 //! A checked plan is carried out.
 ghost use Rattle.std.specs.Prelude.{◌≡◌, ◌≤◌, [], IfErr, IfOk, length};
 ghost use Rattle.ts_board.specs.Archives.{HasEnded};
-ghost use Rattle.ts_board.specs.Calls.{HasPlaces, IsPassOf, IsWhole, mine, seen, words_of};
+ghost use Rattle.ts_board.specs.Calls.{HasPlaces, IsPassAt, IsPassOf, IsWhole, mine, seen, table_of, terms_of, words_of};
+ghost use Rattle.ts_board.specs.Checks.{terms_for};
 ghost use Rattle.ts_board.specs.Terms.{commit_count};
 ghost use Rattle.ts_exec.specs.Failures.{or_jammed, setting_for, setting_over, setting_until};
 ghost use Rattle.ts_exec.specs.Stores.{IsKeptOutcome, StaysKept};
@@ -9,7 +10,7 @@ ghost use Rattle.ts_exec.specs.Outcomes.{IsOutcomeOf, IsSteady, MisfitsAreUntold
 ghost use Rattle.ts_exec.specs.Tidy.{AreFresh, IsSwept, IsTidy, Noted};
 ghost use Rattle.ts_exec.specs.Sharing.{setting_of};
 
-use crate::crew::{Crew, Member, Queues};
+use crate::crew::{Crew, Member, Queues, deal};
 use crate::crowd::{AllWorked, work_at_once};
 use crate::fault::{ActFault, RunFault};
 use crate::gate::Gate;
@@ -19,12 +20,15 @@ use crate::shared::Shared;
 use crate::stop::{Stop, Stoppable, Unstopped};
 use crossbeam_deque::Worker;
 use std::alloc::Global;
-use std::thread::Threads;
-use ts_board::{Board, Pass};
+use std::thread::{Threads, join};
+use ts_board::{Board, OpenFault, Pass};
 use ts_check::Checked;
 use ts_folder::Folder;
 use ts_site::Site;
 use ts_stage::{MemStage, Stage};
+
+/// With fewer actions the board is opened and the hints are dealt one after the other: a thread would take longer to start.
+const MANY_ACTIONS: u32 = 4_096;
 
 /// Lets all members work, and then tries what is still open, in order. Where a member was stopped that is left out.
 fn work_and_sweep<
@@ -240,6 +244,35 @@ where
     .0
 }
 
+/// Opens the board, and deals the actions that wait for nothing out to the shares, both at once where there are many. Where memory
+/// runs out, the sites come back.
+fn open_and_deal<R: Threads + Sync, S: Site>(
+    rt: &R,
+    alloc: Global,
+    checked: &Checked<'_>,
+    sites: Vec<S>,
+    shares: &mut [Worker<u32>],
+) -> Result<(Board<S>, Pass<S>), (Vec<S>, OpenFault)>
+    requires sites { length sites.items ≡ commit_count checked.now.plan.actions }
+    ensures board { IfOk result (λ r. terms_of S.content r.0 ≡ terms_for S.content checked.now sites.items) }
+    ensures pass { IfOk result (λ r. IsPassAt (table_of r.0) (terms_for S.content checked.now sites.items) r.1 × IsWhole r.1) }
+    ensures nothing { IfOk result (λ r. (seen r.1 ≡ []) × (mine r.1 ≡ [])) }
+    ensures back { IfErr result (λ refused. refused.0.items ≡ sites.items) }
+{
+    if shares.len() < 2 || checked.action_count() < MANY_ACTIONS {
+        deal(checked, shares);
+        return Board::open(alloc, checked, sites);
+    }
+    let ((), opened) = join(
+        rt,
+        || deal(checked, shares),
+        move || -> Result<(Board<S>, Pass<S>), (Vec<S>, OpenFault)>
+            requires { length sites.items ≡ commit_count checked.now.plan.actions }
+        { Board::open(alloc, checked, sites) },
+    );
+    opened
+}
+
 /// Carries out a checked plan, until its gate says to stop, and makes checkpoints meanwhile.
 fn carry_out<
     'a,
@@ -279,19 +312,20 @@ where
     let Ok(crew) = Crew::gather(alloc, checked, workers) else {
         return (Err((sites, RunFault::OutOfMemory)), keeping.into_keeper());
     };
-    let (board, pass) = match Board::open(alloc, checked, sites) {
+    let Crew {
+        members,
+        queues,
+        mut shares,
+        unread,
+        faults,
+        results,
+    } = crew;
+    let (board, pass) = match open_and_deal(rt, alloc, checked, sites, shares.as_mut_slice()) {
         Ok(opened) => opened,
         Err((sites, _fault)) => {
             return (Err((sites, RunFault::OutOfMemory)), keeping.into_keeper());
         }
     };
-    let Crew {
-        members,
-        queues,
-        unread,
-        faults,
-        results,
-    } = crew;
     let _plan = checked.plan();
     let shared = Shared {
         alloc,

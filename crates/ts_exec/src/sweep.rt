@@ -51,8 +51,36 @@ where
         }
     }
 
-    /// Tries an action, and notes why it failed.
+    /// Tries an action, and notes why it failed. One look is enough where it is over or waits for another, as nearly all are by then.
     fn sweep_one<K: Keeper>(
+        &self,
+        pass: &mut Pass<S>,
+        i: u32,
+        unread: &mut Worker<u32>,
+        faults: &mut Vec<Option<ActFault>>,
+        keeping: &mut Keeping<K>,
+    )
+        requires pass { IsPassOf S.content self.now.board.now pass.old }
+        requires action { i < length self.now.checked.now.plan.actions }
+        requires tidy { IsTidy self.now.checked.now.plan (mine pass.old) }
+        requires room { length faults.old.items ≡ length self.now.checked.now.plan.actions }
+        requires noted { Noted (setting_of S.Site F.Folder G.Stop P.Stage self.now) (mine pass.old) (seen pass.old) faults.old.items }
+        ensures pass { IsPassOf S.content self.now.board.now pass.new × IsSamePart pass.old pass.new }
+        ensures seen { StartsWith (seen pass.new) (seen pass.old) }
+        ensures steps { (block : Run) × (mine pass.new ≡ mine pass.old ++ block) × IsTidy self.now.checked.now.plan block × EndsOnly i block }
+        ensures tried { Has (mine pass.new) (claims i) ⊎ ((mine pass.new ≡ mine pass.old) × (word_after self.now.checked.now.plan (seen pass.new) i ≢ 0)) }
+        ensures noted { Noted (setting_of S.Site F.Folder G.Stop P.Stage self.now) (mine pass.new) (seen pass.new) faults.new.items }
+        ensures room { length faults.new.items ≡ length self.now.checked.now.plan.actions }
+        ensures kept { StaysKept self.now.checked.now (seen pass.old) (K.kept keeping.old.keeper) (seen pass.new) (K.kept keeping.new.keeper) }
+    {
+        if self.board.look(pass, i) != 0 {
+            return;
+        }
+        self.try_open(pass, i, unread, faults, keeping);
+    }
+
+    /// Tries an action that is open, and notes why it failed.
+    fn try_open<K: Keeper>(
         &self,
         pass: &mut Pass<S>,
         i: u32,
