@@ -338,11 +338,45 @@ if [ -e /dev/full ]; then
   status=$?
   holds_true 'a report that cannot be written' test "$status" = 2
   holds_true 'it is said why' test "$(cat err)" = "Standard output can't be written: no space left on the device."$'\n''twosync: fault 5'
+  # long NAME STATUS WORDS..: the answer to these words is longer than what is written at once, so it fails in the middle
+  long() {
+    local name=$1 wanted=$2 status
+    shift 2
+    "$program" "$@" >/dev/full 2>err
+    status=$?
+    holds_true "$name, its status" test "$status" = "$wanted"
+    holds_true "$name, its line" test "$(cat err)" = 'twosync: fault 5'
+  }
+  # long_explained NAME STATUS WORDS..: the same, and the sentence before its line
+  long_explained() {
+    local name=$1 wanted=$2 status
+    shift 2
+    "$program" "$@" --explain >/dev/full 2>err
+    status=$?
+    holds_true "$name, explained, its status" test "$status" = "$wanted"
+    holds_true "$name, explained, its sentence and its line" \
+      test "$(cat err)" = "Standard output can't be written: no space left on the device."$'\n''twosync: fault 5'
+  }
+  fresh
   seq -f 'first/%.0f' 2000 | xargs touch
-  "$program" scan first --explain >/dev/full 2>err
-  status=$?
-  holds_true 'a long answer that cannot be written' test "$status" = 3
-  holds_true 'it is said once' test "$(grep -c '^twosync: fault 5$' err)" = 1
+  "$program" scan first >many
+  "$program" plan first second archive >plan
+  for file in many plan; do
+    holds_true "what is printed is long: $file" test "$(wc -c <"$file")" -gt 65536
+  done
+  for case in long long_explained; do
+    "$case" 'a long archive that is shown' 3 show many
+    "$case" 'a long archive that is scanned' 3 scan first
+    "$case" 'a long plan' 3 plan first second archive
+    "$case" 'a long preview' 3 preview first second archive
+    "$case" 'a long report' 2 "${sync[@]}"
+    holds_true 'all was done before it' diff -r -x .twosync first second
+    rm -r second archive
+    mkdir second
+    "$case" 'a long report of a plan' 2 run first second archive plan
+    rm -r second archive
+    mkdir second
+  done
 fi
 
 # ---- names that must not reach a terminal as they are

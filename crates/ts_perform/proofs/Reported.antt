@@ -5,11 +5,13 @@ use Rattle.ts_text.specs.Sources.{AppendsFront, Writes}
 use Rattle.ts_model.specs.Texts.{text}
 use Rattle.ts_model.specs.Trees.{Listing}
 use Rattle.ts_model.specs.declared.row.Stamp.{Stamp}
+use Rattle.ts_cause.specs.declared.cause.Cause.{Cause}
 use Rattle.ts_check.specs.Checkup.{Checkup}
 use Rattle.ts_model.specs.declared.plan.PlanRule.{PlanRule}
 use Rattle.ts_trial.specs.Answers.{refusal}
 use Rattle.ts_command.specs.declared.job.Command.{Command}
 use Rattle.ts_explain.specs.Lines.{BeginsLines, fault_lines, sentence_lines}
+use Rattle.ts_perform.specs.Faults.{IsWithOutputCause}
 use Rattle.ts_perform.specs.Runs.{AnswersOne, AnswersRun, AnswersVerdict, BeginsFault, BeginsNotices, Came, HasKept, HasReported, HasRun, IsRight, Ran, RanQuietly, Refuses, RefusesPlan, faults_of, lost_by, notice_lines, report_of, status_after}
 use Rattle.ts_perform.specs.Snapshots.{IsBegun, IsUnchecked, IsValidBegun, Judges, Prints}
 use Rattle.ts_perform.specs.Trials.{IsQuiet}
@@ -105,30 +107,48 @@ kept_in is_named has k words place name (Err e) named is = tt
 
 -- ---- what commands answer
 
+-- a fault that is told for another calls just the same plan broken
+abbrev pub IsAsBroken : PerformFault → PerformFault → Type 0
+IsAsBroken e told =
+    (rule : PlanRule) (place : ℕ) → (told ≡ fault.Broken rule place → e ≡ fault.Broken rule place) × (e ≡ fault.Broken rule place → told ≡ fault.Broken rule place)
+
+pub caused_as_broken : (cause : Cause) (e told : PerformFault) → IsWithOutputCause cause e told → IsAsBroken e told
+caused_as_broken cause e told (inl (is, caused)) = λ rule place. ((λ broken. absurd cc), (λ broken. absurd cc))
+caused_as_broken cause e told (inr (other, same)) = λ rule place. ((λ broken. sym same ∙ broken), (λ broken. same ∙ broken))
+
+pub quiet_as : (e told : PerformFault) → IsAsBroken e told → IsQuiet e → IsQuiet told
+quiet_as e told same_plan quiet = λ rule place broken. quiet rule place ((same_plan rule place).0 broken)
+
 -- a refusal before anything was run is what the command answers
-pub answers_refusal : (command : Command) (Is : Came → Type 0) (old mid new old_faults mid_faults new_faults : Option (List ℕ)) (e : PerformFault) (status : ℕ) → IsRight e × (mid ≡ old) × BeginsNotices command.explain old_faults mid_faults
-    → status ≡ 3 → Refuses command e mid new mid_faults new_faults → AnswersRun command Is old new old_faults new_faults status
-answers_refusal command Is old mid new old_faults mid_faults new_faults e status (right, same, left) is refuses =
-    inr (mid_faults, left, (is, (e, right, subst (λ z. Refuses command e z new mid_faults new_faults) same refuses)))
+pub answers_refusal : (command : Command) (Is : Came → Type 0) (old mid new old_faults mid_faults new_faults : Option (List ℕ)) (e told : PerformFault) (status : ℕ) → IsAsBroken e told
+    → IsRight e × (mid ≡ old) × BeginsNotices command.explain old_faults mid_faults
+    → status ≡ 3 → Refuses command told mid new mid_faults new_faults → AnswersRun command Is old new old_faults new_faults status
+answers_refusal command Is old mid new old_faults mid_faults new_faults e told status same_plan (right, same, left) is refuses =
+    let told_right : IsRight told = λ rule place broken. right rule place ((same_plan rule place).0 broken) in
+    inr (mid_faults, left, (is, (told, told_right, subst (λ z. Refuses command told z new mid_faults new_faults) same refuses)))
 
 -- so is a text that was begun, or not, before the fault
-pub answers_fault : (command : Command) (Says : List ℕ → ℕ → Type 0) (old mid new old_faults mid_faults new_faults : Option (List ℕ)) (e : PerformFault) (status : ℕ)
-    → Prints Says old mid (Err e) × (mid_faults ≡ old_faults) → status ≡ 3 → Refuses command e mid new mid_faults new_faults → AnswersOne command Says old new old_faults new_faults status
-answers_fault command Says old mid new old_faults mid_faults new_faults e status ((quiet, begun), same) is refuses =
-    let other = refuses.other quiet in
-    inr (is, subst (λ z. IsBegun Says old z) (sym other.0) begun, (e, quiet, subst (λ z. BeginsFault command e z new_faults) same other.1))
+pub answers_fault : (command : Command) (Says : List ℕ → ℕ → Type 0) (old mid new old_faults mid_faults new_faults : Option (List ℕ)) (e told : PerformFault) (status : ℕ)
+    → IsAsBroken e told → Prints Says old mid (Err e) × (mid_faults ≡ old_faults)
+    → status ≡ 3 → Refuses command told mid new mid_faults new_faults → AnswersOne command Says old new old_faults new_faults status
+answers_fault command Says old mid new old_faults mid_faults new_faults e told status same_plan ((quiet, begun), same) is refuses =
+    let told_quiet = quiet_as e told same_plan quiet in
+    let other = refuses.other told_quiet in
+    inr (is, subst (λ z. IsBegun Says old z) (sym other.0) begun, (told, told_quiet, subst (λ z. BeginsFault command told z new_faults) same other.1))
 
 -- so is a plan that was judged, or not
-pub answers_verdict : (command : Command) (Is : Checkup → Type 0) (old mid new old_faults mid_faults new_faults : Option (List ℕ)) (e : PerformFault) (status : ℕ)
+pub answers_verdict : (command : Command) (Is : Checkup → Type 0) (old mid new old_faults mid_faults new_faults : Option (List ℕ)) (e told : PerformFault) (status : ℕ) → IsAsBroken e told
     → Judges Is old mid (Err e) × (mid_faults ≡ old_faults) → status ≡ 3 → IsQuiet e ⊎ ((rule : PlanRule) × (place : ℕ) × (e ≡ fault.Broken rule place))
-    → Refuses command e mid new mid_faults new_faults → AnswersVerdict command Is old new old_faults new_faults status
-answers_verdict command Is old mid new old_faults mid_faults new_faults e status (judged, same) is (inl quiet) refuses =
-    let other = refuses.other quiet in
-    inr (is, inr (subst (λ z. IsValidBegun Is old z) (sym other.0) (judged.other quiet), (e, quiet, subst (λ z. BeginsFault command e z new_faults) same other.1)))
-answers_verdict command Is old mid new old_faults mid_faults new_faults e status (judged, same) is (inr (rule, place, broken)) refuses =
+    → Refuses command told mid new mid_faults new_faults → AnswersVerdict command Is old new old_faults new_faults status
+answers_verdict command Is old mid new old_faults mid_faults new_faults e told status same_plan (judged, same) is (inl quiet) refuses =
+    let told_quiet = quiet_as e told same_plan quiet in
+    let other = refuses.other told_quiet in
+    inr (is, inr (subst (λ z. IsValidBegun Is old z) (sym other.0) (judged.other quiet), (told, told_quiet, subst (λ z. BeginsFault command told z new_faults) same other.1)))
+answers_verdict command Is old mid new old_faults mid_faults new_faults e told status same_plan (judged, same) is (inr (rule, place, broken)) refuses =
     let b = judged.broken rule place broken in
-    let refused : RefusesPlan command e rule place mid new mid_faults new_faults = refuses.broken rule place broken in
-    let here = subst (λ z. RefusesPlan command z rule place mid new mid_faults new_faults) broken refused in
+    let told_broken = (same_plan rule place).1 broken in
+    let refused : RefusesPlan command told rule place mid new mid_faults new_faults = refuses.broken rule place told_broken in
+    let here = subst (λ z. RefusesPlan command z rule place mid new mid_faults new_faults) told_broken refused in
     inr (
       is,
       inl (

@@ -1,5 +1,5 @@
 -- What becomes of the faults of the crates below, and the lines of what is kept and of mounts.
-use Rattle.std.specs.Prelude.{◌≡◌, ℕ, List, ◌++◌, codes}
+use Rattle.std.specs.Prelude.{◌≡◌, ◌≢◌, ◌⊎◌, ℕ, List, ◌++◌, codes}
 use Rattle.ts_name.specs.Paths.{Path, path_text}
 use Rattle.ts_archive.specs.declared.fault.ArchiveFault.{ArchiveFault}
 use Rattle.ts_archive.specs.declared.fault.ArchiveFault.TheVariants as archive
@@ -26,7 +26,7 @@ use Rattle.ts_perform.specs.declared.fault.OpenFault.TheVariants as opening
 use Rattle.ts_explain.specs.declared.fault.PerformFault.{PerformFault}
 use Rattle.ts_explain.specs.declared.fault.PerformFault.TheVariants as fault
 use Rattle.ts_explain.specs.declared.subject.Subject.{Subject}
-use Rattle.ts_explain.specs.declared.subject.Subject.TheVariants.{First, Second, Stream}
+use Rattle.ts_explain.specs.declared.subject.Subject.TheVariants.{First, Output, Second, Stream}
 use Rattle.ts_explain.specs.declared.subject.Why.{Why}
 use Rattle.ts_explain.specs.declared.subject.Why.TheVariants.{Denied, NotFile, Unread, Unwritten}
 
@@ -42,6 +42,16 @@ mount_line path = codes "twosync: mount " ++ path_text path
 abbrev pub IsSameButCause : PerformFault → PerformFault → Type 0
 IsSameButCause (fault.Scan what scan cause) e = (other : Cause) × (e ≡ fault.Scan what scan other)
 IsSameButCause same e = e ≡ same
+
+-- standard output can't be written, for this reason
+abbrev pub unwritten : Cause → PerformFault
+unwritten cause = fault.Failed Output (Unwritten cause)
+
+-- where standard output can't be written, and no reason is known, the same for this reason; and else just this fault
+abbrev pub IsWithOutputCause : Cause → PerformFault → PerformFault → Type 0
+IsWithOutputCause cause e told =
+    ((e ≡ unwritten Unknown) × (told ≡ unwritten cause))
+    ⊎ ((e ≢ unwritten Unknown) × (told ≡ e))
 
 -- of a file that is opened
 abbrev pub fault_of_open : Subject → OpenFault → PerformFault

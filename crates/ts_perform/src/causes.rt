@@ -1,12 +1,12 @@
-//! Why actions failed, as far as the system says.
+//! Why scans, actions and answers failed, as far as the system says.
 ghost use Rattle.std.specs.Prelude.{◌≡◌, ◌<◌, ◌≤◌, length};
 ghost use Rattle.std.specs.Mem.Slots.{slots_len};
-ghost use Rattle.ts_perform.specs.Faults.{IsSameButCause};
+ghost use Rattle.ts_perform.specs.Faults.{IsSameButCause, IsWithOutputCause};
 ghost use Rattle.ts_perform.specs.Trials.{IsQuiet};
 
 use crate::acting::replica;
 use crate::disk::{Disk, Machine};
-use crate::fault::{PerformFault, Subject};
+use crate::fault::{PerformFault, Subject, Why};
 use crate::task::Task;
 use std::alloc::AllocError;
 use ts_cause::Cause;
@@ -111,6 +111,25 @@ pub(crate) fn with_cause<R: Disk + AllocGlobal>(
             let cause = scan_cause(rt, root, &fault);
             PerformFault::Scan { what, fault, cause }
         }
+        other => other,
+    }
+}
+
+/// The fault of an answer that can't be written, with this cause where none is known. Each other fault stays as it is.
+pub(crate) fn with_output_cause(fault: PerformFault, cause: Cause) -> PerformFault
+    ensures cause { IsWithOutputCause cause fault result }
+    ensures quiet { IsQuiet fault → IsQuiet result }
+{
+    match fault {
+        PerformFault::Failed {
+            what: Subject::Output,
+            why: Why::Unwritten {
+                cause: Cause::Unknown,
+            },
+        } => PerformFault::Failed {
+            what: Subject::Output,
+            why: Why::Unwritten { cause },
+        },
         other => other,
     }
 }

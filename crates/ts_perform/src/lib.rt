@@ -10,6 +10,7 @@ pub mod fault;
 mod inputs;
 mod keeping;
 mod lengths;
+pub mod output;
 mod past;
 mod pending;
 pub mod performing;
@@ -24,5 +25,6 @@ mod task;
 
 pub use disk::{Disk, Machine};
 pub use fault::{OpenFault, PerformFault};
+pub use output::{KeepsCause, Output};
 pub use performing::{REFUSED, perform};
 pub use reporting::FAILED;

@@ -11,10 +11,11 @@ ghost use Rattle.ts_perform.specs.Trials.{Answers, IfApart, IsQuiet};
 ghost use Rattle.ts_trial.specs.Answers.{WritesOne};
 
 use crate::answers::write_refusal;
-use crate::causes::with_cause;
+use crate::causes::{with_cause, with_output_cause};
 use crate::disk::{Disk, Machine};
 use crate::fault::{PerformFault, Subject, UNWRITTEN, of_archive, of_trial, on_output};
 use crate::inputs::{read_archive, scan_folder};
+use crate::output::Output;
 use crate::pending::report_pending;
 use crate::previewing::{form_of, preview};
 use crate::snapshot::Snapshot;
@@ -34,7 +35,8 @@ pub const REFUSED: u8 = 3;
 
 /// Does what a command asks for, with these for standard input, standard output and standard error, and answers the exit
 /// status: 0 where all is done, 1 where only conflicts or held paths are left, 2 where something failed, 3 for a refusal.
-pub fn perform<R: Machine, I: Source + Drop, O: Sink, E: Sink>(
+/// Where the answer can't be written, the refusal says why, as far as standard output does.
+pub fn perform<R: Machine, I: Source + Drop, O: Output, E: Sink>(
     rt: &R,
     command: &Command<'_>,
     input: I,
@@ -66,13 +68,16 @@ pub fn perform<R: Machine, I: Source + Drop, O: Sink, E: Sink>(
 {
     match answer(rt, command, input, out, err) {
         Ok(status) => status,
-        Err(fault) => refuse(rt.alloc(), command, &fault, out, err),
+        Err(fault) => {
+            let told = with_output_cause(fault, out.cause());
+            refuse(rt.alloc(), command, &told, out, err)
+        }
     }
 }
 
 /// Tells why a command is refused: a broken plan on standard output, all else on standard error. Where even that can't be
 /// told, the exit status says so alone.
-fn refuse<O: Sink, E: Sink>(
+fn refuse<O: Output, E: Sink>(
     alloc: Global,
     command: &Command<'_>,
     fault: &PerformFault,
@@ -85,7 +90,10 @@ fn refuse<O: Sink, E: Sink>(
     let _ = match fault {
         PerformFault::Broken { rule, place } => match write_refusal(alloc, *rule, *place, out) {
             Ok(()) => write_sentence(alloc, command, fault, err),
-            Err(unwritten) => write_fault(alloc, command, &unwritten, err),
+            Err(unwritten) => {
+                let told = with_output_cause(unwritten, out.cause());
+                write_fault(alloc, command, &told, err)
+            }
         },
         _ => write_fault(alloc, command, fault, err),
     };

@@ -11,10 +11,12 @@ use std::env;
 use std::io::{self, BufWriter, ErrorKind, Input, IsTerminal, Write};
 use std::process::ExitCode;
 use std::rt::Env;
-use ts_cause::cause_of;
+use ts_cause::Cause;
 use ts_explain::{PerformFault, Subject, Why, write_sentence};
 use ts_text::{Counted, Sink, write_all};
-use twosync_library::{Command, CommandFault, FAILED, Job, Machine, REFUSED, command, perform};
+use twosync_library::{
+    Command, CommandFault, FAILED, Job, KeepsCause, Machine, Output, REFUSED, command, perform,
+};
 
 /// What is said of words that aren't UTF-8.
 const NOT_TEXT: &[u8] = b"error: a word of the command isn't UTF-8\n";
@@ -124,27 +126,26 @@ fn answer<R: Input + Print + Machine, E: Sink>(
     ensures { IfErr result (λ fault. fault ≡ Unreported → IsRunOrSync command.now.job) }
 {
     let out = BufWriter::new(rt.alloc(), io::writer(rt)).map_err(|_| Fault::OutOfMemory)?;
-    let mut out = Counted::new(out);
+    let mut out = Counted::new(KeepsCause::new(out));
     let input = Counted::new(rt.reader());
     let status = perform(rt, command, input, &mut out, err);
-    match out.inner.flush() {
-        Ok(()) => Ok(status),
-        // that was reported when a write failed
-        Err(_) if out.failures > 0 => Ok(status),
-        Err(e) => {
-            let _ = write_sentence(rt.alloc(), command, &unwritten(&e), err);
-            if status != REFUSED && is_run_or_sync(&command.job) {
-                Err(Fault::Unreported)
-            } else {
-                Err(Fault::Failed)
-            }
-        }
+    let is_whole = out.inner.flush().is_ok() && out.failures == 0;
+    let is_carried_out = status != REFUSED && is_run_or_sync(&command.job);
+    // a refusal says that a write failed, and a report doesn't
+    let is_told = out.failures > 0 && !is_carried_out;
+    if is_whole || is_told {
+        return Ok(status);
+    }
+    let _ = write_sentence(rt.alloc(), command, &unwritten(out.cause()), err);
+    if is_carried_out {
+        Err(Fault::Unreported)
+    } else {
+        Err(Fault::Failed)
     }
 }
 
-/// That standard output can't be written, since a call failed with this error.
-fn unwritten(e: &io::Error) -> PerformFault {
-    let cause = cause_of(e);
+/// That standard output can't be written for this reason.
+fn unwritten(cause: Cause) -> PerformFault {
     PerformFault::Failed {
         what: Subject::Output,
         why: Why::Unwritten { cause },

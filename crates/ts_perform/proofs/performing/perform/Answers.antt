@@ -1,6 +1,6 @@
 use Rattle.std.proofs.Common.{inl, refl}
 use Rattle.ts_perform.proofs.Pairs.{in_check, in_plan, in_preview, in_run, in_scan, in_show, in_sync, in_tell}
-use Rattle.ts_perform.proofs.Reported.{answers_fault, answers_refusal, answers_verdict, quiet_or_broken, verdict_told}
+use Rattle.ts_perform.proofs.Reported.{answers_fault, answers_refusal, answers_verdict, caused_as_broken, quiet_as, quiet_or_broken, verdict_told}
 use Rattle.ts_perform.proofs.Trials.{told_refusal}
 use Rattle.ts_perform.proofs.performing.perform.Goals as goal
 
@@ -34,14 +34,15 @@ returns-in-Err g c =
     let old_faults = g.E.Sink.holds c.args.err.now in let mid_faults = g.E.Sink.holds c.answer.new.err in let new_faults = g.E.Sink.holds c.refuse.new.err in
     let refuses = c.refuse.ensures.told in let is = c.refuse.ensures.status in
     let job = c.args.command.now.job in let fault = c.in-Err.fault in let ensures = c.in-Err.ensures in
+    let told = c.with_output_cause-told.result in let same_plan = caused_as_broken c.cause.result fault told c.with_output_cause-told.ensures.cause in
     record {
-      trial = λ trial. told_refusal (g.I.Source.holds c.args.input) old mid new c.refuse.result is (refuses.other (c.in-Err.ensures.quiet trial)).0 (c.in-Err.ensures.trial trial);
-      tell = in_tell job _ _ (λ printed. answers_fault c.args.command.now _ old mid new old_faults mid_faults new_faults fault c.refuse.result printed is refuses) ensures.tell;
-      scan = in_scan job _ _ (λ root printed. answers_fault c.args.command.now _ old mid new old_faults mid_faults new_faults fault c.refuse.result printed is refuses) ensures.scan;
-      show = in_show job _ _ (λ name printed. answers_fault c.args.command.now _ old mid new old_faults mid_faults new_faults fault c.refuse.result printed is refuses) ensures.show;
-      plan = in_plan job _ _ (λ pair printed. (mid_faults, printed.1, answers_fault c.args.command.now _ old mid new mid_faults mid_faults new_faults fault c.refuse.result (printed.0, refl) is refuses)) ensures.plan;
-      preview = in_preview job _ _ (λ pair json printed. (mid_faults, printed.1, answers_fault c.args.command.now _ old mid new mid_faults mid_faults new_faults fault c.refuse.result (printed.0, refl) is refuses)) ensures.preview;
-      check = in_check job _ _ (λ pair plan judged. (mid_faults, judged.1, answers_verdict c.args.command.now _ old mid new mid_faults mid_faults new_faults fault c.refuse.result (judged.0, refl) is (quiet_or_broken fault) refuses)) ensures.check;
-      run = in_run job _ _ (λ pair plan ran. answers_refusal c.args.command.now _ old mid new old_faults mid_faults new_faults fault c.refuse.result ran is refuses) ensures.run;
-      sync = in_sync job _ _ (λ pair ran. answers_refusal c.args.command.now _ old mid new old_faults mid_faults new_faults fault c.refuse.result ran is refuses) ensures.sync;
+      trial = λ trial. told_refusal (g.I.Source.holds c.args.input) old mid new c.refuse.result is (refuses.other (quiet_as fault told same_plan (c.in-Err.ensures.quiet trial))).0 (c.in-Err.ensures.trial trial);
+      tell = in_tell job _ _ (λ printed. answers_fault c.args.command.now _ old mid new old_faults mid_faults new_faults fault told c.refuse.result same_plan printed is refuses) ensures.tell;
+      scan = in_scan job _ _ (λ root printed. answers_fault c.args.command.now _ old mid new old_faults mid_faults new_faults fault told c.refuse.result same_plan printed is refuses) ensures.scan;
+      show = in_show job _ _ (λ name printed. answers_fault c.args.command.now _ old mid new old_faults mid_faults new_faults fault told c.refuse.result same_plan printed is refuses) ensures.show;
+      plan = in_plan job _ _ (λ pair printed. (mid_faults, printed.1, answers_fault c.args.command.now _ old mid new mid_faults mid_faults new_faults fault told c.refuse.result same_plan (printed.0, refl) is refuses)) ensures.plan;
+      preview = in_preview job _ _ (λ pair json printed. (mid_faults, printed.1, answers_fault c.args.command.now _ old mid new mid_faults mid_faults new_faults fault told c.refuse.result same_plan (printed.0, refl) is refuses)) ensures.preview;
+      check = in_check job _ _ (λ pair plan judged. (mid_faults, judged.1, answers_verdict c.args.command.now _ old mid new mid_faults mid_faults new_faults fault told c.refuse.result same_plan (judged.0, refl) is (quiet_or_broken fault) refuses)) ensures.check;
+      run = in_run job _ _ (λ pair plan ran. answers_refusal c.args.command.now _ old mid new old_faults mid_faults new_faults fault told c.refuse.result same_plan ran is refuses) ensures.run;
+      sync = in_sync job _ _ (λ pair ran. answers_refusal c.args.command.now _ old mid new old_faults mid_faults new_faults fault told c.refuse.result same_plan ran is refuses) ensures.sync;
     }

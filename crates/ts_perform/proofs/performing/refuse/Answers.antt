@@ -12,9 +12,9 @@ returns-in-Err-clause-told g c =
     let old = g.O.Sink.holds c.args.out.now in let new = g.O.Sink.holds c.write_refusal.new.out in
     let faults = g.E.Sink.holds c.args.err.now in let new_faults = g.E.Sink.holds c.write_fault.new.err in
     refuses_broken command fault c.in-Broken.rule c.in-Broken.place old new faults new_faults c.in-Broken.is
-    (half_refused command fault c.in-Err.unwritten c.in-Broken.rule c.in-Broken.place old new faults new_faults c.in-Err.ensures.quiet
+    (half_refused command fault c.with_output_cause-told.result c.in-Broken.rule c.in-Broken.place old new faults new_faults (c.with_output_cause-told.ensures.quiet c.in-Err.ensures.quiet)
     (writes_begun old new (text (refusal c.in-Broken.rule c.in-Broken.place ∷ [])) c.write_refusal.result c.write_refusal.ensures.written)
-    (writes_begun faults new_faults (text (fault_lines command c.in-Err.unwritten)) c.write_fault.result c.write_fault.ensures))
+    (writes_begun faults new_faults (text (fault_lines command c.with_output_cause-told.result)) c.write_fault.result c.write_fault.ensures))
 
 pub returns-in_default : goal.returns-in_default
 returns-in_default g c =

@@ -1,0 +1,83 @@
+//! Where an answer goes, and why it can't be written there.
+ghost use Rattle.std.specs.Io.{WritesAtMost};
+ghost use Rattle.std.specs.Io.KnownBytes.{Keeps, WriteAppends};
+ghost use Rattle.std.specs.Prelude.{◌≡◌, ◌<◌, IfErr, IfOk};
+ghost use Rattle.ts_cause.specs.Causes.{IsCauseOf};
+
+use std::io;
+use std::io::Write;
+use ts_cause::{Cause, cause_of};
+use ts_text::{Counted, Sink};
+
+/// A sink that says why it failed.
+pub trait Output: Sink {
+    /// Why the last write that failed did so. It is unknown before one, and where the system gives no reason.
+    fn cause(&self) -> Cause;
+}
+
+/// A writer of std that keeps why the last call that failed did so. Within `Counted` it is an output.
+#[derive(Drop)]
+pub struct KeepsCause<W> {
+    pub inner: W,
+    pub cause: Cause,
+}
+
+impl<W> KeepsCause<W> {
+    /// Nothing has failed yet.
+    pub fn new(inner: W) -> Self
+        ensures inner { result.inner ≡ inner }
+        ensures cause { result.cause ≡ Cause.Unknown }
+    {
+        KeepsCause {
+            inner,
+            cause: Cause::Unknown,
+        }
+    }
+}
+
+impl<W: Write> Write for KeepsCause<W> {
+    ghost contents = { λ k. W.contents k.inner };
+
+    fn write(&mut self, bytes: &[u8]) -> io::Result<usize>
+        ensures bound { WritesAtMost result bytes.now }
+        ensures bytes { WriteAppends (W.contents self.old.inner) (W.contents self.new.inner) result bytes.now }
+        ensures kept { IfErr result (λ e. IsCauseOf e self.new.cause) }
+        ensures none { IfOk result (λ n. n ≡ 0 → self.new.cause ≡ Cause.Unknown) }
+        ensures same { IfOk result (λ n. 0 < n → self.new.cause ≡ self.old.cause) }
+    {
+        match self.inner.write(bytes) {
+            // no byte is taken, and nobody says why
+            Ok(0) => {
+                self.cause = Cause::Unknown;
+                Ok(0)
+            }
+            Ok(count) => Ok(count),
+            Err(e) => {
+                self.cause = cause_of(&e);
+                Err(e)
+            }
+        }
+    }
+
+    fn flush(&mut self) -> io::Result<()>
+        ensures bytes { Keeps (W.contents self.old.inner) (W.contents self.new.inner) }
+        ensures kept { IfErr result (λ e. IsCauseOf e self.new.cause) }
+        ensures same { IfOk result (λ _. self.new.cause ≡ self.old.cause) }
+    {
+        match self.inner.flush() {
+            Ok(()) => Ok(()),
+            Err(e) => {
+                self.cause = cause_of(&e);
+                Err(e)
+            }
+        }
+    }
+}
+
+impl<W: Write> Output for Counted<KeepsCause<W>> {
+    fn cause(&self) -> Cause
+        ensures { result ≡ self.now.inner.cause }
+    {
+        self.inner.cause
+    }
+}
