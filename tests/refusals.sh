@@ -21,6 +21,18 @@ expect 'a folder as archive' 3 '' 'twosync: fault 5' sync first second first
 expect 'no first folder' 3 '' 'twosync: fault 9' sync nowhere second archive
 expect 'the archive comes first' 3 '' 'twosync: fault 6' sync nowhere second cut --holds nowhere
 expect 'the rules come next' 3 '' 'twosync: fault 9' check nowhere second archive nowhere --holds nowhere
+printf x >bad
+mkfifo first/p
+for workers in 1 8; do
+  by=(--workers "$workers")
+  expect "the archive before the rules and the folders, by $workers" 3 '' 'twosync: fault 7' plan first nowhere changed --holds bad "${by[@]}"
+  expect "the archive before the plan and the folders, by $workers" 3 '' 'twosync: fault 7' check first nowhere changed bad "${by[@]}"
+  expect "the archive before the folders, by $workers" 3 '' 'twosync: fault 7' preview first second changed "${by[@]}"
+  expect "the rules before the plan and the folders, by $workers" 3 '' 'twosync: fault 11' check first second archive bad --holds bad "${by[@]}"
+  expect "the plan before the folders, by $workers" 3 '' 'twosync: fault 6' check first second archive bad "${by[@]}"
+  expect "the folders at last, by $workers" 3 '' 'twosync: fault 10' sync first second archive "${by[@]}"
+done
+rm first/p
 holds_true 'refusals change nothing' test ! -e second/a
 fresh
 printf b >first/b

@@ -9,5 +9,6 @@ mod Printing
 mod Putting
 mod Copied
 mod Adding
+mod Archives
 mod Counted
 mod Scanning

@@ -1,13 +1,15 @@
 //! Scans and runs, counted meanwhile.
-ghost use Rattle.std.specs.Prelude.{◌≡◌, ◌≤◌, IfErr, IfOk, IfSome, length};
+ghost use Rattle.std.specs.Prelude.{◌≡◌, ◌≤◌, IfErr, IfOk, IfSome, length, option_map};
 ghost use Rattle.ts_board.specs.Archives.{HasEnded};
 ghost use Rattle.ts_board.specs.Calls.{HasPlaces, words_of};
 ghost use Rattle.ts_board.specs.Terms.{commit_count};
 ghost use Rattle.ts_exec.specs.Failures.{setting_over};
 ghost use Rattle.ts_exec.specs.Outcomes.{IsOutcomeOf};
 ghost use Rattle.ts_model.specs.Trees.{at, print_of};
+ghost use Rattle.ts_perform.specs.Inputs.{IsArchiveOf};
 ghost use Rattle.ts_perform.specs.Trials.{IsQuiet};
 
+use crate::decoding::{Decoded, Scans, decoded_beside_scans};
 use crate::disk::Machine;
 use crate::fault::PerformFault;
 use crate::spacing::plan_bytes;
@@ -17,7 +19,7 @@ use ts_exec::{Gate, Keeper, Outcome, RunFault, run_staging};
 use ts_model::plan::Plan;
 use ts_print::Print;
 use ts_progress::{Amount, CountingFolder, Meter, Phase, Progress, Screen};
-use ts_scan::{ScanFault, scan, scan_both};
+use ts_scan::{ScanFault, scan};
 
 /// The folders of both replicas.
 #[derive(Drop)]
@@ -59,17 +61,19 @@ pub(crate) fn scan_counted<R: Machine>(
     scanned
 }
 
-/// Scans both folders at once, as `ts_scan::scan_both` does.
+/// Scans both folders at once, as `ts_scan::scan_both` does, and decodes the archive in a file meanwhile, where there is one.
 pub(crate) fn scan_both_counted<R: Machine>(
     rt: &R,
     progress: &Progress<'_, R>,
     folders: &Folders<'_, R::Folder>,
     workers: u32,
-) -> (Result<Print, ScanFault>, Result<Print, ScanFault>)
+    file: Option<R::Opened>,
+) -> (Decoded, Scans)
     requires some { 1 ≤ workers }
     requires few { workers ≤ 64 }
-    ensures first { IfSome (R.Folder.tells folders.now.first.now) (λ tree. IfOk result.0 (λ print. at print ≡ print_of (at tree))) }
-    ensures second { IfSome (R.Folder.tells folders.now.second.now) (λ tree. IfOk result.1 (λ print. at print ≡ print_of (at tree))) }
+    ensures archive { IfOk result.0 (IsArchiveOf (option_map R.Opened.remaining file)) }
+    ensures first { IfSome (R.Folder.tells folders.now.first.now) (λ tree. IfOk result.1.0 (λ print. at print ≡ print_of (at tree))) }
+    ensures second { IfSome (R.Folder.tells folders.now.second.now) (λ tree. IfOk result.1.1 (λ print. at print ≡ print_of (at tree))) }
 {
     let meter = progress.begin(Phase::Scanning, Amount::none());
     let first = CountingFolder {
@@ -80,9 +84,9 @@ pub(crate) fn scan_both_counted<R: Machine>(
         folder: folders.second,
         meter: &meter,
     };
-    let scanned = scan_both(rt, rt.alloc(), &first, &second, workers);
+    let found = decoded_beside_scans(rt, rt.alloc(), &first, &second, workers, file);
     meter.end();
-    scanned
+    found
 }
 
 /// What carrying a plan out comes to: its actions, and the bytes of its pieces.

@@ -52,7 +52,7 @@ pub trait Disk {
 
     type Archive: Drop;
 
-    type Opened: Read + Drop;
+    type Opened: Read + Send + Drop;
 
     // Where a site's commit is made.
     ghost stand: { Self.Site → Stand };

@@ -1,13 +1,14 @@
 //! What commands read: archives, hold rules, plans and folders.
-ghost use Rattle.std.specs.Prelude.{◌≡◌, ◌≤◌, [], length, option_map, IfErr, IfOk, IfSome, IsTrue, OnOk};
+ghost use Rattle.std.specs.Prelude.{◌≡◌, ◌≤◌, [], Ok, length, option_map, IfErr, IfOk, IfSome, IsTrue, OnOk};
 ghost use Rattle.ts_explain.specs.Faults.{IsAbout};
 ghost use Rattle.ts_model.specs.Texts.{IsPlan, IsPlanText, IsRulesText};
-ghost use Rattle.ts_perform.specs.Inputs.{AreRulesAt, IsArchiveIn, IsReadAt, IsReadFor, IsSeenFor, scanned_of};
+ghost use Rattle.ts_perform.specs.Inputs.{AreRulesAt, IsArchiveAt, IsArchiveIn, IsArchiveOf, IsFoundOrEmpty, IsHeldFor, IsReadAt, IsSeenFor, scanned_of};
 ghost use Rattle.ts_perform.specs.Specials.{AreSpecials};
 ghost use Rattle.ts_perform.specs.Stands.{AreScans, IsScanOf};
 ghost use Rattle.ts_perform.specs.Trials.{IsQuiet};
 
 use crate::counting::{Folders, scan_both_counted, scan_counted};
+use crate::decoding::{Decoded, decoded};
 use crate::disk::{Disk, Machine};
 use crate::fault::{
     PerformFault, Subject, UNREAD, Why, of_archive, of_hold, of_open, of_plan, of_text,
@@ -56,6 +57,19 @@ fn unread<R: Disk>(rt: &R, name: &str, what: Subject) -> PerformFault
     PerformFault::Failed { what, why }
 }
 
+/// What was decoded of the file with this name, or why nothing was, with what the system says of that now.
+fn told<R: Disk>(rt: &R, name: &str, decoded: Decoded) -> Result<Option<Print>, PerformFault>
+    ensures same { IfOk result (λ found. decoded ≡ Ok found) }
+    ensures about { IfErr result (IsAbout Subject.Archive) }
+    ensures quiet { IfErr result IsQuiet }
+{
+    match decoded {
+        Ok(found) => Ok(found),
+        Err(ArchiveFault::Failed) => Err(unread(rt, name, Subject::Archive)),
+        Err(fault) => Err(of_archive(fault, Subject::Archive, UNREAD)),
+    }
+}
+
 /// The archive in a file. None where nothing is there.
 pub(crate) fn read_archive<R: Disk + AllocGlobal>(
     rt: &R,
@@ -65,15 +79,8 @@ pub(crate) fn read_archive<R: Disk + AllocGlobal>(
     ensures about { IfErr result (IsAbout Subject.Archive) }
     ensures quiet { IfErr result IsQuiet }
 {
-    let Some(file) = opened(rt, name, Subject::Archive)? else {
-        return Ok(None);
-    };
-    let mut lines = lines_of(rt.alloc(), file)?;
-    match ts_archive::decode(rt.alloc(), &mut lines) {
-        Ok(archive) => Ok(Some(archive)),
-        Err(ArchiveFault::Failed) => Err(unread(rt, name, Subject::Archive)),
-        Err(fault) => Err(of_archive(fault, Subject::Archive, UNREAD)),
-    }
+    let file = opened(rt, name, Subject::Archive)?;
+    told(rt, name, decoded(rt.alloc(), file))
 }
 
 /// The rules in a file, or none where no file is named. They are read line by line: the first bad line ends it.
@@ -167,25 +174,57 @@ fn look_at_new(archive: &Print, new: Subject) -> Result<(), PerformFault>
     }
 }
 
-/// An archive and the hold rules.
-#[derive(Drop)]
-struct Known {
-    archive: Print,
-    holds: Holds,
+/// The archive of a pair that was decoded of its file. One that isn't there has no paths.
+fn archive_of<R: Machine>(task: &Task<'_, R>, decoded: Decoded) -> Result<Print, PerformFault>
+    ensures archive { IfOk result (IsFoundOrEmpty decoded) }
+    ensures quiet { IfErr result IsQuiet }
+{
+    match told(task.rt, task.pair.archive, decoded)? {
+        Some(archive) => Ok(archive),
+        None => Ok(Print::empty(task.rt.alloc())),
+    }
 }
 
-impl Known {
-    /// Reads the archive, and then the rules, and adds those for what is special. An archive that isn't there has no paths.
-    fn read<R: Machine>(task: &Task<'_, R>) -> Result<(Known, SpecialPaths), PerformFault>
-        ensures found { IfOk result (λ known. AreSpecials R.finds_special task.now.pair.now known.1) }
-        ensures read { IfOk result (λ known. IsReadFor R.finds task.now.pair.now known.1 known.0.archive known.0.holds) }
+/// The archive in the file of a pair.
+fn archive_in<R: Machine>(
+    task: &Task<'_, R>,
+    file: Option<R::Opened>,
+) -> Result<Print, PerformFault>
+    requires { R.finds task.now.pair.now.archive.now (option_map R.Opened.remaining file) }
+    ensures read { IfOk result (IsArchiveAt R.finds task.now.pair.now.archive.now) }
+    ensures quiet { IfErr result IsQuiet }
+{
+    archive_of(task, decoded(task.rt.alloc(), file))
+}
+
+/// The fault of the archive in the file of a pair, which comes first, or else the one that came while it wasn't read yet.
+fn first_fault<R: Machine>(
+    task: &Task<'_, R>,
+    file: Option<R::Opened>,
+    later: PerformFault,
+) -> PerformFault
+    ensures quiet { IsQuiet later → IsQuiet result }
+{
+    match archive_of(task, decoded(task.rt.alloc(), file)) {
+        Ok(_) => later,
+        Err(fault) => fault,
+    }
+}
+
+/// The hold rules, and the paths that can't be synchronized, which have rules, too.
+#[derive(Drop)]
+struct Held {
+    holds: Holds,
+    special: SpecialPaths,
+}
+
+impl Held {
+    /// Reads the rules, and adds those for what is special.
+    fn read<R: Machine>(task: &Task<'_, R>) -> Result<Held, PerformFault>
+        ensures read { IfOk result (IsHeldFor R.finds R.finds_special task.now.pair.now) }
         ensures quiet { IfErr result IsQuiet }
     {
         let (rt, pair) = (task.rt, task.pair);
-        let archive = match read_archive(rt, pair.archive)? {
-            Some(archive) => archive,
-            None => Print::empty(rt.alloc()),
-        };
         let mut rules = read_holds(rt, pair.holds)?;
         let special = match SpecialPaths::find(rt, pair) {
             Ok(special) => special,
@@ -193,7 +232,22 @@ impl Known {
         };
         special.add_rules(rt.alloc(), &mut rules)?;
         let holds = rules.finish();
-        Ok((Known { archive, holds }, special))
+        Ok(Held { holds, special })
+    }
+
+    /// Reads them, and then a plan.
+    fn read_with_plan<R: Machine>(
+        task: &Task<'_, R>,
+        plan: &str,
+    ) -> Result<(Held, Plan), PerformFault>
+        ensures fits { IfOk result (λ read. IsPlan read.1) }
+        ensures plan { IfOk result (λ read. IsReadAt R.finds IsPlanText plan.now read.1) }
+        ensures held { IfOk result (λ read. IsHeldFor R.finds R.finds_special task.now.pair.now read.0) }
+        ensures quiet { IfErr result IsQuiet }
+    {
+        let held = Held::read(task)?;
+        let plan = read_plan(task.rt, plan)?;
+        Ok((held, plan))
     }
 }
 
@@ -205,24 +259,49 @@ struct Scanned {
 }
 
 impl Scanned {
-    /// Scans both replicas, with stand-ins at these paths, at once where there are several workers: they often lie on two devices.
-    /// Where neither can be scanned the fault is that of the first.
-    fn read<R: Machine>(task: &Task<'_, R>, special: SpecialPaths) -> Result<Scanned, PerformFault>
-        ensures scans { IfOk result (λ s. AreScans R.is_at R.Folder.tells task.now.pair.now special s.first s.second) }
+    /// The folders of both replicas, with stand-ins at these paths. Nothing is looked at yet.
+    fn folders<R: Machine>(
+        task: &Task<'_, R>,
+        special: SpecialPaths,
+    ) -> Result<(R::Folder, R::Folder), PerformFault>
+        ensures first { IfOk result (λ folders. R.is_at folders.0 task.now.pair.now.first.now special.first) }
+        ensures second { IfOk result (λ folders. R.is_at folders.1 task.now.pair.now.second.now special.second) }
         ensures quiet { IfErr result IsQuiet }
     {
         let (rt, alloc, pair) = (task.rt, task.rt.alloc(), task.pair);
         let SpecialPaths { first, second } = special;
         let first = rt.folder(alloc, pair.first, first)?;
         let second = rt.folder(alloc, pair.second, second)?;
-        let folders = Folders {
-            first: &first,
-            second: &second,
-        };
-        let (first, second) = scan_both_counted(rt, &task.progress, &folders, task.workers);
-        match Scanned::of(pair, first, second) {
-            Ok(scanned) => Ok(scanned),
-            Err(fault) => Err(task.explained(fault)),
+        Ok((first, second))
+    }
+
+    /// Scans both replicas, with stand-ins at these paths, at once where there are several workers: they often lie on two devices.
+    /// Where neither can be scanned the fault is that of the first. The archive in a file is decoded meanwhile, where there is one.
+    fn read<R: Machine>(
+        task: &Task<'_, R>,
+        special: SpecialPaths,
+        file: Option<R::Opened>,
+    ) -> (Decoded, Result<Scanned, PerformFault>)
+        ensures archive { IfOk result.0 (IsArchiveOf (option_map R.Opened.remaining file)) }
+        ensures scans { IfOk result.1 (λ s. AreScans R.is_at R.Folder.tells task.now.pair.now special s.first s.second) }
+        ensures quiet { IfErr result.1 IsQuiet }
+    {
+        match Scanned::folders(task, special) {
+            Ok((first, second)) => {
+                let folders = Folders {
+                    first: &first,
+                    second: &second,
+                };
+                let (archive, (first, second)) = scan_both_counted(
+                    task.rt,
+                    &task.progress,
+                    &folders,
+                    task.workers,
+                    file,
+                );
+                (archive, Scanned::of(task.pair, first, second))
+            }
+            Err(fault) => (decoded(task.rt.alloc(), file), Err(fault)),
         }
     }
 
@@ -245,13 +324,12 @@ impl Scanned {
 
 impl Snapshot {
     /// A snapshot of these parts.
-    fn of(known: Known, scanned: Scanned) -> Snapshot
-        ensures archive { result.archive ≡ known.archive }
-        ensures holds { result.holds ≡ known.holds }
+    fn of(archive: Print, holds: Holds, scanned: Scanned) -> Snapshot
+        ensures archive { result.archive ≡ archive }
+        ensures holds { result.holds ≡ holds }
         ensures first { result.first ≡ scanned.first }
         ensures second { result.second ≡ scanned.second }
     {
-        let Known { archive, holds } = known;
         let Scanned { first, second } = scanned;
         Snapshot {
             archive,
@@ -261,14 +339,62 @@ impl Snapshot {
         }
     }
 
-    /// Reads the archive and the rules, searches both replicas for what is special where the pair asks for it, and then scans them.
+    /// Scans both replicas, once all else is read.
+    fn scan<R: Machine>(
+        task: &Task<'_, R>,
+        archive: Print,
+        held: Held,
+    ) -> Result<Snapshot, PerformFault>
+        requires archive { IsArchiveAt R.finds task.now.pair.now.archive.now archive }
+        requires held { IsHeldFor R.finds R.finds_special task.now.pair.now held }
+        ensures seen { IfOk result (λ s. IsSeenFor R.is_at R.Folder.tells R.finds R.finds_special task.now.pair.now s.archive s.holds s.first s.second) }
+        ensures archive { IfOk result (λ s. s.archive ≡ archive) }
+        ensures quiet { IfErr result IsQuiet }
+    {
+        let Held { holds, special } = held;
+        let (_, scanned) = Scanned::read(task, special, None);
+        match scanned {
+            Ok(scanned) => Ok(Snapshot::of(archive, holds, scanned)),
+            Err(fault) => Err(task.explained(fault)),
+        }
+    }
+
+    /// Scans both replicas, and decodes the archive in its file meanwhile, where there are several workers. Its fault comes before
+    /// those of the scans.
+    fn scan_beside<R: Machine>(
+        task: &Task<'_, R>,
+        file: Option<R::Opened>,
+        held: Held,
+    ) -> Result<Snapshot, PerformFault>
+        requires found { R.finds task.now.pair.now.archive.now (option_map R.Opened.remaining file) }
+        requires held { IsHeldFor R.finds R.finds_special task.now.pair.now held }
+        ensures seen { IfOk result (λ s. IsSeenFor R.is_at R.Folder.tells R.finds R.finds_special task.now.pair.now s.archive s.holds s.first s.second) }
+        ensures quiet { IfErr result IsQuiet }
+    {
+        if task.workers == 1 {
+            let archive = archive_in(task, file)?;
+            return Snapshot::scan(task, archive, held);
+        }
+        let Held { holds, special } = held;
+        let (archive, scanned) = Scanned::read(task, special, file);
+        let archive = archive_of(task, archive)?;
+        match scanned {
+            Ok(scanned) => Ok(Snapshot::of(archive, holds, scanned)),
+            Err(fault) => Err(task.explained(fault)),
+        }
+    }
+
+    /// Opens the archive and reads the rules, searches both replicas for what is special where the pair asks for it, and then scans
+    /// them. The archive is decoded meanwhile.
     pub(crate) fn read<R: Machine>(task: &Task<'_, R>) -> Result<Snapshot, PerformFault>
         ensures seen { IfOk result (λ s. IsSeenFor R.is_at R.Folder.tells R.finds R.finds_special task.now.pair.now s.archive s.holds s.first s.second) }
         ensures quiet { IfErr result IsQuiet }
     {
-        let (known, special) = Known::read(task)?;
-        let scanned = Scanned::read(task, special)?;
-        Ok(Snapshot::of(known, scanned))
+        let file = opened(task.rt, task.pair.archive, Subject::Archive)?;
+        match Held::read(task) {
+            Ok(held) => Snapshot::scan_beside(task, file, held),
+            Err(fault) => Err(first_fault(task, file, fault)),
+        }
     }
 
     /// The same for a `sync`, which is refused where only one of the replicas took part in a run before, though the archive
@@ -282,12 +408,14 @@ impl Snapshot {
         ensures both { IfOk result (λ s. IsTrue is_one_new → s.archive ≡ []) }
         ensures quiet { IfErr result IsQuiet }
     {
-        let (known, special) = Known::read(task)?;
-        if is_one_new {
-            look_at_new(&known.archive, new)?;
+        if !is_one_new {
+            return Snapshot::read(task);
         }
-        let scanned = Scanned::read(task, special)?;
-        Ok(Snapshot::of(known, scanned))
+        let file = opened(task.rt, task.pair.archive, Subject::Archive)?;
+        let archive = archive_in(task, file)?;
+        let held = Held::read(task)?;
+        look_at_new(&archive, new)?;
+        Snapshot::scan(task, archive, held)
     }
 
     /// The same, with a plan that is read before both replicas are scanned.
@@ -301,9 +429,10 @@ impl Snapshot {
             read.0.archive read.0.holds read.0.first read.0.second) }
         ensures quiet { IfErr result IsQuiet }
     {
-        let (known, special) = Known::read(task)?;
-        let plan = read_plan(task.rt, plan)?;
-        let scanned = Scanned::read(task, special)?;
-        Ok((Snapshot::of(known, scanned), plan))
+        let file = opened(task.rt, task.pair.archive, Subject::Archive)?;
+        match Held::read_with_plan(task, plan) {
+            Ok((held, plan)) => Ok((Snapshot::scan_beside(task, file, held)?, plan)),
+            Err(fault) => Err(first_fault(task, file, fault)),
+        }
     }
 }

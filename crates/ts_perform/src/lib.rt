@@ -5,6 +5,7 @@ mod acting;
 mod answers;
 mod causes;
 mod counting;
+mod decoding;
 pub mod disk;
 pub mod fault;
 mod inputs;

@@ -6,8 +6,6 @@ use Rattle.ts_perform.proofs.inputs.Scanned.read.Goals as goal
 pub returns-in-Ok-clause-scans : goal.returns-in-Ok-clause-scans
 returns-in-Ok-clause-scans g c =
     let pair = c.args.task.now.pair.now in let is_at = g.R.Disk.is_at in let tells = g.R.Folder.Folder.tells in
-    let given : IfOk c.of.result (λ s. AreScans is_at tells pair c.args.special s.first s.second) =
+    let scans = c.scan_both_counted-archive.result.1 in let ensures = c.scan_both_counted-archive.ensures in
     subst (λ r. IfOk r (λ s. AreScans is_at tells pair c.args.special s.first s.second)) (sym c.of.ensures.scanned)
-    (both_scanned is_at tells pair c.args.special c.in_ok-first.first c.in_ok-second.second c.scan_both_counted-first.result.0 c.scan_both_counted-first.result.1
-    c.in_ok-first.ensures.at c.in_ok-second.ensures.at c.scan_both_counted-first.ensures.first c.scan_both_counted-first.ensures.second) in
-    rw c.in-Ok.is at given
+    (both_scanned is_at tells pair c.args.special c.in-Ok.first c.in-Ok.second scans.0 scans.1 c.in-Ok.ensures.first c.in-Ok.ensures.second ensures.first ensures.second)
