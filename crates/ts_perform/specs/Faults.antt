@@ -1,6 +1,6 @@
 -- What becomes of the faults of the crates below, and the lines of what is kept and of mounts.
 use Rattle.std.specs.Prelude.{◌≡◌, ◌≢◌, ◌⊎◌, ℕ, List, ◌++◌, codes}
-use Rattle.ts_name.specs.Paths.{Path, path_text}
+use Rattle.ts_name.specs.Paths.{Path, path_text, place_text}
 use Rattle.ts_archive.specs.declared.fault.ArchiveFault.{ArchiveFault}
 use Rattle.ts_archive.specs.declared.fault.ArchiveFault.TheVariants as archive
 use Rattle.ts_cause.specs.declared.cause.Cause.{Cause}
@@ -17,6 +17,8 @@ use Rattle.ts_model.specs.declared.plan.Side.{Side}
 use Rattle.ts_model.specs.declared.plan.Side.TheVariants as side
 use Rattle.ts_plan_build.specs.declared.fault.BuildFault.{BuildFault}
 use Rattle.ts_plan_build.specs.declared.fault.BuildFault.TheVariants as build
+use Rattle.ts_scan.specs.declared.fault.ScanFault.{ScanFault}
+use Rattle.ts_scan.specs.declared.fault.ScanFault.TheVariants as scan
 use Rattle.ts_text.specs.declared.fault.TextFault.{TextFault}
 use Rattle.ts_text.specs.declared.fault.TextFault.TheVariants as text
 use Rattle.ts_trial.specs.declared.fault.TrialFault.{TrialFault}
@@ -42,6 +44,24 @@ mount_line path = codes "twosync: mount " ++ path_text path
 abbrev pub IsSameButCause : PerformFault → PerformFault → Type 0
 IsSameButCause (fault.Scan what scan cause) e = (other : Cause) × (e ≡ fault.Scan what scan other)
 IsSameButCause same e = e ≡ same
+
+-- what the system said of a file or a directory at a place that was read or listed from an offset on
+abbrev pub Says : Type 1
+Says = List ℕ → ℕ → Cause → Type 0
+
+-- no cause of a fault of the scan of the folder with this root is known, or it is what the system said of the path that couldn't be read
+abbrev pub IsCauseBelow : Says → List ℕ → ScanFault → Cause → Type 0
+IsCauseBelow says root (scan.At path refusal) cause = (cause ≡ Unknown) ⊎ says (root ++ place_text path) 0 cause
+IsCauseBelow says root scan.OutOfMemory cause = cause ≡ Unknown
+
+-- the fault of a scan of the folder with this root, with its cause; each other fault as it was
+abbrev pub IsWithCauseBelow : Says → List ℕ → PerformFault → PerformFault → Type 0
+IsWithCauseBelow says root (fault.Scan what scan cause) e = (other : Cause) × (e ≡ fault.Scan what scan other) × IsCauseBelow says root scan other
+IsWithCauseBelow says root same e = e ≡ same
+
+-- a fault of a scan of the second replica
+abbrev pub IsOfSecond : PerformFault → Type 0
+IsOfSecond e = (found : ScanFault) × (cause : Cause) × (e ≡ fault.Scan Second found cause)
 
 -- standard output can't be written, for this reason
 abbrev pub unwritten : Cause → PerformFault

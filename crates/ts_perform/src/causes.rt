@@ -1,7 +1,7 @@
 //! Why scans, actions and answers failed, as far as the system says.
-ghost use Rattle.std.specs.Prelude.{◌≡◌, ◌<◌, ◌≤◌, length};
+ghost use Rattle.std.specs.Prelude.{◌≡◌, ◌⊎◌, ◌<◌, ◌≤◌, length};
 ghost use Rattle.std.specs.Mem.Slots.{slots_len};
-ghost use Rattle.ts_perform.specs.Faults.{IsSameButCause, IsWithOutputCause};
+ghost use Rattle.ts_perform.specs.Faults.{IsCauseBelow, IsOfSecond, IsSameButCause, IsWithCauseBelow, IsWithOutputCause};
 ghost use Rattle.ts_perform.specs.Trials.{IsQuiet};
 
 use crate::acting::replica;
@@ -104,6 +104,7 @@ pub(crate) fn with_cause<R: Disk + AllocGlobal>(
     fault: PerformFault,
 ) -> PerformFault
     ensures same { IsSameButCause fault result }
+    ensures caused { IsWithCauseBelow R.says root.now fault result }
     ensures quiet { IsQuiet fault → IsQuiet result }
 {
     match fault {
@@ -135,7 +136,9 @@ pub(crate) fn with_output_cause(fault: PerformFault, cause: Cause) -> PerformFau
 }
 
 /// What the system says now of the path that a scan of the folder with this root couldn't read.
-fn scan_cause<R: Disk + AllocGlobal>(rt: &R, root: &str, fault: &ScanFault) -> Cause {
+fn scan_cause<R: Disk + AllocGlobal>(rt: &R, root: &str, fault: &ScanFault) -> Cause
+    ensures { IsCauseBelow R.says root.now fault.now result }
+{
     let ScanFault::At {
         path,
         fault: Refusal::Device | Refusal::Unreadable,
@@ -154,6 +157,8 @@ impl<'a, R: Machine> Task<'a, R> {
     /// asks for sentences.
     pub(crate) fn explained(&self, fault: PerformFault) -> PerformFault
         ensures same { IsSameButCause fault result }
+        ensures second { IsOfSecond fault → (result ≡ fault) ⊎ IsWithCauseBelow R.says self.now.pair.now.second.now fault result }
+        ensures first { (¬ IsOfSecond fault) → (result ≡ fault) ⊎ IsWithCauseBelow R.says self.now.pair.now.first.now fault result }
         ensures quiet { IsQuiet fault → IsQuiet result }
     {
         if !self.command.explain {

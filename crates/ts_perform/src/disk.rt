@@ -1,5 +1,6 @@
 //! The file system as commands see it.
 ghost use Rattle.std.specs.Prelude.{◌≡◌, ℕ, Bool, List, Option, IfErr, IfOk, IsTrue, OnOk, option_map};
+ghost use Rattle.ts_cause.specs.declared.cause.Cause.{Cause};
 ghost use Rattle.ts_model.specs.declared.row.Row.{Row};
 ghost use Rattle.ts_model.specs.declared.row.Stamp.{Stamp};
 ghost use Rattle.ts_perform.specs.Stands.{Stand};
@@ -32,7 +33,7 @@ use ts_stage::Stage;
 /// How many bytes are read at once of a file that couldn't be read.
 const READ_AT_ONCE: usize = 8192;
 
-/// How often: 1 GiB in all.
+/// How often that is done at most: 1 GiB in all.
 const MOST_READS: u32 = 131_072;
 
 /// Folders by their names, the places of commits in them, their locks, and the places of archives.
@@ -92,6 +93,9 @@ pub trait Disk {
     // What was found by this name: nothing, or a file, with its bytes where it tells them.
     ghost finds: { List ℕ → Option (Option (List ℕ)) → Type 0 };
 
+    // What was said of a file or a directory at this place, read or listed from this offset on.
+    ghost says: { List ℕ → ℕ → Cause → Type 0 };
+
     /// Opens a file to be read. None where nothing is there. A directory, a device or a pipe is never opened: it might be waited
     /// for.
     fn open(&self, name: &str) -> Result<Option<Self::Opened>, OpenFault>
@@ -147,7 +151,8 @@ pub trait Disk {
     fn site_cause(&self, site: &Self::Site) -> Cause;
 
     /// Why a file can't be read from this offset on, or a directory can't be listed, as far as the system says now.
-    fn read_cause(&self, place: &str, offset: u64) -> Cause;
+    fn read_cause(&self, place: &str, offset: u64) -> Cause
+        ensures { says place.now offset result };
 
     /// Locks a replica until what is answered is dropped. There is no lock where no directory is.
     fn lock(&self, alloc: Global, root: &str) -> Result<Option<Self::Lock>, DiskFault>
@@ -258,6 +263,8 @@ impl Disk for HostRuntime {
     ghost awaits = { λ _ _. ⊤ };
 
     ghost finds = { λ _ _. ⊤ };
+
+    ghost says = { λ _ _ _. ⊤ };
 
     type File = Option<File>;
 
