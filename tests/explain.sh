@@ -361,13 +361,24 @@ if [ -e /dev/full ]; then
   seq -f 'first/%.0f' 2000 | xargs touch
   "$program" scan first >many
   "$program" plan first second archive >plan
-  for file in many plan; do
+  # a bundle of two equal replicas and their archive
+  files() { seq -f $'f /f%04.0f 1\nx 61' 2000; }
+  {
+    printf 'twosync-bundle 1\narchive\n'
+    seq -f "f /f%04.0f 1 $SA" 2000
+    printf 'first\n' && files
+    printf 'second\n' && files
+    printf 'holds\nplan\ntwosync-plan 1\nend 0 0\n'
+  } >bundle
+  "$program" trial <bundle >answer
+  for file in many plan answer; do
     holds_true "what is printed is long: $file" test "$(wc -c <"$file")" -gt 65536
   done
   for case in long long_explained; do
     "$case" 'a long archive that is shown' 3 show many
     "$case" 'a long archive that is scanned' 3 scan first
     "$case" 'a long plan' 3 plan first second archive
+    "$case" 'a long answer to a bundle' 3 trial <bundle
     "$case" 'a long preview' 3 preview first second archive
     "$case" 'a long report' 2 "${sync[@]}"
     holds_true 'all was done before it' diff -r -x .twosync first second

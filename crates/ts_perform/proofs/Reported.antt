@@ -113,8 +113,9 @@ IsAsBroken e told =
     (rule : PlanRule) (place : ℕ) → (told ≡ fault.Broken rule place → e ≡ fault.Broken rule place) × (e ≡ fault.Broken rule place → told ≡ fault.Broken rule place)
 
 pub caused_as_broken : (cause : Cause) (e told : PerformFault) → IsWithOutputCause cause e told → IsAsBroken e told
-caused_as_broken cause e told (inl (is, caused)) = λ rule place. ((λ broken. absurd cc), (λ broken. absurd cc))
-caused_as_broken cause e told (inr (other, same)) = λ rule place. ((λ broken. sym same ∙ broken), (λ broken. same ∙ broken))
+caused_as_broken cause e told (inl (inl is, caused)) = λ rule place. ((λ broken. absurd cc), (λ broken. absurd cc))
+caused_as_broken cause e told (inl (inr ((why, is), known), caused)) = λ rule place. ((λ broken. absurd cc), (λ broken. absurd cc))
+caused_as_broken cause e told (inr (other, stream, same)) = λ rule place. ((λ broken. sym same ∙ broken), (λ broken. same ∙ broken))
 
 pub quiet_as : (e told : PerformFault) → IsAsBroken e told → IsQuiet e → IsQuiet told
 quiet_as e told same_plan quiet = λ rule place broken. quiet rule place ((same_plan rule place).0 broken)

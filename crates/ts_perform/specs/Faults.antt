@@ -67,11 +67,16 @@ IsOfSecond e = (found : ScanFault) × (cause : Cause) × (e ≡ fault.Scan Secon
 abbrev pub unwritten : Cause → PerformFault
 unwritten cause = fault.Failed Output (Unwritten cause)
 
--- where standard output can't be written, and no reason is known, the same for this reason; and else just this fault
+-- standard input or output failed, and nothing says which
+abbrev pub IsOfStream : PerformFault → Type 0
+IsOfStream e = (why : Why) × (e ≡ fault.Failed Stream why)
+
+-- where standard output can't be written, and no reason is known, the same for this reason; so it is where a stream failed, and this is the reason of
+-- a failed write; and else just this fault
 abbrev pub IsWithOutputCause : Cause → PerformFault → PerformFault → Type 0
 IsWithOutputCause cause e told =
-    ((e ≡ unwritten Unknown) × (told ≡ unwritten cause))
-    ⊎ ((e ≢ unwritten Unknown) × (told ≡ e))
+    (((e ≡ unwritten Unknown) ⊎ (IsOfStream e × (cause ≢ Unknown))) × (told ≡ unwritten cause))
+    ⊎ ((e ≢ unwritten Unknown) × (IsOfStream e → cause ≡ Unknown) × (told ≡ e))
 
 -- of a file that is opened
 abbrev pub fault_of_open : Subject → OpenFault → PerformFault

@@ -116,7 +116,8 @@ pub(crate) fn with_cause<R: Disk + AllocGlobal>(
     }
 }
 
-/// The fault of an answer that can't be written, with this cause where none is known. Each other fault stays as it is.
+/// The fault of an answer that can't be written, with this cause where none is known. A fault of a stream is one of standard output
+/// where the cause of a failed write is known. Each other fault stays as it is.
 pub(crate) fn with_output_cause(fault: PerformFault, cause: Cause) -> PerformFault
     ensures cause { IsWithOutputCause cause fault result }
     ensures quiet { IsQuiet fault → IsQuiet result }
@@ -131,6 +132,22 @@ pub(crate) fn with_output_cause(fault: PerformFault, cause: Cause) -> PerformFau
             what: Subject::Output,
             why: Why::Unwritten { cause },
         },
+        PerformFault::Failed {
+            what: Subject::Stream,
+            why,
+        } => {
+            if cause == Cause::Unknown {
+                PerformFault::Failed {
+                    what: Subject::Stream,
+                    why,
+                }
+            } else {
+                PerformFault::Failed {
+                    what: Subject::Output,
+                    why: Why::Unwritten { cause },
+                }
+            }
+        }
         other => other,
     }
 }
