@@ -17,6 +17,8 @@ import sys
 import tempfile
 import time
 
+import terminal
+
 
 def make(root):
     """Writes the files, each with bytes of its own."""
@@ -33,15 +35,7 @@ def timed(words):
     begun = time.monotonic()
     child = subprocess.Popen(words, stdin=subprocess.DEVNULL, stdout=subprocess.DEVNULL, stderr=theirs)
     os.close(theirs)
-    drawn = 0
-    while True:
-        try:
-            piece = os.read(ours, 65536)
-        except OSError:  # nobody has the other end open any more
-            break
-        if not piece:
-            break
-        drawn += len(piece)
+    drawn = sum(len(piece) for piece in terminal.pieces(ours))
     _, status, usage = os.wait4(child.pid, 0)
     took = time.monotonic() - begun
     child.returncode = os.waitstatus_to_exitcode(status)

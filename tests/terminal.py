@@ -11,21 +11,25 @@ import subprocess
 import sys
 
 
+def pieces(terminal):
+    """Yields what a terminal gets, until nobody has its other end open any more."""
+    while True:
+        try:
+            piece = os.read(terminal, 65536)
+        except OSError:
+            return
+        if not piece:
+            return
+        yield piece
+
+
 def run(words, stdout=None, env=None, shows_output=False):
     """Runs a command with standard error on a terminal, or standard output. Returns its status, and what the terminal got."""
     ours, theirs = pty.openpty()
     streams = {"stdout": theirs} if shows_output else {"stdout": stdout, "stderr": theirs}
     child = subprocess.Popen(words, stdin=subprocess.DEVNULL, env=env, **streams)
     os.close(theirs)
-    got = b""
-    while True:
-        try:
-            piece = os.read(ours, 65536)
-        except OSError:  # nobody has the other end open any more
-            break
-        if not piece:
-            break
-        got += piece
+    got = b"".join(pieces(ours))
     os.close(ours)
     return child.wait(), got
 
