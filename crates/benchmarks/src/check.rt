@@ -13,6 +13,7 @@ use ts_check::{CheckFault, Checked, check};
 use ts_hold::Holds;
 use ts_model::items::Items;
 use ts_model::plan::{Action, Entry, Kind, Plan, Reason};
+use ts_model::predecessors::Predecessors;
 use ts_name::Path;
 use ts_print::PrintReader;
 
@@ -79,9 +80,8 @@ impl Draft {
         }
     }
 
-    fn act(&mut self, kind: Kind, preds: Vec<u32>) -> Result<u32> {
+    fn act(&mut self, kind: Kind, preds: Predecessors) -> Result<u32> {
         let number = u32::try_from(self.actions.len()).context("counting actions")?;
-        let preds = Items::new(preds);
         self.actions.push(Action { kind, preds })?;
         Ok(number)
     }
@@ -99,9 +99,9 @@ impl Draft {
         self.first.line(alloc, line.as_bytes())?;
         self.second.line(alloc, line.as_bytes())?;
         let entry = self.enter(alloc, path, Reason::Dir)?;
-        let mut preds = Vec::new(alloc);
+        let mut preds = Predecessors::none();
         if let Some(mark) = above {
-            preds.push(mark)?;
+            preds.push(alloc, mark)?;
         }
         self.act(Kind::Mark { entry }, preds)
     }
@@ -120,15 +120,16 @@ impl Draft {
                 length: PIECE.min(size.wrapping_sub(offset)),
                 path: Path::parse_text(alloc, path.as_bytes())?,
             };
-            let piece = self.act(kind, Vec::new(alloc))?;
+            let piece = self.act(kind, Predecessors::none())?;
             pieces.push(piece)?;
         }
+        let pieces = Predecessors::of(alloc, pieces)?;
         let commit = self.act(Kind::Commit { entry }, pieces)?;
-        let mut preds = Vec::new(alloc);
+        let mut preds = Predecessors::none();
         if let Some(mark) = above {
-            preds.push(mark)?;
+            preds.push(alloc, mark)?;
         }
-        preds.push(commit)?;
+        preds.push(alloc, commit)?;
         self.act(Kind::Mark { entry }, preds)?;
         Ok(())
     }

@@ -6,6 +6,7 @@ use crate::shared::{Drip, dripping, has_taken, path, plan_of, repeated, sink_of}
 use std::alloc::Global;
 use ts_model::items::Items;
 use ts_model::plan::{Action, Entry, Kind, Plan, Reason};
+use ts_model::predecessors::Predecessors;
 use ts_name::Path;
 use ts_plan::{PlanFault, PlanLine, PlanReader, decode, encode, fits};
 use ts_text::{Counted, Lines};
@@ -243,12 +244,11 @@ fn made_plan(alloc: Global, path: Path, kind: Kind, pred_count: usize) -> Option
     let mut entries = Vec::new(alloc);
     let reason = Reason::First;
     entries.push(Entry { path, reason }).ok()?;
-    let mut preds = Vec::new(alloc);
+    let mut preds = Predecessors::none();
     for _ in 0..pred_count {
-        preds.push(0u32).ok()?;
+        preds.push(alloc, 0).ok()?;
     }
     let mut actions = Vec::new(alloc);
-    let preds = Items::new(preds);
     actions.push(Action { kind, preds }).ok()?;
     Some(Plan {
         entries: Items::new(entries),

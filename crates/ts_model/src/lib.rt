@@ -4,5 +4,6 @@
 pub mod hold;
 pub mod items;
 pub mod plan;
+pub mod predecessors;
 pub mod row;
 pub mod step;

@@ -3,6 +3,7 @@ ghost use Rattle.ts_model.specs.Plans.{is_from, other, rule_number, source};
 ghost use Rattle.ts_model.specs.Sync.{is_skipped, treatment};
 
 use crate::items::Items;
+use crate::predecessors::Predecessors;
 use ts_name::Path;
 
 /// The most entries that a plan may have.
@@ -145,7 +146,7 @@ pub enum Kind {
 #[derive(Drop)]
 pub struct Action {
     pub kind: Kind,
-    pub preds: Items<u32>,
+    pub preds: Predecessors,
 }
 
 /// What is to be done about which paths, and in which order.

@@ -52,7 +52,7 @@ none_open (Some a) e = absurd cc
 -- an action is open
 pub some_open : (o : Option OpenAction) → is_some o ≡ true → (a : Action) × (open_action o ≡ Some a)
 some_open None e = absurd cc
-some_open (Some a) e = (record { kind = a.kind; preds = a.preds.items }, refl)
+some_open (Some a) e = (record { kind = a.kind; preds = a.preds }, refl)
 
 -- the last action with one predecessor more
 pub pred_progress : (p : Progress) (a : Action) (preds : List ℕ) (j n : ℕ) → IsProgress p → p.part ≡ Body → p.last ≡ Some a → preds ≡ a.preds ++ j ∷ [] → j < 2 ^ 32

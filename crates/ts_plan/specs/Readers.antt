@@ -7,7 +7,7 @@ use Rattle.ts_plan.specs.Progress.{Progress}
 
 abbrev pub open_action : Option OpenAction → Option Action
 open_action None = None
-open_action (Some action) = Some (record { kind = action.kind; preds = action.preds.items })
+open_action (Some action) = Some (record { kind = action.kind; preds = action.preds })
 
 abbrev pub progress : Inside → Progress
 progress r = record { part = r.part; entries = r.entries.items; actions = r.actions.items; last = open_action r.last }

@@ -14,12 +14,13 @@ use std::alloc::Global;
 use std::marker::Model;
 use ts_model::items::Items;
 use ts_model::plan::{ACTION_LIMIT, Action, ENTRY_LIMIT, Entry, Kind, PRED_LIMIT, Plan};
+use ts_model::predecessors::Predecessors;
 
 /// An action whose predecessors are being read.
 #[derive(Drop)]
 pub(crate) struct OpenAction {
     kind: Kind,
-    preds: Vec<u32>,
+    preds: Predecessors,
 }
 
 /// Reads the lines of a plan's text, one after another.
@@ -111,7 +112,6 @@ impl PlanReader {
             pred_count: _,
         } = self;
         if let Some(OpenAction { kind, preds }) = last {
-            let preds = Items::new(preds);
             actions.push(Action { kind, preds })?;
         }
         let entries = Items::new(entries);
@@ -161,12 +161,11 @@ impl PlanReader {
         }
         let opened = OpenAction {
             kind,
-            preds: Vec::new(self.alloc),
+            preds: Predecessors::none(),
         };
         self.actions.reserve(1)?;
         if let Some(done) = self.last.replace(opened) {
             let OpenAction { kind, preds } = done;
-            let preds = Items::new(preds);
             self.actions.push(Action { kind, preds })?;
         }
         Ok(())
@@ -184,7 +183,7 @@ impl PlanReader {
         }
         match self.last.take() {
             Some(OpenAction { kind, mut preds }) => {
-                let pushed = preds.push(number);
+                let pushed = preds.push(self.alloc, number);
                 self.last = Some(OpenAction { kind, preds });
                 pushed?;
                 self.pred_count += 1;

@@ -5,8 +5,8 @@ ghost use Rattle.ts_plan_build.specs.Planned.{row_count, entry_actions};
 
 use crate::fault::BuildFault;
 use std::alloc::{AllocError, Global};
-use ts_model::items::Items;
 use ts_model::plan::{ACTION_LIMIT, Action, Entry, Kind, PIECE_SIZE, Side, Treatment};
+use ts_model::predecessors::Predecessors;
 use ts_model::row::{Content, Row, Stamp};
 use ts_name::Path;
 use ts_print::Print;
@@ -61,7 +61,7 @@ fn add_copy(
         }
     }
     let to = actions.len() as u32;
-    let pieces = numbers(alloc, from, to)?;
+    let pieces = Predecessors::of(alloc, numbers(alloc, from, to)?)?;
     push(actions, Kind::Commit { entry }, pieces)?;
     add_mark(alloc, actions, entry, above, Some(to))
 }
@@ -89,7 +89,7 @@ fn add_file(
             length: PIECE_SIZE.min(size - offset),
             path,
         };
-        push(actions, kind, Vec::new(alloc))?;
+        push(actions, kind, Predecessors::none())?;
     }
     Ok(())
 }
@@ -118,27 +118,26 @@ fn add_mark(
     ensures limit { OnOk result (length actions.new.items ≤ action_limit) }
     ensures past { IfErr result (λ fault. fault ≡ BuildFault.PastLimit → action_limit < length actions.old.items + 1) }
 {
-    let mut preds = Vec::new(alloc);
+    let mut preds = Predecessors::none();
     if let Some(mark) = above {
-        preds.push(mark)?;
+        preds.push(alloc, mark)?;
     }
     if let Some(commit) = commit {
-        preds.push(commit)?;
+        preds.push(alloc, commit)?;
     }
     push(actions, Kind::Mark { entry }, preds)
 }
 
 /// Adds an action, where there is room for one more.
-fn push(actions: &mut Vec<Action>, kind: Kind, preds: Vec<u32>) -> Result<(), BuildFault>
+fn push(actions: &mut Vec<Action>, kind: Kind, preds: Predecessors) -> Result<(), BuildFault>
     requires { length actions.old.items ≤ action_limit }
-    ensures added { OnOk result (actions.new.items ≡ actions.old.items ++ record { kind = kind; preds = preds.items } ∷ []) }
+    ensures added { OnOk result (actions.new.items ≡ actions.old.items ++ record { kind = kind; preds = preds } ∷ []) }
     ensures limit { OnOk result (length actions.new.items ≤ action_limit) }
     ensures past { IfErr result (λ fault. fault ≡ BuildFault.PastLimit → action_limit < length actions.old.items + 1) }
 {
     if actions.len() >= ACTION_LIMIT {
         return Err(BuildFault::PastLimit);
     }
-    let preds = Items::new(preds);
     actions.push(Action { kind, preds })?;
     Ok(())
 }
@@ -148,7 +147,7 @@ fn numbers(alloc: Global, from: u32, to: u32) -> Result<Vec<u32>, AllocError>
     requires { from ≤ to }
     ensures { IfOk result (λ found. found.items ≡ each_below (λ i. from + i) (to - from)) }
 {
-    let mut found = Vec::new(alloc);
+    let mut found = Vec::with_capacity(alloc, (to - from) as usize)?;
     for number in from..to {
         found.push(number)?;
     }

@@ -7,6 +7,7 @@ use anyhow::Result;
 use std::alloc::{AllocError, Global};
 use ts_model::items::Items;
 use ts_model::plan::{Action, Entry, Kind, Plan, Reason};
+use ts_model::predecessors::Predecessors;
 use ts_name::Path;
 use ts_print::{Print, PrintReader, encode};
 use ts_text::Counted;
@@ -54,20 +55,20 @@ fn worked_actions(alloc: Global, path: Path) -> Result<Vec<Action>, AllocError>
     ensures { IfOk result (λ actions. actions.items ≡ worked path) }
 {
     let kind = piece(0, path);
-    let commit_waits = vec![in alloc; 0]?;
-    let mark_waits = vec![in alloc; 1]?;
+    let commit_waits = Predecessors::of(alloc, vec![in alloc; 0]?)?;
+    let mark_waits = Predecessors::of(alloc, vec![in alloc; 1]?)?;
     Ok(vec![in alloc;
         Action {
             kind,
-            preds: Items::new(Vec::new(alloc))
+            preds: Predecessors::none()
         },
         Action {
             kind: Kind::Commit { entry: 0 },
-            preds: Items::new(commit_waits)
+            preds: commit_waits
         },
         Action {
             kind: Kind::Mark { entry: 0 },
-            preds: Items::new(mark_waits)
+            preds: mark_waits
         },
     ]?)
 }
@@ -89,15 +90,15 @@ pub fn worked_plan(alloc: Global) -> Result<Plan>
 fn removal_actions(alloc: Global) -> Result<Vec<Action>, AllocError>
     ensures { IfOk result (λ actions. actions.items ≡ removal) }
 {
-    let mark_waits = vec![in alloc; 0]?;
+    let mark_waits = Predecessors::of(alloc, vec![in alloc; 0]?)?;
     Ok(vec![in alloc;
         Action {
             kind: Kind::Commit { entry: 0 },
-            preds: Items::new(Vec::new(alloc))
+            preds: Predecessors::none()
         },
         Action {
             kind: Kind::Mark { entry: 0 },
-            preds: Items::new(mark_waits)
+            preds: mark_waits
         },
     ]?)
 }
@@ -121,38 +122,38 @@ fn nested_actions(alloc: Global, p: Path, q: Path) -> Result<Vec<Action>, AllocE
 {
     let first = piece(1, p);
     let second = piece(2, q);
-    let first_commit_waits = vec![in alloc; 1]?;
-    let first_mark_waits = vec![in alloc; 0, 2]?;
-    let second_commit_waits = vec![in alloc; 4]?;
-    let second_mark_waits = vec![in alloc; 0, 5]?;
+    let first_commit_waits = Predecessors::of(alloc, vec![in alloc; 1]?)?;
+    let first_mark_waits = Predecessors::of(alloc, vec![in alloc; 0, 2]?)?;
+    let second_commit_waits = Predecessors::of(alloc, vec![in alloc; 4]?)?;
+    let second_mark_waits = Predecessors::of(alloc, vec![in alloc; 0, 5]?)?;
     Ok(vec![in alloc;
         Action {
             kind: Kind::Mark { entry: 0 },
-            preds: Items::new(Vec::new(alloc))
+            preds: Predecessors::none()
         },
         Action {
             kind: first,
-            preds: Items::new(Vec::new(alloc))
+            preds: Predecessors::none()
         },
         Action {
             kind: Kind::Commit { entry: 1 },
-            preds: Items::new(first_commit_waits)
+            preds: first_commit_waits
         },
         Action {
             kind: Kind::Mark { entry: 1 },
-            preds: Items::new(first_mark_waits)
+            preds: first_mark_waits
         },
         Action {
             kind: second,
-            preds: Items::new(Vec::new(alloc))
+            preds: Predecessors::none()
         },
         Action {
             kind: Kind::Commit { entry: 2 },
-            preds: Items::new(second_commit_waits)
+            preds: second_commit_waits
         },
         Action {
             kind: Kind::Mark { entry: 2 },
-            preds: Items::new(second_mark_waits)
+            preds: second_mark_waits
         },
     ]?)
 }

@@ -7,6 +7,7 @@ use std::alloc::Global;
 use ts_hold::Holds;
 use ts_model::items::Items;
 use ts_model::plan::{Action, Entry, Kind, Plan};
+use ts_model::predecessors::Predecessors;
 use ts_name::Path;
 use ts_print::{Print, PrintReader};
 
@@ -108,7 +109,7 @@ fn action_of(alloc: Global, step: &Step) -> Result<Action> {
     }
     Ok(Action {
         kind: kind_of(alloc, step)?,
-        preds: Items::new(preds),
+        preds: Predecessors::of(alloc, preds)?,
     })
 }
 
