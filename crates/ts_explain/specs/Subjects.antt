@@ -24,6 +24,7 @@ noun subject.Archive = codes "The archive "
 noun subject.Holds = codes "The file of hold rules "
 noun subject.Plan = codes "The plan "
 noun subject.Stream = codes "Standard input or output"
+noun subject.Input = codes "Standard input"
 noun subject.Output = codes "Standard output"
 
 abbrev pub text_or_none : Option (Bor (List ℕ)) → List ℕ
@@ -39,6 +40,7 @@ name_of pair plan subject.Archive = pair.archive.now
 name_of pair plan subject.Holds = text_or_none pair.holds
 name_of pair plan subject.Plan = plan
 name_of pair plan subject.Stream = []
+name_of pair plan subject.Input = []
 name_of pair plan subject.Output = []
 
 abbrev pub name_of_folder : List ℕ → Subject → List ℕ

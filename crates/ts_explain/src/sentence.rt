@@ -155,9 +155,12 @@ fn missing_text(what: Subject) -> &'static [u8]
     match what {
         Subject::Archive => b" isn't there: `show` needs one that exists.",
         Subject::Holds | Subject::Plan => b" isn't there.",
-        Subject::Folder | Subject::First | Subject::Second | Subject::Stream | Subject::Output => {
-            b" isn't there any more: is its disk still mounted?"
-        }
+        Subject::Folder
+        | Subject::First
+        | Subject::Second
+        | Subject::Stream
+        | Subject::Input
+        | Subject::Output => b" isn't there any more: is its disk still mounted?",
     }
 }
 

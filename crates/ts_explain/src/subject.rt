@@ -15,8 +15,9 @@ pub enum Subject {
     Archive,
     Holds,
     Plan,
-    /// Standard input, from which a bundle is read, or standard output.
+    /// Standard input, from which a bundle is read, or standard output, where nothing says which.
     Stream,
+    Input,
     Output,
 }
 
@@ -44,6 +45,7 @@ impl Subject {
             Subject::Holds => b"The file of hold rules ",
             Subject::Plan => b"The plan ",
             Subject::Stream => b"Standard input or output",
+            Subject::Input => b"Standard input",
             Subject::Output => b"Standard output",
         }
     }
@@ -93,7 +95,7 @@ impl Subject {
             Subject::Archive => pair.archive,
             Subject::Holds => pair.holds.unwrap_or(""),
             Subject::Plan => plan,
-            Subject::Folder | Subject::Stream | Subject::Output => "",
+            Subject::Folder | Subject::Stream | Subject::Input | Subject::Output => "",
         }
     }
 }

@@ -104,6 +104,13 @@ impl<S: Source> Lines<S> {
         }
     }
 
+    /// The source, which may have given more than the lines so far.
+    pub fn source(&self) -> &S
+        ensures failures { S.failures result.now ≡ self.now.failures }
+    {
+        &self.source
+    }
+
     /// The line that it stands at, without its line feed.
     pub fn line(&self) -> &[u8]
         ensures { result.now ≡ self.now.line }
