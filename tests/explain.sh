@@ -324,6 +324,18 @@ expect 'a file that is too large, explained' 2 $'failed first /large\ntotal 1 do
   $'/large isn\'t synchronized: too large for the file system.\ntwosync: fault 8 /large' "${sync[@]}" --explain
 before=()
 
+# ---- input that can't be read
+fresh
+"$program" trial <first >out 2>err
+status=$?
+holds_true 'a bundle that cannot be read' test "$status" = 3
+holds_true 'its answer is empty' test ! -s out
+holds_true 'its line' test "$(cat err)" = 'twosync: fault 5'
+"$program" trial --explain <first >out 2>err
+status=$?
+holds_true 'a bundle that cannot be read, explained' test "$status" = 3
+holds_true 'its sentence and its line' test "$(cat err)" = "Standard input can't be read: it is a folder."$'\n''twosync: fault 5'
+
 # ---- output that can't be written
 if [ -e /dev/full ]; then
   fresh

@@ -28,7 +28,7 @@ use Rattle.ts_perform.specs.declared.fault.OpenFault.TheVariants as opening
 use Rattle.ts_explain.specs.declared.fault.PerformFault.{PerformFault}
 use Rattle.ts_explain.specs.declared.fault.PerformFault.TheVariants as fault
 use Rattle.ts_explain.specs.declared.subject.Subject.{Subject}
-use Rattle.ts_explain.specs.declared.subject.Subject.TheVariants.{First, Output, Second, Stream}
+use Rattle.ts_explain.specs.declared.subject.Subject.TheVariants.{First, Input, Output, Second, Stream}
 use Rattle.ts_explain.specs.declared.subject.Why.{Why}
 use Rattle.ts_explain.specs.declared.subject.Why.TheVariants.{Denied, NotFile, Unread, Unwritten}
 
@@ -115,9 +115,15 @@ abbrev pub fault_of_check : CheckFault → PerformFault
 fault_of_check check.OutOfMemory = fault.OutOfMemory
 fault_of_check (check.Broken rule place) = fault.Broken rule place
 
-abbrev pub fault_of_trial : TrialFault → PerformFault
-fault_of_trial trial.OutOfMemory = fault.OutOfMemory
-fault_of_trial trial.Failed = fault.Failed Stream (Unread Unknown)
+-- the stream of a trial that failed: standard input, where that gives a cause
+abbrev pub stream_with : Cause → Subject
+stream_with Unknown = Stream
+stream_with other = Input
+
+-- of a trial whose standard input gives this cause
+abbrev pub fault_of_trial : Cause → TrialFault → PerformFault
+fault_of_trial cause trial.OutOfMemory = fault.OutOfMemory
+fault_of_trial cause trial.Failed = fault.Failed (stream_with cause) (Unread cause)
 
 -- of a replica or of the archive
 abbrev pub fault_of_disk : Subject → DiskFault → PerformFault

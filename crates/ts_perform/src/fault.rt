@@ -116,16 +116,18 @@ pub(crate) fn of_check(fault: CheckFault) -> PerformFault
     }
 }
 
-/// The fault of a trial. Standard input and output aren't told apart.
-pub(crate) fn of_trial(fault: TrialFault) -> PerformFault
-    ensures { result ≡ fault_of_trial fault }
+/// The fault of a trial whose standard input gives this cause. Where that is unknown, nothing says which stream failed.
+pub(crate) fn of_trial(fault: TrialFault, cause: Cause) -> PerformFault
+    ensures { result ≡ fault_of_trial cause fault }
 {
+    let what = match cause {
+        Cause::Unknown => Subject::Stream,
+        _ => Subject::Input,
+    };
+    let why = Why::Unread { cause };
     match fault {
         TrialFault::OutOfMemory => PerformFault::OutOfMemory,
-        TrialFault::Failed => PerformFault::Failed {
-            what: Subject::Stream,
-            why: UNREAD,
-        },
+        TrialFault::Failed => PerformFault::Failed { what, why },
     }
 }
 

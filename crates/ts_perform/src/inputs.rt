@@ -58,7 +58,11 @@ fn unread<R: Disk>(rt: &R, name: &str, what: Subject) -> PerformFault
 }
 
 /// What was decoded of the file with this name, or why nothing was, with what the system says of that now.
-fn told<R: Disk>(rt: &R, name: &str, decoded: Decoded) -> Result<Option<Print>, PerformFault>
+fn archive_found<R: Disk>(
+    rt: &R,
+    name: &str,
+    decoded: Decoded,
+) -> Result<Option<Print>, PerformFault>
     ensures same { IfOk result (λ found. decoded ≡ Ok found) }
     ensures about { IfErr result (IsAbout Subject.Archive) }
     ensures quiet { IfErr result IsQuiet }
@@ -80,7 +84,7 @@ pub(crate) fn read_archive<R: Disk + AllocGlobal>(
     ensures quiet { IfErr result IsQuiet }
 {
     let file = opened(rt, name, Subject::Archive)?;
-    told(rt, name, decoded(rt.alloc(), file))
+    archive_found(rt, name, decoded(rt.alloc(), file))
 }
 
 /// The rules in a file, or none where no file is named. They are read line by line: the first bad line ends it.
@@ -179,7 +183,7 @@ fn archive_of<R: Machine>(task: &Task<'_, R>, decoded: Decoded) -> Result<Print,
     ensures archive { IfOk result (IsFoundOrEmpty decoded) }
     ensures quiet { IfErr result IsQuiet }
 {
-    match told(task.rt, task.pair.archive, decoded)? {
+    match archive_found(task.rt, task.pair.archive, decoded)? {
         Some(archive) => Ok(archive),
         None => Ok(Print::empty(task.rt.alloc())),
     }

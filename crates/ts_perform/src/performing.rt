@@ -15,10 +15,10 @@ use crate::causes::{with_cause, with_output_cause};
 use crate::disk::{Disk, Machine};
 use crate::fault::{PerformFault, Subject, UNWRITTEN, of_archive, of_trial, on_output};
 use crate::inputs::{read_archive, scan_folder};
-use crate::output::Output;
 use crate::pending::report_pending;
 use crate::previewing::{form_of, preview};
 use crate::snapshot::Snapshot;
+use crate::streams::SaysCause;
 use crate::task::Task;
 use std::alloc::Global;
 use std::fmt::Display;
@@ -35,8 +35,8 @@ pub const REFUSED: u8 = 3;
 
 /// Does what a command asks for, with these for standard input, standard output and standard error, and answers the exit
 /// status: 0 where all is done, 1 where only conflicts or held paths are left, 2 where something failed, 3 for a refusal.
-/// Where the answer can't be written, the refusal says why, as far as standard output does.
-pub fn perform<R: Machine, I: Source + Drop, O: Output, E: Sink>(
+/// Where a bundle can't be read, or an answer can't be written, the refusal says why, as far as standard input or output does.
+pub fn perform<R: Machine, I: Source + SaysCause + Drop, O: Sink + SaysCause, E: Sink>(
     rt: &R,
     command: &Command<'_>,
     input: I,
@@ -77,7 +77,7 @@ pub fn perform<R: Machine, I: Source + Drop, O: Output, E: Sink>(
 
 /// Tells why a command is refused: a broken plan on standard output, all else on standard error. Where even that can't be
 /// told, the exit status says so alone.
-fn refuse<O: Output, E: Sink>(
+fn refuse<O: Sink + SaysCause, E: Sink>(
     alloc: Global,
     command: &Command<'_>,
     fault: &PerformFault,
@@ -101,7 +101,7 @@ fn refuse<O: Output, E: Sink>(
 }
 
 /// Does what a command asks for.
-fn answer<R: Machine, I: Source + Drop, O: Sink, E: Sink>(
+fn answer<R: Machine, I: Source + SaysCause + Drop, O: Sink, E: Sink>(
     rt: &R,
     command: &Command<'_>,
     input: I,
@@ -170,8 +170,8 @@ fn tell<T: Display, O: Sink>(alloc: Global, told: &T, out: &mut O) -> Result<u8,
     Ok(0)
 }
 
-/// Answers a bundle.
-fn answer_bundle<R: AllocGlobal + Threads + Sync, I: Source + Drop, O: Sink>(
+/// Answers a bundle. Where it can't be read, the fault has the reason that standard input gives.
+fn answer_bundle<R: AllocGlobal + Threads + Sync, I: Source + SaysCause + Drop, O: Sink>(
     rt: &R,
     input: I,
     out: &mut O,
@@ -186,7 +186,7 @@ fn answer_bundle<R: AllocGlobal + Threads + Sync, I: Source + Drop, O: Sink>(
     match Lines::new(alloc, input) {
         Ok(mut lines) => match trial(rt, alloc, &mut lines, out, workers) {
             Ok(status) => Ok(status),
-            Err(fault) => Err(of_trial(fault)),
+            Err(fault) => Err(of_trial(fault, lines.source().cause())),
         },
         // nothing was read yet, so memory ran out
         Err(_) => Err(PerformFault::OutOfMemory),

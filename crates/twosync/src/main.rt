@@ -15,7 +15,7 @@ use ts_cause::Cause;
 use ts_explain::{PerformFault, Subject, Why, write_sentence};
 use ts_text::{Counted, Sink, write_all};
 use twosync_library::{
-    Command, CommandFault, FAILED, Job, KeepsCause, Machine, Output, REFUSED, command, perform,
+    Command, CommandFault, FAILED, Job, KeepsCause, Machine, REFUSED, SaysCause, command, perform,
 };
 
 /// What is said of words that aren't UTF-8.
@@ -127,7 +127,7 @@ fn answer<R: Input + Print + Machine, E: Sink>(
 {
     let out = BufWriter::new(rt.alloc(), io::writer(rt)).map_err(|_| Fault::OutOfMemory)?;
     let mut out = Counted::new(KeepsCause::new(out));
-    let input = Counted::new(rt.reader());
+    let input = Counted::new(KeepsCause::new(rt.reader()));
     let status = perform(rt, command, input, &mut out, err);
     let is_whole = out.inner.flush().is_ok() && out.failures == 0;
     let is_carried_out = status != REFUSED && is_run_or_sync(&command.job);

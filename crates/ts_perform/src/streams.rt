@@ -1,21 +1,21 @@
-//! Where an answer goes, and why it can't be written there.
-ghost use Rattle.std.specs.Io.{WritesAtMost};
-ghost use Rattle.std.specs.Io.KnownBytes.{Keeps, WriteAppends};
-ghost use Rattle.std.specs.Prelude.{◌≡◌, ◌<◌, IfErr, IfOk};
+//! Where a command reads, where its answer goes, and why either failed.
+ghost use Rattle.std.specs.Io.{ReadsAtMost, WritesAtMost};
+ghost use Rattle.std.specs.Io.KnownBytes.{Keeps, ReadConsumes, WriteAppends};
+ghost use Rattle.std.specs.Prelude.{◌≡◌, ◌<◌, IfErr, IfOk, OnOk};
 ghost use Rattle.ts_cause.specs.Causes.{IsCauseOf};
 
 use std::io;
-use std::io::Write;
+use std::io::{Read, Write};
 use ts_cause::{Cause, cause_of};
-use ts_text::{Counted, Sink};
+use ts_text::Counted;
 
-/// A sink that says why it failed.
-pub trait Output: Sink {
-    /// Why the last write that failed did so. It is unknown before one, and where the system gives no reason.
+/// A source or a sink that says why it failed.
+pub trait SaysCause {
+    /// Why the last call that failed did so. It is unknown before one, and where the system gives no reason.
     fn cause(&self) -> Cause;
 }
 
-/// A writer of std that keeps why the last call that failed did so. Within `Counted` it is an output.
+/// A reader or a writer of std that keeps why the last call that failed did so. Within `Counted` it says why.
 #[derive(Drop)]
 pub struct KeepsCause<W> {
     pub inner: W,
@@ -31,6 +31,25 @@ impl<W> KeepsCause<W> {
         KeepsCause {
             inner,
             cause: Cause::Unknown,
+        }
+    }
+}
+
+impl<R: Read> Read for KeepsCause<R> {
+    ghost remaining = { λ k. R.remaining k.inner };
+
+    fn read(&mut self, buffer: &mut [u8]) -> io::Result<usize>
+        ensures bound { ReadsAtMost result buffer.new }
+        ensures bytes { ReadConsumes (R.remaining self.old.inner) (R.remaining self.new.inner) result buffer.new }
+        ensures kept { IfErr result (λ e. IsCauseOf e self.new.cause) }
+        ensures same { OnOk result (self.new.cause ≡ self.old.cause) }
+    {
+        match self.inner.read(buffer) {
+            Ok(count) => Ok(count),
+            Err(e) => {
+                self.cause = cause_of(&e);
+                Err(e)
+            }
         }
     }
 }
@@ -74,7 +93,7 @@ impl<W: Write> Write for KeepsCause<W> {
     }
 }
 
-impl<W: Write> Output for Counted<KeepsCause<W>> {
+impl<T> SaysCause for Counted<KeepsCause<T>> {
     fn cause(&self) -> Cause
         ensures { result ≡ self.now.inner.cause }
     {
