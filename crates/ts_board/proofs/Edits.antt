@@ -193,3 +193,36 @@ edits_fit from rows body (entry ∷ entries) edits h = go (λ es k. edits_fit fr
 pub are_replicas : (archive first second : Listing Stamp) (rules : List Rule) (a b : Listing (List ℕ)) → at first ≡ print_of (at a) → at second ≡ print_of (at b)
     → AreReplicas (listed_snapshot archive first second rules) (at a) (at b)
 are_replicas archive first second rules a b of_a of_b = record { first = sym of_a; second = sym of_b }
+
+-- ---- one part of the entries after another
+
+-- what two lists of entries leave, one after the other
+pub left_joined : {F : Type 0} (puts : Reason → Path → Option (Path → Content F)) (t : Path → Content F) (xs ys : List Entry)
+    → left_by puts t (xs ++ ys) ≡ left_by puts (left_by puts t xs) ys
+left_joined puts t [] ys = refl
+left_joined puts t (x ∷ xs) ys = left_joined puts (with_put t x.path (puts x.reason x.path)) xs ys
+
+-- what holds of each of two lists holds of each of the first one
+of_first : {A : Type 0} (P : A → Type 0) (xs ys : List A) → AllByRecursion P (xs ++ ys) → AllByRecursion P xs
+of_first P [] ys all = tt
+of_first P (x ∷ xs) ys all = (all.0, of_first P xs ys all.1)
+
+first_part : {F : Type 0} (p : Path) (put : Option (Path → Content F)) (xs ys : List Entry) → ComesFirst p put (xs ++ ys) → ComesFirst p put xs
+first_part p None xs ys first = tt
+first_part p (Some content) xs ys first = (
+  of_first (λ (later : Entry). IsBefore p later.path) xs ys first.0,
+  λ rest there. of_first (λ (later : Entry). IsBefore (p ++ rest) later.path) xs ys (first.1 rest there),
+)
+
+-- the entries of the first part may follow
+pub follow_first : {F : Type 0} (puts : Reason → Path → Option (Path → Content F)) (t : Path → Content F) (xs ys : List Entry)
+    → MayFollow puts t (xs ++ ys) → MayFollow puts t xs
+follow_first puts t [] ys may = tt
+follow_first puts t (x ∷ xs) ys may =
+    (may.0, first_part x.path (puts x.reason x.path) xs ys may.1, follow_first puts (with_put t x.path (puts x.reason x.path)) xs ys may.2)
+
+-- and then those of the second part
+pub follow_second : {F : Type 0} (puts : Reason → Path → Option (Path → Content F)) (t : Path → Content F) (xs ys : List Entry)
+    → MayFollow puts t (xs ++ ys) → MayFollow puts (left_by puts t xs) ys
+follow_second puts t [] ys may = may
+follow_second puts t (x ∷ xs) ys may = follow_second puts (with_put t x.path (puts x.reason x.path)) xs ys may.2

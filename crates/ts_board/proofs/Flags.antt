@@ -1,5 +1,6 @@
 -- The loops over actions and entries: which entries are flagged, and the edits of those.
-use Rattle.std.proofs.Common.{◌≡◌, ◌≢◌, ℕ, zero, suc, ◌+◌, ◌*◌, ◌<◌, ◌≤◌, bit_and, Bool, true, false, cond, List, [], ◌∷◌, ◌++◌, length, drop, get_or, replicate, Option, Some, None, sym, refl, ap, ◌∙◌, subst, inl, inr, append_assoc, append-nil, drop-cons, arith}
+use Rattle.std.proofs.Common.{◌≡◌, ◌≢◌, ◌==◌, ℕ, zero, suc, ◌+◌, ◌*◌, ◌<◌, ◌≤◌, bit_and, Bool, true, false, cond, List, [], ◌∷◌, ◌++◌, length, take, drop, get_or, replicate, Option, Some, None, sym, refl, ap, ◌∙◌, subst, inl, inr, append_assoc, append-nil, drop-cons, eqb-true, arith}
+use Rattle.std.proofs.lemmas.List.{nil_from_length}
 use Rattle.std.proofs.Math.ListN.{drop_of_length-le}
 use Rattle.std.specs.Int.{bit_at}
 use Rattle.std.proofs.lemmas.Nat.Bits.{and_pow, bit_at-lt}
@@ -14,7 +15,7 @@ use Rattle.ts_model.specs.declared.plan.Kind.TheVariants.{Piece, Commit, Mark}
 use Rattle.ts_model.specs.declared.plan.Plan.{Plan}
 use Rattle.ts_table.specs.declared.splice.Edit.{Edit}
 use Rattle.ts_laws.proofs.Steps.{same_kind}
-use Rattle.ts_board.specs.Edits.{Gives, AreEdits}
+use Rattle.ts_board.specs.Edits.{Gives, AreEdits, left_by}
 use Rattle.ts_board.proofs.Edits.{push_edit}
 use Rattle.ts_board.specs.Archives.{IsDone, picked}
 
@@ -28,6 +29,11 @@ marked_entry (Piece e offset size p) = 0
 
 one_entry : (plan : Plan) (n d e : ℕ) → KindIs plan n (Mark d) → KindIs plan n (Mark e) → d ≡ e
 one_entry plan n d e x y = ap marked_entry (same_kind plan n (Mark d) (Mark e) x y)
+
+-- without flags none is picked
+none_picked : (entries : List Entry) → picked entries [] ≡ []
+none_picked [] = refl
+none_picked (entry ∷ entries) = refl
 
 -- ---- edits
 
@@ -67,6 +73,31 @@ module _ {F : Type 0} (puts : Reason → Path → Option (Path → Content F)) (
   all_picked i edits past so_far =
       subst (λ es. AreEdits puts (picked entries flags) es) (append-nil edits)
       (so_far [] (subst (λ rest. AreEdits {F = F} puts (picked rest (drop i flags)) []) (sym (drop_of_length-le entries past)) refl))
+
+-- those that are picked of a list are those of its first part, and then those of its rest
+pub picked_joined : (n : ℕ) (entries : List Entry) (flags : List Bool)
+    → picked entries flags ≡ picked (take n entries) (take n flags) ++ picked (drop n entries) (drop n flags)
+picked_joined zero entries flags = refl
+picked_joined (suc n) [] flags = refl
+picked_joined (suc n) (entry ∷ entries) [] = sym (none_picked (drop n entries))
+picked_joined (suc n) (entry ∷ entries) (flag ∷ flags) = go flag (picked_joined n entries flags)
+  where
+    go : (b : Bool) → picked entries flags ≡ picked (take n entries) (take n flags) ++ picked (drop n entries) (drop n flags)
+        → cond b (entry ∷ picked entries flags) (picked entries flags)
+        ≡ cond b (entry ∷ picked (take n entries) (take n flags)) (picked (take n entries) (take n flags)) ++ picked (drop n entries) (drop n flags)
+    go true same = ap (λ z. entry ∷ z) same
+    go false same = same
+
+-- the same, of a list that was split
+pub parts_picked : (n : ℕ) (entries front back : List Entry) (flags front_flags back_flags : List Bool) → front ≡ take n entries → back ≡ drop n entries
+    → front_flags ≡ take n flags → back_flags ≡ drop n flags → picked entries flags ≡ picked front front_flags ++ picked back back_flags
+parts_picked n entries front back flags front_flags back_flags a b c d =
+    picked_joined n entries flags ∙ (λ k. picked (sym a k) (sym c k) ++ picked (sym b k) (sym d k))
+
+-- where no entry is left, none is picked
+pub nothing_left : {F : Type 0} (puts : Reason → Path → Option (Path → Content F)) (t : Path → Content F) (entries : List Entry) (flags : List Bool) (b : Bool)
+    → b ≡ (length entries == 0) → b ≡ true → left_by puts t (picked entries flags) ≡ t
+nothing_left puts t entries flags b is empty = ap (λ es. left_by puts t (picked es flags)) (nil_from_length entries (eqb-true (length entries) 0 (sym is ∙ empty)))
 
 -- ---- the bit of a done action
 

@@ -1,5 +1,5 @@
 //! The archive that a closed board leaves, and what flags of entries put into an archive.
-ghost use Rattle.std.specs.Prelude.{ℕ, List, ◌≡◌, ◌<◌, ◌≤◌, IfOk, IfSome, IfNone, length, slice_index};
+ghost use Rattle.std.specs.Prelude.{ℕ, List, ◌≡◌, ◌<◌, ◌≤◌, IfOk, IfSome, IfNone, OnOk, length, slice_index};
 ghost use Rattle.std.specs.Mem.Slots.{slots_items, slots_len};
 ghost use Rattle.ts_board.specs.Archives.{AreMarked, AreOfPart, ArchiveOf, HasEnded, IsDone, LeftArchive, picked};
 ghost use Rattle.ts_board.specs.Edits.{AreEdits, MayFollow, left_by, marks};
@@ -18,9 +18,15 @@ use ts_print::{Print, PrintFault};
 use ts_site::Site;
 use ts_table::Edit;
 
+/// Into how many blocks the entries are cut at most, but for a rest.
+const BLOCKS: usize = 8;
+
+/// How many entries a block has at least, where there are as many.
+const LEAST_IN_BLOCK: usize = 16_384;
+
 impl<S: Site> Closed<S> {
     /// The archive that the plan was checked against, with the mark of each action that is done: the archive after the run
-    /// that left the words. All marks are made in one pass over the entries, which ascend by path.
+    /// that left the words. Marks are made in the order of the entries, which ascend by path.
     ///
     /// # Errors
     ///
@@ -93,7 +99,8 @@ pub(crate) fn flagged_archive(
     with_marks(alloc, entries, flags, archive, first, second)
 }
 
-/// The archive with the marks of the entries that are flagged, in one pass.
+/// The archive with the marks of the entries that are flagged. They are made a block of entries at a time, so that few are laid out
+/// at once, and in few blocks, since each block goes over the whole archive.
 fn with_marks(
     alloc: Global,
     entries: &[Entry],
@@ -106,12 +113,36 @@ fn with_marks(
     requires count { length flags.now ≡ length entries.now }
     ensures { IfOk result (λ print. at print ≡ left_by (marks (at first.now) (at second.now)) (at archive.now) (picked entries.now flags.now)) }
 {
+    let mut print = archive.copy(alloc)?;
+    let block = (entries.len() / BLOCKS).max(LEAST_IN_BLOCK);
+    let (mut rest, mut rest_flags) = (entries, flags);
+    while !rest.is_empty() {
+        let count = block.min(rest.len());
+        let (now, later) = rest.split_at(count);
+        let (now_flags, later_flags) = rest_flags.split_at(count);
+        add_marks(alloc, &mut print, now, now_flags, first, second)?;
+        rest = later;
+        rest_flags = later_flags;
+    }
+    Ok(print)
+}
+
+/// Makes the marks of the entries that are flagged, in one pass.
+fn add_marks(
+    alloc: Global,
+    print: &mut Print,
+    entries: &[Entry],
+    flags: &[bool],
+    first: &Print,
+    second: &Print,
+) -> Result<(), AllocError>
+    requires follow { MayFollow (marks (at first.now) (at second.now)) (at print.old) (picked entries.now flags.now) }
+    requires count { length flags.now ≡ length entries.now }
+    ensures { OnOk result (at print.new ≡ left_by (marks (at first.now) (at second.now)) (at print.old) (picked entries.now flags.now)) }
+{
     let edits = mark_edits(alloc, entries, flags, first, second)?;
-    let Ok(mut print) = archive.copy(alloc) else {
-        return Err(AllocError);
-    };
     match print.splice(alloc, edits) {
-        Ok(()) => Ok(print),
+        Ok(()) => Ok(()),
         Err(PrintFault::TooLong) => unreachable!(),
         Err(_) => Err(AllocError),
     }

@@ -1,28 +1,38 @@
-use Rattle.std.proofs.Common.{Err, sym, ap, ◌∙◌, subst}
+use Rattle.std.proofs.Common.{◌≡◌, ◌++◌, List, Bool, length, sym, ap, ◌∙◌, subst, arith}
 use Rattle.ts_model.specs.Trees.{at}
-use Rattle.ts_table.specs.Splices.{ArePlaces}
-use Rattle.ts_board.specs.Edits.{left_by, marks}
-use Rattle.ts_board.proofs.Edits.{edits_leave, edits_order, edits_paths, edits_places}
+use Rattle.ts_model.specs.declared.plan.Entry.{Entry}
+use Rattle.ts_board.specs.Edits.{MayFollow, left_by, marks}
+use Rattle.ts_board.proofs.Edits.{follow_first, follow_second, left_joined}
+use Rattle.ts_board.proofs.Flags.{nothing_left, parts_picked}
 use Rattle.ts_board.specs.Archives.{picked}
 use Rattle.ts_board.proofs.archive.with_marks.Goals as goal
 
-pub splice-requires-clause-places : goal.splice-requires-clause-places
-splice-requires-clause-places c =
+pub add_marks-requires-clause-follow : goal.add_marks-requires-clause-follow
+add_marks-requires-clause-follow c =
     let puts = marks (at c.args.first.now) (at c.args.second.now) in
-    let chosen = picked c.args.entries.now c.args.flags.now in
-    subst (λ t. ArePlaces t c.in_ok-edits.edits.items) (sym (ap at c.in-Ok.ensures)) (edits_places puts chosen (at c.args.archive.now) c.in_ok-edits.edits.items c.requires.follow c.in_ok-edits.ensures)
+    let parts = parts_picked c.min-count.result c.loop-rest.rest.now c.split_at.result.0.now c.split_at.result.1.now
+    c.loop-rest.rest_flags.now c.split_at-in-loop-rest.result.0.now c.split_at-in-loop-rest.result.1.now
+    c.split_at.ensures.front c.split_at.ensures.back c.split_at-in-loop-rest.ensures.front c.split_at-in-loop-rest.ensures.back in
+    follow_first puts (at c.loop-rest.print) (picked c.split_at.result.0.now c.split_at-in-loop-rest.result.0.now) (picked c.split_at.result.1.now c.split_at-in-loop-rest.result.1.now)
+    (subst (λ (es : List Entry). MayFollow puts (at c.loop-rest.print) es) parts c.loop-rest.invariant.follow)
 
-pub splice-requires-clause-order : goal.splice-requires-clause-order
-splice-requires-clause-order c =
-    edits_order (marks (at c.args.first.now) (at c.args.second.now)) (picked c.args.entries.now c.args.flags.now) (at c.args.archive.now) c.in_ok-edits.edits.items c.requires.follow c.in_ok-edits.ensures
-
-pub unreachable-requires : goal.unreachable-requires
-unreachable-requires c =
-    c.splice.ensures.too_long (c.in-Err-TooLong.is ∙ ap Err c.in-Err-TooLong.field-0-is)
-    (edits_paths (marks (at c.args.first.now) (at c.args.second.now)) (picked c.args.entries.now c.args.flags.now) c.in_ok-edits.edits.items c.in_ok-edits.ensures)
-
-pub returns-in-Ok-splice : goal.returns-in-Ok-splice
-returns-in-Ok-splice c =
+pub loop-rest-preserved : goal.loop-rest-preserved
+loop-rest-preserved c =
     let puts = marks (at c.args.first.now) (at c.args.second.now) in
-    let chosen = picked c.args.entries.now c.args.flags.now in
-    c.in-Ok-splice.ensures.ok ∙ edits_leave puts chosen (at c.in-Ok.print) c.in_ok-edits.edits.items c.in_ok-edits.ensures ∙ ap (λ t. left_by puts t chosen) (ap at c.in-Ok.ensures)
+    let front = picked c.split_at.result.0.now c.split_at-in-loop-rest.result.0.now in
+    let back = picked c.split_at.result.1.now c.split_at-in-loop-rest.result.1.now in
+    let parts = parts_picked c.min-count.result c.loop-rest.rest.now c.split_at.result.0.now c.split_at.result.1.now
+    c.loop-rest.rest_flags.now c.split_at-in-loop-rest.result.0.now c.split_at-in-loop-rest.result.1.now
+    c.split_at.ensures.front c.split_at.ensures.back c.split_at-in-loop-rest.ensures.front c.split_at-in-loop-rest.ensures.back in
+    record {
+      follow = subst (λ t. MayFollow puts t back) (sym c.in_ok-add_marks.ensures)
+          (follow_second puts (at c.loop-rest.print) front back (subst (λ (es : List Entry). MayFollow puts (at c.loop-rest.print) es) parts c.loop-rest.invariant.follow));
+      count = omega (arith, c.split_at.ensures.back_len, c.split_at-in-loop-rest.ensures.back_len, c.loop-rest.invariant.count);
+      leaves = ap (λ t. left_by puts t back) c.in_ok-add_marks.ensures ∙ sym (left_joined puts (at c.loop-rest.print) front back)
+          ∙ ap (λ (es : List Entry). left_by puts (at c.loop-rest.print) es) (sym parts) ∙ c.loop-rest.invariant.leaves;
+    }
+
+pub returns : goal.returns
+returns c =
+    let puts = marks (at c.args.first.now) (at c.args.second.now) in
+    sym (nothing_left puts (at c.loop-rest.print) c.loop-rest.rest.now c.loop-rest.rest_flags.now c.is_empty.result c.is_empty.ensures c.loop-rest-test.false) ∙ c.loop-rest.invariant.leaves
