@@ -309,19 +309,17 @@ where
     ensures wide { IfOk result.0 (λ o. HasPlaces o.closed (length checked.now.plan.actions)) }
     ensures back { IfErr result.0 (λ refused. (refused.0.items ≡ sites.items) × (result.1 ≡ keeping.keeper)) }
 {
-    let Ok(
-        Crew {
-            members,
-            queues,
-            mut shares,
-            unread,
-            faults,
-            results,
-        },
-    ) = Crew::gather(alloc, checked, workers)
-    else {
+    let Ok(crew) = Crew::gather(alloc, checked, workers) else {
         return (Err((sites, RunFault::OutOfMemory)), keeping.into_keeper());
     };
+    let Crew {
+        members,
+        queues,
+        mut shares,
+        unread,
+        faults,
+        results,
+    } = crew;
     let (board, pass) = match open_and_deal(rt, alloc, checked, sites, shares.as_mut_slice()) {
         Ok(opened) => opened,
         Err((sites, _)) => return (Err((sites, RunFault::OutOfMemory)), keeping.into_keeper()),
