@@ -41,6 +41,7 @@ text_calls/texts a_sink_takes_bytes: ts_text::Counted::write
 text_calls/texts gives_lines_in_any_pieces: ts_text::Lines::next
 text_calls/holds rules_are_taken_line_by_line: ts_hold::RuleReader::line
 text_calls/plans stops_at_the_limit_of_entries: ts_plan::PlanReader::line ts_plan::PlanReader::finish
+text_calls/plans plans_past_the_limit_of_predecessors_dont_fit: ts_model::Predecessors::push
 text_calls/swaps each_call_does_its_part: ts_swap::MemPlaces::present ts_swap::MemPlaces::write
 text_calls/swaps each_call_does_its_part: ts_swap::MemPlaces::rename ts_swap::MemPlaces::remove
 library_calls/tables copies_files: ts_table::Items::copy_file ts_table::Stamp::copy_file ts_table::u8::copy_file

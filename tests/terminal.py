@@ -23,10 +23,13 @@ def pieces(terminal):
         yield piece
 
 
-def run(words, stdout=None, env=None, shows_output=False):
-    """Runs a command with standard error on a terminal, or standard output. Returns its status, and what the terminal got."""
+def run(words, stdout=None, env=None, shows_output=False, shows_all=False):
+    """Runs a command with standard error on a terminal, or standard output, or both. Returns its status, and what the terminal
+    got."""
     ours, theirs = pty.openpty()
-    streams = {"stdout": theirs} if shows_output else {"stdout": stdout, "stderr": theirs}
+    streams = {"stdout": theirs if shows_output or shows_all else stdout}
+    if not shows_output:
+        streams["stderr"] = theirs
     child = subprocess.Popen(words, stdin=subprocess.DEVNULL, env=env, **streams)
     os.close(theirs)
     got = b"".join(pieces(ours))
