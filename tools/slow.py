@@ -6,9 +6,10 @@ took. Most of it goes into what a function borrows and drops (`Lts`): that grows
 end it, with all that their types are made of. What helps is a function of its own for what is done with such a value, or an
 `impl Drop` written out in the place of a derived one.
 
-usage: tools/slow.py CLONE CRATE [COUNT]
+usage: tools/slow.py CLONE CRATE [COUNT] [--test]
        checks the crate from nothing over the libraries that another clone has built, by one processor, and lists the COUNT
        slowest functions (30), with the share of it that went into each kind of module
+       --test checks its tests, too: a crate that has nothing else is empty without them
 """
 import collections
 import os
@@ -43,13 +44,16 @@ def summed(modules):
 
 
 def main(words):
+    flags = [it for it in words if it == "--test"]
+    words = [it for it in words if it not in flags]
     if len(words) not in (2, 3):
         print(__doc__, file=sys.stderr)
         return 2
     clone, crate, count = words[0], words[1], int(words[2]) if len(words) == 3 else 30
-    kept = f"{TOP}/out/kept/{crate}"
+    # (where check_over.py keeps what it has checked)
+    kept = f"{TOP}/out/kept/{crate}{'_tests' if flags else ''}"
     shutil.rmtree(kept, ignore_errors=True)
-    words = [f"{TOP}/tools/check_over.py", clone, crate, "--jobs", "1"]
+    words = [f"{TOP}/tools/check_over.py", clone, crate, "--jobs", "1", *flags]
     ran = subprocess.run(words, stdout=subprocess.PIPE, stderr=subprocess.STDOUT, text=True)
     if ran.returncode:
         print(ran.stdout, end="")
