@@ -44,22 +44,6 @@ def elsewhere(*words):
     return ran.returncode, ran.stdout, ran.stderr
 
 
-def left_of(got):
-    """Returns the lines that are left on a terminal, without spaces at their ends."""
-    lines, row, at = [], [], 0
-    for byte in got:
-        if byte == 10:
-            lines.append(bytes(row).rstrip(b" "))
-            row, at = [], 0
-        elif byte == 13:
-            at = 0
-        else:
-            row[at : at + 1] = [byte]
-            at += 1
-    last = bytes(row).rstrip(b" ")
-    return b"\n".join([*lines, last])
-
-
 def drawn_in(got):
     """Returns the lines that were drawn over one another, each without spaces at its end, and the columns that the widest took."""
     # the first return begins a line, and what stands behind the last one wasn't drawn
@@ -112,7 +96,7 @@ def look_at_rest(name, words, prepare=lambda: None):
     other_status, other_printed, said = elsewhere(*words, "--explain")
     hold(f"{name}: the status is the same", None if status == other_status else f"{status} and {other_status}")
     hold(f"{name}: it prints the same", None if printed == other_printed else f"{printed[-200:]} and {other_printed[-200:]}")
-    left = left_of(got)
+    left = terminal.left_of(got)
     hold(f"{name}: what was drawn is gone", None if left == said else f"{left!r} is left, and {said!r} was said")
     prepare()
     quiet_status, quiet_printed, quiet_got = on_terminal([*words, "--quiet"])
@@ -153,7 +137,7 @@ def scans():
     hold("the last write erases it", None if got.endswith(b" \r") else repr(got[-100:]))
     narrow = on_terminal(["scan", "large", "--workers", "1"], columns=24)[2]
     look_at_lines("a scan on a narrow terminal", narrow, columns=23)
-    hold("nothing is left of it", left_of(narrow) and repr(left_of(narrow)))
+    hold("nothing is left of it", terminal.left_of(narrow) and repr(terminal.left_of(narrow)))
     os.mkdir("large/z")
     os.mkfifo("large/z/pipe")
     got = look_at_rest("a scan that fails", ["scan", "large", "--workers", "1"])

@@ -12,7 +12,7 @@ import subprocess
 import sys
 
 from runs import hold, write_counts
-from terminal import run
+from terminal import left_of, run
 
 BLOCK = re.compile(r"(?ms)^```text\n(\$ .*?)^```$")
 
@@ -64,9 +64,9 @@ def commands_of(block):
 
 
 def printed_by(command):
-    """Returns what a command prints on a terminal that is 80 columns wide."""
+    """Returns what is left of a command on a terminal that is 80 columns wide: a progress line may have been drawn meanwhile."""
     _, got = run(["bash", "-c", command], shows_all=True)
-    return got.decode().replace("\r\n", "\n")
+    return left_of(got).decode()
 
 
 def difference(command, shown):

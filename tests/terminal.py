@@ -37,6 +37,23 @@ def run(words, stdout=None, env=None, shows_output=False, shows_all=False):
     return child.wait(), got
 
 
+def left_of(got):
+    """Returns the lines that are left on a terminal, without spaces at their ends. A carriage return goes back to the line's first
+    column, and characters stand over those before."""
+    lines, row, at = [], [], 0
+    for byte in got:
+        if byte == 10:
+            lines.append(bytes(row).rstrip(b" "))
+            row, at = [], 0
+        elif byte == 13:
+            at = 0
+        else:
+            row[at : at + 1] = [byte]
+            at += 1
+    last = bytes(row).rstrip(b" ")
+    return b"\n".join([*lines, last])
+
+
 if __name__ == "__main__":
     words = sys.argv[1:]
     shows_output = words[:1] == ["--stdout"]
