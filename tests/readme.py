@@ -1,4 +1,3 @@
-#!/usr/bin/env python3
 """Goes through README's tour as a new user would: runs each command that stands there after `$ `, in the order of the page, on a
 terminal without colours, and compares what is printed with what the page shows. What the page only tells, such as that a file was
 changed in both folders, is done before the block that follows it.
