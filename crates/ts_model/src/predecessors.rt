@@ -4,9 +4,9 @@ ghost use Rattle.std.specs.Prelude.{◌≡◌, ◌++◌, ◌∷◌, [], IfOk, On
 use std::alloc::{AllocError, Global};
 use std::marker::Model;
 
-/// How numbers are kept.
+/// Numbers, by how many there are.
 #[derive(Drop)]
-pub(crate) enum Kept {
+pub(crate) enum Numbers {
     Nothing,
     One([u32; 1]),
     /// Elsewhere, so that an action stays small.
@@ -17,7 +17,7 @@ pub(crate) enum Kept {
 /// take no memory of their own.
 #[derive(Drop)]
 pub struct Predecessors {
-    pub(crate) kept: Kept,
+    pub(crate) numbers: Numbers,
 }
 
 impl Model for Predecessors {
@@ -27,7 +27,7 @@ impl Model for Predecessors {
 
     ghost use Rattle.ts_model.specs.Predecessors.{numbers_in};
 
-    ghost view = { λ s. numbers_in s.kept };
+    ghost view = { λ s. numbers_in s.numbers };
 }
 
 impl Predecessors {
@@ -36,20 +36,20 @@ impl Predecessors {
         ensures { result ≡ [] }
     {
         Predecessors {
-            kept: Kept::Nothing,
+            numbers: Numbers::Nothing,
         }
     }
 
-    /// These numbers.
+    /// These numbers. From two on they need a box of their own: `AllocError` where memory runs out for it.
     pub fn of(alloc: Global, numbers: Vec<u32>) -> Result<Predecessors, AllocError>
         ensures { IfOk result (λ made. made ≡ numbers.items) }
     {
-        let kept = match numbers.as_slice() {
-            [] => Kept::Nothing,
-            [only] => Kept::One([*only]),
-            _ => Kept::More(Box::new(alloc, numbers)?),
+        let numbers = match numbers.as_slice() {
+            [] => Numbers::Nothing,
+            [only] => Numbers::One([*only]),
+            _ => Numbers::More(Box::new(alloc, numbers)?),
         };
-        Ok(Predecessors { kept })
+        Ok(Predecessors { numbers })
     }
 
     /// Adds a number at the end. Where memory runs out nothing changes.
@@ -57,14 +57,14 @@ impl Predecessors {
         ensures ok { OnOk result (self.new ≡ self.old ++ number ∷ []) }
         ensures err { OnErr result (self.new ≡ self.old) }
     {
-        match &mut self.kept {
-            Kept::Nothing => self.kept = Kept::One([number]),
-            Kept::One(one) => {
+        match &mut self.numbers {
+            Numbers::Nothing => self.numbers = Numbers::One([number]),
+            Numbers::One(one) => {
                 let both = [one[0], number];
                 let numbers = Vec::from_slice(alloc, both.as_slice())?;
-                self.kept = Kept::More(Box::new(alloc, numbers)?);
+                self.numbers = Numbers::More(Box::new(alloc, numbers)?);
             }
-            Kept::More(numbers) => numbers.push(number)?,
+            Numbers::More(numbers) => numbers.push(number)?,
         }
         Ok(())
     }
@@ -73,10 +73,10 @@ impl Predecessors {
     pub fn as_slice(&self) -> &[u32]
         ensures { result.now ≡ self.now }
     {
-        match &self.kept {
-            Kept::Nothing => &[],
-            Kept::One(one) => one.as_slice(),
-            Kept::More(numbers) => numbers.as_slice(),
+        match &self.numbers {
+            Numbers::Nothing => &[],
+            Numbers::One(one) => one.as_slice(),
+            Numbers::More(numbers) => numbers.as_slice(),
         }
     }
 }
