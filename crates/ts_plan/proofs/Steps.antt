@@ -8,8 +8,6 @@ use Rattle.ts_model.specs.declared.plan.Action.{Action}
 use Rattle.std.specs.List.{AllByRecursion}
 use Rattle.ts_model.specs.Texts.{KindFits}
 use Rattle.ts_name.proofs.Utf8.{all_append, all_parts}
-use Rattle.ts_plan.specs.declared.text.OpenAction.{OpenAction}
-use Rattle.ts_plan.specs.Readers.{open_action}
 use Rattle.ts_plan.specs.Reading.{IsProgress}
 use Rattle.ts_plan.specs.Progress.{Progress, all_actions, plan_of, step, step_in}
 use Rattle.ts_plan.specs.declared.progress.Part.TheVariants.{Start, Body}
@@ -45,14 +43,14 @@ past_pred p a j body last full =
     )
 
 -- no action is open
-pub none_open : (o : Option OpenAction) → is_some o ≡ false → open_action o ≡ None
+pub none_open : (o : Option Action) → is_some o ≡ false → o ≡ None
 none_open None e = refl
 none_open (Some a) e = absurd cc
 
 -- an action is open
-pub some_open : (o : Option OpenAction) → is_some o ≡ true → (a : Action) × (open_action o ≡ Some a)
+pub some_open : (o : Option Action) → is_some o ≡ true → (a : Action) × (o ≡ Some a)
 some_open None e = absurd cc
-some_open (Some a) e = (record { kind = a.kind; preds = a.preds }, refl)
+some_open (Some a) e = (a, refl)
 
 -- the last action with one predecessor more
 pub pred_progress : (p : Progress) (a : Action) (preds : List ℕ) (j n : ℕ) → IsProgress p → p.part ≡ Body → p.last ≡ Some a → preds ≡ a.preds ++ j ∷ [] → j < 2 ^ 32

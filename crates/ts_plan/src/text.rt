@@ -16,20 +16,14 @@ use ts_model::items::Items;
 use ts_model::plan::{ACTION_LIMIT, Action, ENTRY_LIMIT, Entry, Kind, PRED_LIMIT, Plan};
 use ts_model::predecessors::Predecessors;
 
-/// An action whose predecessors are being read.
-#[derive(Drop)]
-pub(crate) struct OpenAction {
-    kind: Kind,
-    preds: Predecessors,
-}
-
 /// Reads the lines of a plan's text, one after another.
 pub struct PlanReader {
     alloc: Global,
     part: Part,
     entries: Vec<Entry>,
     actions: Vec<Action>,
-    last: Option<OpenAction>,
+    // the action whose predecessors are being read
+    last: Option<Action>,
     pred_count: usize,
 }
 
@@ -111,8 +105,8 @@ impl PlanReader {
             last,
             pred_count: _,
         } = self;
-        if let Some(OpenAction { kind, preds }) = last {
-            actions.push(Action { kind, preds })?;
+        if let Some(action) = last {
+            actions.push(action)?;
         }
         let entries = Items::new(entries);
         let actions = Items::new(actions);
@@ -159,14 +153,13 @@ impl PlanReader {
         if self.action_count() >= ACTION_LIMIT {
             return Err(PlanFault::PastLimit);
         }
-        let opened = OpenAction {
+        let opened = Action {
             kind,
             preds: Predecessors::none(),
         };
         self.actions.reserve(1)?;
         if let Some(done) = self.last.replace(opened) {
-            let OpenAction { kind, preds } = done;
-            self.actions.push(Action { kind, preds })?;
+            self.actions.push(done)?;
         }
         Ok(())
     }
@@ -182,9 +175,9 @@ impl PlanReader {
             return Err(PlanFault::PastLimit);
         }
         match self.last.take() {
-            Some(OpenAction { kind, mut preds }) => {
+            Some(Action { kind, mut preds }) => {
                 let pushed = preds.push(self.alloc, number);
-                self.last = Some(OpenAction { kind, preds });
+                self.last = Some(Action { kind, preds });
                 pushed?;
                 self.pred_count += 1;
                 Ok(())

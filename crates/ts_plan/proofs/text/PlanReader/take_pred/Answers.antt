@@ -1,7 +1,7 @@
 use Rattle.std.proofs.Common.{◌≤◌, not, length, sum_by, refl, sym, ap, ◌∙◌, arith}
 use Rattle.ts_model.specs.declared.plan.Action.{Action}
 use Rattle.ts_plan.specs.Progress.{all_actions}
-use Rattle.ts_plan.specs.Readers.{open_action, progress}
+use Rattle.ts_plan.specs.Readers.{progress}
 use Rattle.ts_plan.proofs.Steps.{some_open, past_pred, pred_progress}
 use Rattle.ts_plan.proofs.text.PlanReader.take_pred.Goals as goal
 
@@ -15,7 +15,7 @@ returns-then-self-ge-PRED_LIMIT c =
 pub invariant_of-self-in-Some : goal.invariant_of-self-in-Some
 invariant_of-self-in-Some c =
     let taken = c.in-Some.field-0 in
-    let last = ap open_action (sym c.take.ensures.value ∙ c.in-Some.is) in
+    let last = sym c.take.ensures.value ∙ c.in-Some.is in
     let body = ap (λ v. v.part) c.self.view_is ∙ c.requires.body in
     pred_progress (progress c.self.inside) (record { kind = taken.kind; preds = taken.preds }) c.push-pushed.new.self c.args.number c.self.inside.pred_count
     c.self.invariant.0 body last c.in_ok-pushed-in-Some.ensures.ok (omega arith) c.self.invariant.1 (omega (arith, c.if-self-ge-PRED_LIMIT.false))
