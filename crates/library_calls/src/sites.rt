@@ -178,6 +178,23 @@ fn fails_when_told(rt: HostRuntime) {
     assert!(rt; put_four_times(rt.alloc()) == Some(([0, 8, 15, 0], true)));
 }
 
+/// The numbers of the faults of two commits to a site in a box, at the first of which the device fails, and whether the last one's
+/// bytes are there.
+fn put_in_a_box(alloc: Global) -> Option<(u8, u8, bool)> {
+    let fails = vec![in alloc; true].ok()?;
+    let site = FaultySite::new(file_of(alloc, b"old")?, fails);
+    let mut site = Box::new(alloc, site).ok()?;
+    let first = commit(alloc, &mut site, b"old", b"new", b"new")?;
+    let second = commit(alloc, &mut site, b"old", b"new", b"new")?;
+    let is_new = is_file(alloc, &Box::into_inner(site).into_content(), b"new");
+    Some((first, second, is_new))
+}
+
+#[test]
+fn commits_to_a_site_in_a_box(rt: HostRuntime) {
+    assert!(rt; put_in_a_box(rt.alloc()) == Some((8, 0, true)));
+}
+
 #[test]
 fn numbers_faults(rt: HostRuntime) {
     assert!(rt; SiteFault::OutOfMemory.number() == 1);

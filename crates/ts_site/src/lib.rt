@@ -1,6 +1,7 @@
 //! Sites: the places of a replica where commits put what was staged.
 #![tactic(auto)]
 
+mod boxed;
 mod fault;
 mod faulty;
 mod memory;
