@@ -55,7 +55,7 @@ abbrev pub work_in : {S : Type 0} → Slot S → Work
 work_in Empty = Marked
 work_in (Place site) = Marked
 work_in (Committed site staged) = Put staged.value.made
-work_in (Bytes piece) = Staged piece.bytes
+work_in (Bytes piece) = Staged piece.value.bytes
 
 -- what a site tells after its commit: a site that told nothing still doesn't
 abbrev pub told_after : Option (Listing (List ℕ)) → Listing (List ℕ) → Option (Listing (List ℕ))

@@ -61,13 +61,13 @@ impl<S: Site> Held<S> {
         self.action
     }
 
-    /// The act of a piece: it has staged this.
-    pub fn stage(&mut self, piece: Piece)
+    /// The act of a piece: it has staged what is in this box. It takes no memory.
+    pub fn stage(&mut self, piece: Box<Piece>)
         requires acted { self.old.acted ≡ false }
         requires site { has_site self.old.slot ≡ false }
         ensures action { self.new.action ≡ self.old.action }
         ensures acted { self.new.acted ≡ true }
-        ensures work { work_in self.new.slot ≡ work.Staged piece.bytes }
+        ensures work { work_in self.new.slot ≡ work.Staged piece.value.bytes }
         ensures told { (t : Terms) → IsTold S.content t self.old.action self.old.slot → IsTold S.content t self.new.action self.new.slot }
     {
         self.slot = Slot::Bytes(piece);

@@ -97,7 +97,7 @@ impl<S: Site> Board<S> {
         ensures held { held.new ≡ held.old }
     {
         match self.take_out::<Brand>(pass, held.action, k) {
-            Slot::Bytes(piece) => piece,
+            Slot::Bytes(piece) => Box::into_inner(piece),
             _ => unreachable!(),
         }
     }

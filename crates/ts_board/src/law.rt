@@ -14,12 +14,13 @@ use ts_site::Site;
 use ts_stage::{Piece, Staged};
 
 /// What lies in the slot of an action: the site of a commit, after its act with what it has put in place, or what a piece staged.
+/// Each action has one, so it's small.
 #[derive(Drop)]
 pub enum Slot<S> {
     Empty,
     Place(S),
     Committed(S, Snapshot<Staged>),
-    Bytes(Piece),
+    Bytes(Box<Piece>),
 }
 
 impl<S: Drop> Slot<S> {
