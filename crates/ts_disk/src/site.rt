@@ -38,8 +38,7 @@ use ts_swap::{Places, Spot};
 pub struct DiskSite<R> {
     files: R,
     way: Arc<Way>,
-    // elsewhere, since each action of a plan has room for a site
-    path: Box<Path>,
+    path: Path,
     entry: u32,
     failures: u32,
     // why the commit failed last, as far as the system says
@@ -93,14 +92,13 @@ impl<R: Drop> DiskSite<R> {
         entry: u32,
     ) -> Result<DiskSite<R>, DiskFault>
         ensures way { IfOk result (λ site. arc_value site.way ≡ arc_value way.now) }
-        ensures entry { IfOk result (λ site. (site.path.value ≡ path.now) × (site.entry ≡ entry)) }
+        ensures entry { IfOk result (λ site. (site.path ≡ path.now) × (site.entry ≡ entry)) }
         ensures failures { IfOk result (λ site. (site.failures ≡ 0) × (site.cause ≡ Cause.Unknown)) }
         ensures fault { IfErr result (λ e. e ≡ DiskFault.OutOfMemory) }
     {
         let Ok(path) = path.copy(alloc) else {
             return Err(DiskFault::OutOfMemory);
         };
-        let path = Box::new(alloc, path)?;
         Ok(DiskSite {
             files,
             way: way.clone()?,
@@ -184,7 +182,7 @@ impl DiskSite<HostRuntime> {
     }
 
     fn places(&self, alloc: Global) -> Result<DiskPlaces<HostRuntime>, SiteFault>
-        ensures target { IfOk result (λ places. string_bytes places.at_target ≡ string_bytes (arc_value self.now.way).root ++ place_text self.now.path.value) }
+        ensures target { IfOk result (λ places. string_bytes places.at_target ≡ string_bytes (arc_value self.now.way).root ++ place_text self.now.path) }
         ensures new { IfOk result (λ places. string_bytes places.at_new ≡ string_bytes (arc_value self.now.way).root ++ codes "/.twosync/new-" ++ decimal self.now.entry) }
         ensures old { IfOk result (λ places. string_bytes places.at_old ≡ string_bytes (arc_value self.now.way).root ++ codes "/.twosync/old-" ++ decimal self.now.entry) }
         ensures misfit { IfErr result (λ e. e ≢ SiteFault.Misfit) }

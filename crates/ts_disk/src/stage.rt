@@ -18,7 +18,7 @@ use std::fs::{File, Files, OpenOptions};
 use std::io;
 use std::io::ErrorKind;
 use std::os::unix::fs::{FileExt, OpenOptionsExt};
-use std::sync::atomic::{AtomicU64, Ordering};
+use std::sync::atomic::{AtomicU32, Ordering};
 use ts_cause::{Cause, cause_of};
 use ts_check::Checked;
 use ts_model::items::Items;
@@ -37,9 +37,9 @@ pub struct DiskStage<R> {
     second: String,
     // At the number of a piece that begins a file, how many of the file's pieces aren't stored yet; 0 where it is the only one,
     // which nobody counts. At that of another piece the number of the one that begins its file, which stays.
-    waiting: Vec<AtomicU64>,
+    waiting: Vec<AtomicU32>,
     // for each entry 0, or by its number why its pieces aren't stored any more: whichever failure came first
-    failed: Vec<AtomicU64>,
+    failed: Vec<AtomicU32>,
 }
 
 /// Written out, so that a proof of what drops one stays short.
@@ -100,7 +100,7 @@ impl<R: Drop> DiskStage<R> {
     {
         let plan = checked.plan();
         let waiting = words(alloc, counts(alloc, checked)?.as_slice())?;
-        let none = vec![in alloc; 0u64; plan.entries.as_slice().len()]?;
+        let none = vec![in alloc; 0u32; plan.entries.as_slice().len()]?;
         let failed = words(alloc, none.as_slice())?;
         let first = String::from_str(alloc, first)?;
         let second = String::from_str(alloc, second)?;
@@ -278,7 +278,7 @@ impl<R: Files<File = File> + AllocGlobal + Clone + Drop + Sync> Stage for DiskSt
 }
 
 /// Takes one from a count, and answers whether it was the last.
-fn take_one(word: &AtomicU64) -> Turn {
+fn take_one(word: &AtomicU32) -> Turn {
     if word.fetch_sub(1, Ordering::SeqCst) == 1 {
         Turn::Last
     } else {
@@ -287,22 +287,22 @@ fn take_one(word: &AtomicU64) -> Turn {
 }
 
 /// The same numbers as words that threads share.
-fn words(alloc: Global, numbers: &[u64]) -> Result<Vec<AtomicU64>, AllocError>
+fn words(alloc: Global, numbers: &[u32]) -> Result<Vec<AtomicU32>, AllocError>
     ensures { IfOk result (λ words. length words.items ≡ length numbers.now) }
 {
     let mut words = Vec::with_capacity(alloc, numbers.len())?;
     for number in numbers {
-        words.push(AtomicU64::new(*number))?;
+        words.push(AtomicU32::new(*number))?;
     }
     Ok(words)
 }
 
 /// For each action what `waiting` begins with.
-fn counts(alloc: Global, checked: &Checked<'_>) -> Result<Vec<u64>, AllocError>
+fn counts(alloc: Global, checked: &Checked<'_>) -> Result<Vec<u32>, AllocError>
     ensures { IfOk result (λ counts. length counts.items ≡ length checked.now.plan.actions) }
 {
     let plan = checked.plan();
-    let mut counts = vec![in alloc; 0u64; plan.actions.as_slice().len()]?;
+    let mut counts = vec![in alloc; 0u32; plan.actions.as_slice().len()]?;
     for commit in 0..checked.action_count() {
         count_pieces(plan, checked.pieces(commit), counts.as_mut_slice());
     }
@@ -310,7 +310,7 @@ fn counts(alloc: Global, checked: &Checked<'_>) -> Result<Vec<u64>, AllocError>
 }
 
 /// Counts the pieces of a commit, which come by path and then by offset: each file's together, and the one that begins it first.
-fn count_pieces(plan: &Plan, pieces: &[u32], counts: &mut [u64])
+fn count_pieces(plan: &Plan, pieces: &[u32], counts: &mut [u32])
     ensures { length counts.new ≡ length counts.old }
 {
     let mut first = 0u32;
@@ -324,14 +324,14 @@ fn count_pieces(plan: &Plan, pieces: &[u32], counts: &mut [u64])
 }
 
 /// Counts a piece of the file that another piece begins.
-fn count_one(counts: &mut [u64], first: u32, piece: u32)
+fn count_one(counts: &mut [u32], first: u32, piece: u32)
     ensures { length counts.new ≡ length counts.old }
 {
     if let Some(word) = counts.get_mut(first as usize) {
         *word = (*word).saturating_add(1).max(2);
     }
     if let Some(word) = counts.get_mut(piece as usize) {
-        *word = u64::from(first);
+        *word = first;
     }
 }
 
@@ -447,7 +447,7 @@ fn failure_by(e: &io::Error) -> Failure {
 }
 
 /// The number by which a failure is noted.
-fn number_of(failure: Failure) -> u64
+fn number_of(failure: Failure) -> u32
     ensures { result ≡ failure_number failure }
 {
     match failure {
@@ -457,7 +457,7 @@ fn number_of(failure: Failure) -> u64
 }
 
 /// The failure that is noted by a number. None where none is.
-fn failure_of(number: u64) -> Option<Failure>
+fn failure_of(number: u32) -> Option<Failure>
     ensures { (failure : Failure) → number ≡ failure_number failure → result ≡ Some failure }
 {
     match number {
@@ -469,7 +469,7 @@ fn failure_of(number: u64) -> Option<Failure>
     }
 }
 
-fn number_of_cause(cause: Cause) -> u64
+fn number_of_cause(cause: Cause) -> u32
     ensures { result ≡ cause_number cause }
 {
     match cause {
@@ -495,7 +495,7 @@ fn number_of_cause(cause: Cause) -> u64
 }
 
 /// The cause that has a number.
-fn cause_of_number(number: u64) -> Cause
+fn cause_of_number(number: u32) -> Cause
     ensures { (cause : Cause) → number ≡ cause_number cause → result ≡ cause }
 {
     match number {
