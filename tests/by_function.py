@@ -304,13 +304,33 @@ def judge_by_functions(rt):
     rt.checked = checked
 
 
+def are_renamed(tries):
+    """Whether the last check found that rattle has no such name for a function that these edits change. It is checked with its
+    module from then on."""
+    unknown = UNKNOWN.search(LAST.said)
+    if not unknown or not any(unknown[1] in it.only for it in tries):
+        return False
+    for it in tries:
+        it.places = {place.without(unknown[1]) for place in it.places}
+    return True
+
+
+def checked_by_functions(rt, crate, tries, texts, flags, kept):
+    """Checks the functions that some edits change, with these texts, or returns None where only a whole check would tell."""
+    while paths := sorted({path for it in tries for path in it.only}):
+        ran = rt.checked(crate, texts, flags + only(paths), kept)
+        if not are_renamed(tries):
+            return ran
+    return None
+
+
 def try_together(rt, crate, tries, flags, kept):
     """Tries edits of different functions in one check. Those of which it says nothing are left without an answer."""
     texts = texts_of(crate, tries)
     if texts is None:
         return
-    paths = sorted({path for it in tries for path in it.only})
-    rt.checked(crate, texts, flags + only(paths), kept)
+    if checked_by_functions(rt, crate, tries, texts, flags, kept) is None:
+        return
     if not LAST.said.rstrip("\n").split("\n")[-1].startswith("only="):
         return
     goals = goals_in(crate, LAST.said)
@@ -322,8 +342,10 @@ def try_together(rt, crate, tries, flags, kept):
 def try_alone(rt, crate, it, flags, kept):
     """Tries an edit alone: by its functions over what was proved, and where they don't refuse it by a whole check from nothing."""
     is_refused, text = False, ""
-    if kept and it.only:
+    while kept and it.only:
         is_refused, text = must_fail(rt, crate, it.edit, flags + only(it.only), kept)
+        if not are_renamed([it]):
+            break
     if not is_refused:
         is_refused, text = must_fail(rt, crate, it.edit, flags, None)
     said = [(goal, line) for _, goal, line in goals_in(crate, LAST.said)]
@@ -337,25 +359,19 @@ def must_fail(rt, crate, edit, flags, kept):
 
 
 def is_proved_alone(rt, crate, tries, flags, kept):
-    """Whether the functions that some edits change are proved without any edit. A function that rattle has no such name for is
-    checked with its module from then on."""
-    while paths := sorted({path for it in tries for path in it.only}):
-        ran = rt.checked(crate, {}, flags + only(paths), kept)
-        unknown = UNKNOWN.search(ran.stdout)
-        if not unknown or unknown[1] not in paths:
-            return not ran.returncode
-        for it in tries:
-            it.places = {place.without(unknown[1]) for place in it.places}
-    return False
+    """Whether the functions that some edits change are proved without any edit."""
+    ran = checked_by_functions(rt, crate, tries, {}, flags, kept)
+    return ran is not None and not ran.returncode
 
 
-def try_all(rt, crate, edits, flags, until=None):
+def try_all(rt, crate, edits, flags, until=None, is_proved=False):
     """Tries a crate's edits, and returns for each whether it was refused, and what to say; or None where it wasn't begun by
-    the time `until`. What is said by functions counts only where the crate without any edit is proved over the same work."""
+    the time `until`. What is said by functions counts only where the crate without any edit is proved: by a check of these functions
+    that comes first, or where `is_proved` says that the whole crate was."""
     judge_by_functions(rt)
     tries = [Try(crate, edit) for edit in edits]
     with tempfile.TemporaryDirectory(prefix="rt-edits-") as kept:
-        is_sound = not is_over(until) and is_proved_alone(rt, crate, tries, flags, kept)
+        is_sound = not is_over(until) and (is_proved or is_proved_alone(rt, crate, tries, flags, kept))
         for part in rounds_of(tries) if is_sound else []:
             if len(part) > 1 and not is_over(until):
                 try_together(rt, crate, part, flags, kept)

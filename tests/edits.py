@@ -8,7 +8,7 @@ and what the kit was made from. While the digest stays the same the answer does 
 has a line for each kit that it was tried with, since machines have different ones. Only this program writes the record.
 
 usage: tests/edits.py                  tries the named edits, those that have no record, and ten of the others
-       tests/edits.py --after-ci       the same, over the libraries that `rt ci` has just left
+       tests/edits.py --after-ci       the same, right after `rt ci` has proved each crate, over the libraries that it left
        tests/edits.py --look           says which edits these are, and tries none
        tests/edits.py --try CRATE ..   tries all edits of these crates
        tests/edits.py --try-all        tries all edits, which takes hours
@@ -376,7 +376,8 @@ class Trial:
             return
         read = Digests(self.repository)
         before = {it.key: read.of_edit(it, crate) for it in edits}
-        answers = by_function.try_all(self.rt, crate, [it.file for it in edits], ["--jobs", "1"], self.until)
+        files, is_proved = [it.file for it in edits], self.repository.is_after_ci
+        answers = by_function.try_all(self.rt, crate, files, ["--jobs", "1"], self.until, is_proved)
         self.left += [edit.key for edit, answer in zip(edits, answers) if answer is None]
         after, seen, tried = Digests(self.repository), {}, []
         for edit, (is_refused, text) in ((edit, answer) for edit, answer in zip(edits, answers) if answer):

@@ -50,6 +50,8 @@ class World:
 
     def __init__(self, root):
         self.root, self.answers, self.asked, self.said = root, {}, [], ""
+        # for each edit that was asked, whether its crate was taken as proved
+        self.taken_as_proved = {}
         for name, text in FILES.items():
             self.put(name, text)
         self.git("init", "-q")
@@ -85,7 +87,7 @@ class World:
             with open(f"{crate.folder}/out/rlib/stamp", "w", encoding="utf-8") as it:
                 it.write(crate.stamp())
 
-    def prove(self, _rt, crate, files, flags, until=None):
+    def prove(self, _rt, crate, files, flags, until=None, is_proved=False):
         """Takes the place of try_all: an answer is a text, or a call that is made while the edit is tried."""
         found = []
         for file in files:
@@ -94,6 +96,7 @@ class World:
                 continue
             key = f"{crate.name}/{os.path.basename(file)}"
             self.asked.append(key)
+            self.taken_as_proved[key] = is_proved
             answer = self.answers.get(key, REFUSED)
             text = answer() if callable(answer) else answer
             found.append((text.startswith("refused"), f"must-fail {key}: {text}"))
@@ -384,7 +387,9 @@ def libraries_without_a_stamp_have_to_be_newer_than_their_sources(world):
         os.utime(f"{rlib}/format", (1, 1))
         # after `rt ci` its time says nothing; that a source was changed since does
         same((world.run("--try", "high", is_after_ci=True), calls), ((2, 0), []))
+        same(world.taken_as_proved, {it: True for it in ALL[:2]})
         same((world.run("--try", "high"), calls), ((2, 0), ["low"]))
+        same(world.taken_as_proved, {it: False for it in ALL[:2]})
         world.put("crates/low/src/lib.rt", "fn low() { 1; }\n")
         same((world.run("--try", "high", is_after_ci=True), calls), ((2, 0), ["low", "low"]))
     finally:
@@ -467,11 +472,12 @@ class Prover:
         status, *lines = self.verdicts.pop(0)
         return subprocess.CompletedProcess([], status, stdout="".join(f"{it}\n" for it in lines))
 
-    def answers(self, world, *edits):
+    def answers(self, world, *edits, is_proved=False):
         """Tries edits of the lowest crate, and returns which were refused."""
         was, RT.checked = RT.checked, self.checked
+        crate, files = RT.rtlib.crates_below(world.root)[0], [f"{world.root}/{it}.edit" for it in edits]
         try:
-            found = TRY_ALL(RT, RT.rtlib.crates_below(world.root)[0], [f"{world.root}/{it}.edit" for it in edits], [])
+            found = TRY_ALL(RT, crate, files, [], is_proved=is_proved)
         finally:
             RT.checked = was
         same(self.verdicts, [])
@@ -533,6 +539,25 @@ def a_function_of_another_name_is_checked_with_its_module(world):
     same((prover.answers(world, "a", "b"), prover.flags[2:]), ([True, True], [["m::one"], ["m::one"], []]))
     prover = Prover(no_method, no_module, NOT_PROVED)
     same((prover.answers(world, "b"), prover.flags[2:]), ([True], [[]]))
+
+
+def what_was_proved_is_not_checked_without_the_edits_again(world):
+    put_functions(world)
+    part, whole, unknown = ["m::one"], [], "rattle: error: `low` has no function `{}`: help: write the name that a check prints"
+    for verdicts, wanted, flags in [
+        ([failed(at(1, "returns"))], True, [part]),
+        ([PROVED, NOT_PROVED], True, [part, whole]),
+        ([PROVED, WHOLE], False, [part, whole]),
+    ]:
+        prover = Prover(*verdicts)
+        same((prover.answers(world, "a", is_proved=True), prover.flags), ([wanted], flags))
+    prover = Prover(failed(at(1, "returns"), at(7, "returns")))
+    same((prover.answers(world, "a", "b", is_proved=True), prover.flags), ([True, True], [["T::two", "m::one"]]))
+    # a function of another name is checked with its module, alone and with others
+    prover = Prover((2, unknown.format("T::two")), failed(at(7, "returns")))
+    same((prover.answers(world, "b", is_proved=True), prover.flags), ([True], [["T::two"], ["m"]]))
+    prover = Prover((2, unknown.format("T::two")), failed(at(1, "returns"), at(7, "returns")))
+    same((prover.answers(world, "a", "b", is_proved=True), prover.flags[1:]), ([True, True], [["m", "m::one"]]))
 
 
 def edits_of_different_functions_are_tried_in_one_check(world):
@@ -617,6 +642,7 @@ TESTS = [
     an_impl_is_named_as_rattle_names_it,
     a_function_is_checked_before_its_crate,
     a_function_of_another_name_is_checked_with_its_module,
+    what_was_proved_is_not_checked_without_the_edits_again,
     edits_of_different_functions_are_tried_in_one_check,
     an_edit_of_which_nothing_is_said_is_tried_alone,
     an_edit_has_to_break_what_it_says,
