@@ -18,7 +18,7 @@ use crate::fault::ActFault;
 use crate::gate::Gate;
 use crate::shared::Shared;
 use crate::stop::Stop;
-use std::alloc::Global;
+use std::alloc::{AllocError, Global};
 use ts_board::{Held, Pass};
 use ts_folder::Folder;
 use ts_model::plan::Kind;
@@ -88,6 +88,10 @@ where
         if bytes.len() as u64 != length {
             return Err(ActFault::Misfit);
         }
+        // before anything is stored, so that what is stored can be kept
+        let Ok(mut room) = room_for_a_piece(self.alloc) else {
+            return Err(ActFault::OutOfMemory);
+        };
         let copied = self.entry(entry);
         let piece = self.stage.store(
             self.alloc,
@@ -98,7 +102,8 @@ where
             offset,
             bytes,
         )?;
-        held.stage(piece);
+        let _no_bytes = Box::replace(&mut room, piece);
+        held.stage(room);
         Ok(())
     }
 
@@ -168,6 +173,11 @@ where
         };
         append(self.alloc, staged, path, *offset, piece)
     }
+}
+
+/// A box for what a piece stages, with no bytes yet.
+fn room_for_a_piece(alloc: Global) -> Result<Box<Piece>, AllocError> {
+    Ok(Box::new(alloc, Piece::held(Vec::new(alloc)))?)
 }
 
 /// Puts a piece at the end of a file that has `offset` bytes so far. Where it hasn't, the piece is left out, and the assembly

@@ -9,7 +9,7 @@ use std::alloc::{AllocError, Global};
 use ts_check::Checked;
 use ts_model::plan::{Action, Kind, PIECE_SIZE};
 
-/// How many hints a queue has room for at first.
+/// How many hints a queue has room for at first, at least.
 const FIRST_HINTS: usize = 64;
 
 /// How many small actions in a row are dealt to one share, and how many are taken from one before a look begins at the next. What
@@ -53,7 +53,7 @@ pub struct Member {
 pub struct Crew {
     pub members: Vec<Member>,
     pub queues: Vec<Queues>,
-    /// What is put into the queues of `dealt`: nothing so far.
+    /// By these, actions are dealt to the queues of `dealt`: none so far.
     pub shares: Vec<Worker<u32>>,
     /// The sweep's own hints, which nobody reads.
     pub unread: Worker<u32>,
@@ -63,19 +63,25 @@ pub struct Crew {
 }
 
 impl Crew {
-    /// A crew of so many workers, to whom nothing is dealt out yet.
-    pub fn gather(alloc: Global, checked: &Checked<'_>, workers: u32) -> Result<Crew, AllocError>
+    /// A crew of so many workers for a plan with so many commits. Nothing is dealt out yet.
+    pub fn gather(
+        alloc: Global,
+        checked: &Checked<'_>,
+        commits: usize,
+        workers: u32,
+    ) -> Result<Crew, AllocError>
         ensures workers { IfOk result (λ crew. (length crew.members.items ≡ workers) × (length crew.queues.items ≡ workers)) }
         ensures members { IfOk result (λ crew. AreFresh crew.members.items) }
         ensures faults { IfOk result (λ crew. length crew.faults.items ≡ length checked.now.plan.actions) }
         ensures results { IfOk result (λ crew. (crew.results.items ≡ []) × (length checked.now.plan.actions ≤ vec_capacity crew.results)) }
     {
         let actions = checked.action_count() as usize;
+        let room = room_in_a_share(commits, workers);
         let mut queues = Vec::with_capacity(alloc, workers as usize)?;
         let mut shares = Vec::with_capacity(alloc, workers as usize)?;
         let mut freed = Vec::with_capacity(alloc, workers as usize)?;
         for _ in 0..workers {
-            let share: Worker<u32> = Worker::new_fifo(alloc, FIRST_HINTS)?;
+            let share: Worker<u32> = Worker::new_fifo(alloc, room)?;
             let own: Worker<u32> = Worker::new_lifo(alloc, FIRST_HINTS)?;
             queues.push(Queues {
                 dealt: share.stealer()?,
@@ -93,6 +99,17 @@ impl Crew {
             results: Vec::with_capacity(alloc, actions)?,
         })
     }
+}
+
+/// How many hints a share has room for at first. Where small files are copied, as many actions wait for nothing as there are
+/// commits, and each worker's share has its part of them, in whole blocks. Where there are more, it grows.
+fn room_in_a_share(commits: usize, workers: u32) -> usize {
+    if workers == 0 {
+        return FIRST_HINTS;
+    }
+    let block = BLOCK as usize;
+    let blocks = commits.div_ceil(workers as usize * block);
+    FIRST_HINTS.max(blocks.saturating_mul(block))
 }
 
 /// A member for each queue of freed actions, with room for all failures.

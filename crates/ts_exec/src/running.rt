@@ -309,7 +309,7 @@ where
     ensures wide { IfOk result.0 (λ o. HasPlaces o.closed (length checked.now.plan.actions)) }
     ensures back { IfErr result.0 (λ refused. (refused.0.items ≡ sites.items) × (result.1 ≡ keeping.keeper)) }
 {
-    let Ok(crew) = Crew::gather(alloc, checked, workers) else {
+    let Ok(crew) = Crew::gather(alloc, checked, sites.len(), workers) else {
         return (Err((sites, RunFault::OutOfMemory)), keeping.into_keeper());
     };
     let Crew {

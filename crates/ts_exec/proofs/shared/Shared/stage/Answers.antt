@@ -4,6 +4,7 @@ use Rattle.ts_model.specs.Plans.{KindIs}
 use Rattle.ts_model.specs.Runs.{Run}
 use Rattle.ts_model.specs.declared.plan.Kind.TheVariants.{Piece}
 use Rattle.ts_folder.specs.declared.folder.Call.TheVariants.{Read}
+use Rattle.ts_stage.specs.Stagings.{Staging}
 use Rattle.ts_check.specs.Checkup.{snapshot_of}
 use Rattle.ts_board.specs.Calls.{terms_of, work_of}
 use Rattle.ts_exec.specs.Faults.{of_folder, of_stage}
@@ -57,6 +58,9 @@ returns-then-len-length-clause-fault g c = λ r.
       ),
     )
 
+pub returns-in_default-clause-fault : goal.returns-in_default-clause-fault
+returns-in_default-clause-fault g c = λ r. let s = c.source.ensures in (Piece c.args.entry c.args.offset c.args.length c.args.path.now, c.requires.kind, (s.0, s.1, s.2, tt))
+
 pub returns-in_err-piece-clause-fault : goal.returns-in_err-piece-clause-fault
 returns-in_err-piece-clause-fault g c =
     let j = c.args.self.now in let s = c.source.ensures in let p = c.args.path.now in let end = c.args.offset + c.args.length in
@@ -83,6 +87,6 @@ returns-clause-ok g c =
     let same = c.stage.ensures.action in (
       c.stage.ensures.acted,
       staged_suits t j.checked.now c.stage.new.self.action c.args.entry c.args.offset c.args.length c.args.path.now (work_of c.stage.new.self) c.in_ok-bytes.bytes.items (j.plan, j.first_print, j.second_print)
-          (subst (λ z. KindIs j.checked.now.plan z (Piece c.args.entry c.args.offset c.args.length c.args.path.now)) (sym same) c.requires.kind) (c.stage.ensures.work ∙ ap Staged c.in_ok-piece.ensures.bytes) (let h = c.if-len-length.false in omega arith),
+          (subst (λ z. KindIs j.checked.now.plan z (Piece c.args.entry c.args.offset c.args.length c.args.path.now)) (sym same) c.requires.kind) (c.stage.ensures.work ∙ ap (λ (p : Staging). Staged p.bytes) c.replace-no_bytes.ensures.after ∙ ap Staged c.in_ok-piece.ensures.bytes) (let h = c.if-len-length.false in omega arith),
       c.stage.ensures.told t c.requires.fresh.2,
     )
