@@ -91,12 +91,13 @@ fn replica(alloc: Global, files: u32) -> Result<Tree> {
     Ok(reader.finish()?)
 }
 
-/// An empty site for each commit.
-fn sites(alloc: Global, plan: &Plan) -> Result<Vec<MemSite>> {
+/// An empty site for each commit, in a box, as a run on a disk has them.
+fn sites(alloc: Global, plan: &Plan) -> Result<Vec<Box<MemSite>>> {
     let mut sites = Vec::new(alloc);
     for action in plan.actions.as_slice() {
         if let Kind::Commit { .. } = action.kind {
-            sites.push(MemSite::new(SubTree::absent(alloc)))?;
+            let site = MemSite::new(SubTree::absent(alloc));
+            sites.push(Box::new(alloc, site)?)?;
         }
     }
     Ok(sites)

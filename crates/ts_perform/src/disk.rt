@@ -238,7 +238,7 @@ impl Disk for HostRuntime {
     ghost use Rattle.std.specs.String.{string_bytes};
     ghost use Rattle.std.specs.Arc.{arc_value};
 
-    ghost stand = { λ site. record { root = string_bytes (arc_value site.way).root; source = string_bytes (arc_value site.way).source; path = site.path.value } };
+    ghost stand = { λ site. record { root = string_bytes (arc_value site.value.way).root; source = string_bytes (arc_value site.value.way).source; path = site.value.path } };
 
     ghost to = { λ way. string_bytes (arc_value way).root };
 
@@ -270,7 +270,8 @@ impl Disk for HostRuntime {
 
     type Folder = HoldingFolder<HostRuntime>;
 
-    type Site = DiskSite<HostRuntime>;
+    // in boxes, so that the slots of a plan's actions are small
+    type Site = Box<DiskSite<HostRuntime>>;
 
     type Way = Arc<Way>;
 
@@ -315,8 +316,11 @@ impl Disk for HostRuntime {
         way: &Arc<Way>,
         path: &Path,
         entry: u32,
-    ) -> Result<DiskSite<HostRuntime>, PerformFault> {
-        match DiskSite::new(alloc, self.clone()?, way, path, entry) {
+    ) -> Result<Box<DiskSite<HostRuntime>>, PerformFault> {
+        let Ok(site) = DiskSite::new(alloc, self.clone()?, way, path, entry) else {
+            return Err(PerformFault::OutOfMemory);
+        };
+        match Box::new(alloc, site) {
             Ok(site) => Ok(site),
             Err(_) => Err(PerformFault::OutOfMemory),
         }
@@ -339,7 +343,7 @@ impl Disk for HostRuntime {
         stage.cause(entry)
     }
 
-    fn site_cause(&self, site: &DiskSite<HostRuntime>) -> Cause {
+    fn site_cause(&self, site: &Box<DiskSite<HostRuntime>>) -> Cause {
         site.cause()
     }
 

@@ -48,19 +48,18 @@ impl<'a, 'b, S: Site> Desk<'a, 'b, S> {
     }
 
     /// Claims the piece of a file and stages its byte, where nobody has claimed it.
-    fn stage(&self, pass: &mut Pass<S>, b: u32, bytes: Vec<u8>) -> Option<Seen>
+    fn stage(&self, pass: &mut Pass<S>, b: u32, piece: Box<Piece>) -> Option<Seen>
         requires pass { IsPassOf S.content self.now.board.now pass.old }
         requires fresh { mine pass.old ≡ [] }
         requires file { HasFile self.now.checked.now.plan b }
         requires inside { b + 2 < length self.now.checked.now.plan.actions }
         requires small { b < 100 }
-        requires one { length bytes.items ≡ 1 }
+        requires one { length piece.value.bytes ≡ 1 }
         ensures pass { IsPassOf S.content self.now.board.now pass.new }
     {
         let mut held = self.board.claim(pass, b)?;
         let claimed = self.board.look(pass, b);
         let next = self.board.look(pass, b + 1);
-        let piece = Piece::held(bytes);
         held.stage(piece);
         self.board.done(pass, held);
         let ended = self.board.look(pass, b);
@@ -87,7 +86,8 @@ impl<'a, 'b, S: Site> Desk<'a, 'b, S> {
         ensures pass { IsPassOf S.content self.now.board.now pass.new }
     {
         let bytes = vec![in self.alloc; self.byte].ok()?;
-        self.stage(pass, b, bytes)
+        let piece = Box::new(self.alloc, Piece::held(bytes)).ok()?;
+        self.stage(pass, b, piece)
     }
 
     /// Puts in place what was assembled for a held commit, and ends it. Where the site refuses, the commit fails. Says the
