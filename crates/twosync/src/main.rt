@@ -12,11 +12,10 @@ use std::io::{self, BufWriter, ErrorKind, Input, IsTerminal, Write};
 use std::process::ExitCode;
 use std::rt::Env;
 use ts_cause::Cause;
+use ts_command::{Command, CommandFault, Job, command};
 use ts_explain::{PerformFault, Subject, Why, write_sentence};
+use ts_perform::{FAILED, KeepsCause, Machine, REFUSED, SaysCause, perform};
 use ts_text::{Counted, Sink, write_all};
-use twosync_library::{
-    Command, CommandFault, FAILED, Job, KeepsCause, Machine, REFUSED, SaysCause, command, perform,
-};
 
 /// What is said of words that aren't UTF-8.
 const NOT_TEXT: &[u8] = b"error: a word of the command isn't UTF-8\n";
