@@ -59,6 +59,7 @@ library_calls/folders opens_and_fills_where_nothing_fails: ts_folder::FaultyFold
 library_calls/folders opens_and_fills_on_a_disk: ts_folder::DiskFolder::open_file ts_folder::DiskFolder::fill
 library_calls/sites puts_staged_bytes_in_place: ts_site::MemSite::commit
 library_calls/sites fails_when_told: ts_site::FaultySite::commit
+library_calls/sites commits_to_a_site_in_a_box: ts_site::Box::commit
 library_calls/bundles takes_lines: ts_bundle::BundleReader::line ts_bundle::BundleReader::finish
 tree_calls/parts looks_up: ts_tree::Tree::copy
 tree_calls/parts gives_tables: ts_tree::Tree::sub_table
