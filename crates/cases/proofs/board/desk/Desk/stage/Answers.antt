@@ -1,4 +1,4 @@
-use Rattle.std.proofs.Common.{ap, sym, ◌∙◌, subst}
+use Rattle.std.proofs.Common.{sym, ◌∙◌, subst}
 use Rattle.ts_model.specs.Plans.{KindIs}
 use Rattle.ts_model.specs.Runs.{Run, IsPending}
 use Rattle.ts_model.specs.declared.plan.Kind.TheVariants.{Piece}
@@ -22,6 +22,6 @@ done-requires-clause-acted g c κs within =
     let own = mine c.look-next.new.pass in let now = c.stage.new.self in let won = c.in_ok-held.ensures.won in
     let kind = subst (λ (z : Plan). KindIs z b (Piece f.entry 0 1 f.path)) (sym d.plan) f.piece in
     let pending : IsPending own b = subst (λ (r : Run). IsPending r b) (sym (c.look-next.ensures.sees.1 ∙ c.look-claimed.ensures.sees.1)) won.2 in
-    acted_by content t own now b (Staged c.args.bytes.items) c.stage.ensures.acted (c.stage.ensures.action ∙ won.0) (c.stage.ensures.work ∙ ap (λ p. Staged p.bytes) c.held-piece.ensures)
-    (piece_may t own b f.entry 0 1 f.path c.args.bytes.items pending kind c.requires.one)
+    acted_by content t own now b (Staged c.args.piece.value.bytes) c.stage.ensures.acted (c.stage.ensures.action ∙ won.0) c.stage.ensures.work
+    (piece_may t own b f.entry 0 1 f.path c.args.piece.value.bytes pending kind c.requires.one)
     (c.stage.ensures.told t c.in_ok-held.ensures.fresh.2)
