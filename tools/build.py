@@ -58,8 +58,9 @@ def longest_chain(waits, lines):
 def tasks_of(rt, libraries):
     """Returns a task for each library that isn't built, lowest first, as rt.in_lanes takes them.
 
-    A library of the longest chain has several jobs from the start, and the memory for them: rt gives a crate its jobs when it
-    begins, and one that begins beside others would keep a single one to its end, while all the chain waits for it.
+    A library of the longest chain has several jobs from the start: rt gives a crate its jobs when it begins, and one that begins
+    beside others would keep a single one to its end, while all the chain waits for it. Further jobs share what the first has read,
+    and take no memory beyond what rt reckons for one: four jobs of ts_exec held 4 GB together, where it reckons 5.7.
     """
     missing = [it for it in libraries if not it.is_built()]
     names = {it.name for it in missing}
@@ -73,9 +74,7 @@ def tasks_of(rt, libraries):
         def call(given, jobs, it=crate, least=least):
             return all(given[below, "proof"] for below in waits[it.name]) and build(it, max(jobs, least), started)
 
-        # (a further job takes some 0.6 of what one does)
-        need = int(rt.need(crate) * (1 + 0.6 * (least - 1)))
-        tasks[crate.name, "proof"] = ([(it, "proof") for it in waits[crate.name]], lines[crate.name], need, call)
+        tasks[crate.name, "proof"] = ([(it, "proof") for it in waits[crate.name]], lines[crate.name], rt.need(crate), call)
     return tasks
 
 
