@@ -9,6 +9,7 @@ use crate::buffer::{
     MOST_BYTES, MOST_NAMES, concatenated, depth_of, end_names, has_good_names, is_within_limits,
     split_name,
 };
+use crate::bytes::Bytes;
 use crate::escape::{push_escaped, unescaped};
 use crate::faults::PathFault;
 use crate::names::Name;
@@ -16,10 +17,10 @@ use std::alloc::{AllocError, Global};
 use std::marker::Model;
 
 /// The names from the root down: at most 64, of at most 4,096 bytes in all. The root has none.
-#[derive(Debug, Drop)]
+#[derive(Debug)]
 pub struct Path {
     // Each name is followed by a zero byte, so that paths are in the order of their bytes.
-    pub(crate) bytes: Vec<u8>,
+    pub(crate) bytes: Bytes,
 }
 
 impl Model for Path {
@@ -31,18 +32,25 @@ impl Model for Path {
 
     ghost coded = { coded_list (coded_list coded_ℕ) };
 
-    ghost view = { λ p. pieces 0 p.bytes.items };
+    ghost view = { λ p. pieces 0 p.bytes };
 
-    ghost invariant = { λ p. IsBuffer p.bytes.items };
+    ghost invariant = { λ p. IsBuffer p.bytes };
+}
+
+impl Drop for Path {
+    fn drop(self) {
+        let Path { bytes } = self;
+        drop(bytes);
+    }
 }
 
 impl Path {
     /// The path of no names. It takes no memory.
-    pub fn root(alloc: Global) -> Path
+    pub fn root(_alloc: Global) -> Path
         ensures { result ≡ [] }
     {
         Path {
-            bytes: Vec::new(alloc),
+            bytes: Bytes::none(),
         }
     }
 
@@ -77,7 +85,8 @@ impl Path {
         if !is_within_limits(&bytes) {
             return Err(PathFault::TooLong);
         }
-        Ok(Path { bytes })
+        let shared = Bytes::share(alloc, bytes)?;
+        Ok(Path { bytes: shared })
     }
 
     /// Appends the text of the path. After an error nothing was appended.
@@ -111,7 +120,7 @@ impl Path {
     pub fn place_below(&self, alloc: Global, root: &str) -> Result<String, AllocError>
         ensures { IfOk result (λ place. string_bytes place ≡ root.now ++ place_text self.now) }
     {
-        let room = root.len().saturating_add(self.bytes.len());
+        let room = root.len().saturating_add(self.bytes.as_slice().len());
         let mut place = Vec::with_capacity(alloc, room)?;
         place.extend_from_slice(root.as_bytes())?;
         let mut rest = self.bytes.as_slice();
@@ -131,7 +140,7 @@ impl Path {
         ensures depth { result ≡ length self.now }
         ensures lawful { IsPath self.now }
     {
-        depth_of(&self.bytes)
+        depth_of(self.bytes.as_slice())
     }
 
     /// How many bytes the names have in all.
@@ -139,21 +148,22 @@ impl Path {
         ensures size { result ≡ sum_by length self.now }
         ensures lawful { IsPath self.now }
     {
-        self.bytes.len() - depth_of(&self.bytes)
+        let bytes = self.bytes.as_slice();
+        bytes.len() - depth_of(bytes)
     }
 
     /// Whether this is the path of no names.
     pub fn is_root(&self) -> bool
         ensures { IsTrue result ↔ (self.now ≡ []) }
     {
-        self.bytes.is_empty()
+        self.bytes.as_slice().is_empty()
     }
 
     /// Whether `other` is this path or goes on from it.
     pub fn is_prefix(&self, other: &Path) -> bool
         ensures { IsTrue result ↔ IsAbove self.now other.now }
     {
-        other.bytes.starts_with(self.bytes.as_slice())
+        other.bytes.as_slice().starts_with(self.bytes.as_slice())
     }
 
     /// Whether `child` is this path followed by one name.
@@ -181,18 +191,18 @@ impl Path {
         ensures { IsTrue result ↔ ((parent : List (List ℕ)) × (name : List ℕ) × (self.now ≡ parent ++ name ∷ []) × IsAbove parent other.now) }
     {
         match self.parent_bytes() {
-            Some(parent) => other.bytes.starts_with(parent),
+            Some(parent) => other.bytes.as_slice().starts_with(parent),
             None => false,
         }
     }
 
-    /// The same path once more.
-    pub fn copy(&self, alloc: Global) -> Result<Path, AllocError>
+    /// The same path once more. Both share their bytes.
+    pub fn copy(&self, _alloc: Global) -> Result<Path, AllocError>
         ensures value { IfOk result (λ p. p ≡ self.now) }
         ensures lawful { IfOk result IsPath }
     {
         Ok(Path {
-            bytes: Vec::from_slice(alloc, &self.bytes)?,
+            bytes: self.bytes.copy()?,
         })
     }
 
@@ -205,7 +215,8 @@ impl Path {
             return Ok(None);
         };
         let bytes = Vec::from_slice(alloc, parent)?;
-        Ok(Some(Path { bytes }))
+        let shared = Bytes::share(alloc, bytes)?;
+        Ok(Some(Path { bytes: shared }))
     }
 
     /// The bytes that hold the parent.
@@ -213,8 +224,9 @@ impl Path {
         ensures { MatchOption result (self.now ≡ []) (λ bytes. HoldsParent bytes.now self.now) }
     {
         let name = self.last()?;
-        let end = self.bytes.len() - name.len() - 1;
-        Some(&self.bytes[..end])
+        let bytes = self.bytes.as_slice();
+        let end = bytes.len() - name.len() - 1;
+        Some(&bytes[..end])
     }
 
     /// This path followed by a name, or `TooLong` past the limits of a path.
@@ -228,9 +240,10 @@ impl Path {
         if self.depth() >= MOST_NAMES || self.size() + name.len() > MOST_BYTES {
             return Err(PathFault::TooLong);
         }
-        let mut bytes = concatenated(alloc, &self.bytes, name)?;
+        let mut bytes = concatenated(alloc, self.bytes.as_slice(), name)?;
         bytes.push(0)?;
-        Ok(Path { bytes })
+        let shared = Bytes::share(alloc, bytes)?;
+        Ok(Path { bytes: shared })
     }
 
     /// This path followed by the names of `rest`, or `TooLong` past the limits of a path.
@@ -244,8 +257,9 @@ impl Path {
         if !is_short || self.depth() + rest.depth() > MOST_NAMES {
             return Err(PathFault::TooLong);
         }
-        let bytes = concatenated(alloc, &self.bytes, &rest.bytes)?;
-        Ok(Path { bytes })
+        let bytes = concatenated(alloc, self.bytes.as_slice(), rest.bytes.as_slice())?;
+        let shared = Bytes::share(alloc, bytes)?;
+        Ok(Path { bytes: shared })
     }
 
     /// What is left of this path below `top`, or `None` where it isn't at or below it.
@@ -253,10 +267,11 @@ impl Path {
         ensures value { IfOk result (λ o. o ≡ below top.now self.now) }
         ensures lawful { IfOk result (λ o. IfSome o IsPath) }
     {
-        let Some(rest) = self.bytes.strip_prefix(top.bytes.as_slice()) else {
+        let Some(rest) = self.bytes.as_slice().strip_prefix(top.bytes.as_slice()) else {
             return Ok(None);
         };
         let bytes = Vec::from_slice(alloc, rest)?;
-        Ok(Some(Path { bytes }))
+        let shared = Bytes::share(alloc, bytes)?;
+        Ok(Some(Path { bytes: shared }))
     }
 }

@@ -5,6 +5,6 @@ use Rattle.ts_name.proofs.compared.PathOrd.cmp.Goals as goal
 
 pub returns : goal.returns
 returns c =
-    let self : Holds c.self.inside.bytes.items c.args.self.now = record { buffer = c.self.invariant; path_is = c.self.view_is } in
-    let other : Holds c.other.inside.bytes.items c.args.other.now = record { buffer = c.other.invariant; path_is = c.other.view_is } in
-    c.cmp.ensures ∙ order_held _ _ _ _ (Holds-same c.as_slice.ensures.value self) (Holds-same c.as_slice-2.ensures.value other)
+    let self : Holds c.self.inside.bytes c.args.self.now = record { buffer = c.self.invariant; path_is = c.self.view_is } in
+    let other : Holds c.other.inside.bytes c.args.other.now = record { buffer = c.other.invariant; path_is = c.other.view_is } in
+    c.cmp.ensures ∙ order_held _ _ _ _ (Holds-same c.as_slice.ensures self) (Holds-same c.as_slice-2.ensures other)

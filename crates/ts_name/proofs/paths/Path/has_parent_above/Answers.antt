@@ -4,5 +4,5 @@ use Rattle.ts_name.proofs.paths.Path.has_parent_above.Goals as goal
 
 pub returns-in-Some : goal.returns-in-Some
 returns-in-Some c =
-    let other : Holds c.other.inside.bytes.items c.args.other.now = record { buffer = c.other.invariant; path_is = c.other.view_is } in
-    parent_above _ _ _ _ c.in-Some.ensures (Holds-same c.deref.ensures.value other) _ c.starts_with.ensures.value
+    let other : Holds c.other.inside.bytes c.args.other.now = record { buffer = c.other.invariant; path_is = c.other.view_is } in
+    parent_above _ _ _ _ c.in-Some.ensures (Holds-same c.as_slice.ensures other) _ c.starts_with.ensures.value

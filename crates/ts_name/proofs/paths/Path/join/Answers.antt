@@ -4,18 +4,18 @@ use Rattle.ts_name.proofs.paths.Path.join.Goals as goal
 
 pub concatenated-requires : goal.concatenated-requires
 concatenated-requires c =
-    let first : Holds c.self.inside.bytes.items c.args.self.now = record { buffer = c.self.invariant; path_is = c.self.view_is } in
-    let second : Holds c.rest.inside.bytes.items c.args.rest.now = record { buffer = c.rest.invariant; path_is = c.rest.view_is } in
-    let m = measured (Holds-same c.deref.ensures.value first) in
-    let n = measured (Holds-same c.deref-2.ensures.value second) in
+    let first : Holds c.self.inside.bytes c.args.self.now = record { buffer = c.self.invariant; path_is = c.self.view_is } in
+    let second : Holds c.rest.inside.bytes c.args.rest.now = record { buffer = c.rest.invariant; path_is = c.rest.view_is } in
+    let m = measured (Holds-same c.as_slice.ensures first) in
+    let n = measured (Holds-same c.as_slice-2.ensures second) in
     omega (arith, m.long, m.names, m.size, n.long, n.names, n.size)
 
-joined : (c : goal.In_ok-bytes) → Holds c.in_ok-bytes.bytes.items (c.args.self.now ++ c.args.rest.now)
+joined : (c : goal.In_ok-shared) → Holds c.in_ok-shared.shared (c.args.self.now ++ c.args.rest.now)
 joined c =
-    let first : Holds c.self.inside.bytes.items c.args.self.now = record { buffer = c.self.invariant; path_is = c.self.view_is } in
-    let second : Holds c.rest.inside.bytes.items c.args.rest.now = record { buffer = c.rest.invariant; path_is = c.rest.view_is } in
-    let e : c.in_ok-bytes.bytes.items ≡ c.self.inside.bytes.items ++ c.rest.inside.bytes.items = c.in_ok-bytes.ensures ∙ ap₂ ◌++◌ c.deref.ensures.value c.deref-2.ensures.value in
-    Holds-append _ _ _ _ first second (IsPath-append _ _ (lawful_held first) (lawful_held second) (omega arith) (omega arith)) _ e
+    let first : Holds c.self.inside.bytes c.args.self.now = record { buffer = c.self.invariant; path_is = c.self.view_is } in
+    let second : Holds c.rest.inside.bytes c.args.rest.now = record { buffer = c.rest.invariant; path_is = c.rest.view_is } in
+    let e : c.in_ok-bytes.bytes.items ≡ c.self.inside.bytes ++ c.rest.inside.bytes = c.in_ok-bytes.ensures ∙ ap₂ ◌++◌ c.as_slice.ensures c.as_slice-2.ensures in
+    Holds-same c.in_ok-shared.ensures (Holds-append _ _ _ _ first second (IsPath-append _ _ (lawful_held first) (lawful_held second) (omega arith) (omega arith)) _ e)
 
 pub invariant_of-result : goal.invariant_of-result
 invariant_of-result c = (joined c).buffer

@@ -3,8 +3,8 @@ use Rattle.ts_name.proofs.paths.Path.last.Goals as goal
 
 pub loop-name-init : goal.loop-name-init
 loop-name-init c =
-    let self : Holds c.self.inside.bytes.items c.args.self.now = record { buffer = c.self.invariant; path_is = c.self.view_is } in
-    LastSoFar-none self c.as_slice-rest.ensures.value
+    let self : Holds c.self.inside.bytes c.args.self.now = record { buffer = c.self.invariant; path_is = c.self.view_is } in
+    LastSoFar-none self c.as_slice-rest.ensures
 
 pub loop-name-smaller : goal.loop-name-smaller
 loop-name-smaller c = let found = c.in-Some.ensures in shorter _ _ _ found.0

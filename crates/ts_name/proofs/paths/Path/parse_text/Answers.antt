@@ -2,7 +2,7 @@ use Rattle.std.proofs.Common.{◌≡◌, ◌==◌, ◌∷◌, [], ◌≤◌, Ok,
 use Rattle.std.proofs.lemmas.Bool.{false≢true}
 use Rattle.std.specs.List.{AllByRecursion, list_any}
 use Rattle.ts_name.specs.Paths.{IsName, IsPath}
-use Rattle.ts_name.specs.Buffers.{pieces}
+use Rattle.ts_name.specs.Buffers.{IsBuffer, pieces}
 use Rattle.ts_name.proofs.Buffers.{whole_replaced}
 use Rattle.ts_name.proofs.Parsing.{Parsed, Parsed-no_names, Parsed-bad, Parsed-past, Parsed-path, Parsed-zero, Buffered-from, zero_for_slash, no_bytes}
 use Rattle.ts_name.proofs.Texts.{no_names_first, no_names_rest, root_text}
@@ -61,14 +61,14 @@ pub invariant_of-result : goal.invariant_of-result
 invariant_of-result c =
     let limits = c.if-not-is_within_limits.ensures.0 refl in
     let names = c.if-not-has_good_names.ensures.0 refl in
-    record {
+    subst IsBuffer (sym c.in_ok-shared.ensures) (record {
       lawful = record {
         names = subst (λ z. AllByRecursion IsName (pieces 0 z)) c.deref-2.ensures.value names;
         depth = subst (λ z. length (pieces 0 z) ≤ 64) c.deref-3.ensures.value limits.0;
         size = subst (λ z. sum_by length (pieces 0 z) ≤ 4096) c.deref-3.ensures.value limits.1;
       };
       whole = whole_replaced _ _ (c.end_names.ensures ∙ ap (λ z. map zero_for_slash z) c.in_ok-push.ensures.items);
-    }
+    })
 
 pub returns : goal.returns
 returns c =
@@ -82,5 +82,5 @@ returns c =
       depth = subst (λ z. length (pieces 0 z) ≤ 64) c.deref-3.ensures.value limits.0;
       size = subst (λ z. sum_by length (pieces 0 z) ≤ 4096) c.deref-3.ensures.value limits.1;
     } in
-    let h = Parsed-path c.args.text.now (pieces 0 bytes) (lawful, b.spelled.1) in
+    let h = subst (λ z. Parsed c.args.text.now (Ok (pieces 0 z))) (sym c.in_ok-shared.ensures) (Parsed-path c.args.text.now (pieces 0 bytes) (lawful, b.spelled.1)) in
     record { ok = h.ok; reads = h.reads; bad_text = h.bad_text; bad_name = h.bad_name; too_long = h.too_long }
