@@ -1,5 +1,6 @@
 -- Passes are cut and joined, and the board is opened and closed.
-use Rattle.std.proofs.Common.{◌≡◌, ◌≢◌, ◌⊎◌, ℕ, zero, suc, ◌+◌, ◌-◌, ◌*◌, ◌^◌, ◌<◌, ◌≤◌, Bool, true, false, cond, eqb, leb, List, [], ◌∷◌, ◌++◌, map, length, set, sym, refl, ap, ◌∙◌, subst, inl, inr, ⊎_elim, arith, append-nil, mul_assoc, mul_comm, add-mul, mul-add, suc-mul, zero-mul, pow-add, pow_pos, leb-true, leb-false, eq-eqb, length-append}
+use Rattle.std.proofs.Common.{◌≡◌, ◌≢◌, ◌⊎◌, ℕ, zero, suc, ◌+◌, ◌-◌, ◌*◌, ◌^◌, ◌<◌, ◌≤◌, Bool, true, false, cond, eqb, leb, List, [], ◌∷◌, ◌++◌, map, length, set, sym, refl, ap, ◌∙◌, subst, inl, inr, ⊎_elim, arith, append-nil, mul_assoc, mul_comm, add-mul, mul-add, suc-mul, zero-mul, pow-add, pow_pos, leb-true, leb-false, ◌==◌, eqb-true, eq-eqb, length-append}
+use Rattle.std.proofs.lemmas.Bool.{false≢true}
 use Rattle.std.specs.Prelude.{slice_index, slice_index_or, slice_get, Option, Some, None}
 use mathlib.Core.Logic.{dite}
 use native.Mathlib.Decide.{ℕ_discrete}
@@ -21,7 +22,7 @@ use Rattle.ts_board.specs.declared.law.Slot.{Slot}
 use Rattle.ts_board.specs.declared.law.Slot.TheVariants.{Empty, Place, Committed, Bytes}
 use Rattle.ts_board.specs.declared.law.Sight.{Sight}
 use Rattle.ts_board.specs.declared.law.View.{View}
-use Rattle.ts_board.specs.Terms.{IsOrderly, preds, opening_work, opening_words, AreFirstWords, IsUntouched, IsToldIn, told_in, work_in}
+use Rattle.ts_board.specs.Terms.{IsOrderly, preds, opening_work, opening_words, first_words, IsUntouched, IsToldIn, told_in, work_in}
 use Rattle.ts_board.specs.Runs.{actor, bit, times, taken, count, size, keep, steps_by, IsLegal, work_after}
 use Rattle.ts_board.specs.Kept.{newcomer, total, claimed, share, Behind, Fits, Keeps, Kept, mine, Seat, carries, bare, longer, nobody, first_half, second_half, joined, Met, meets, IsMerged, IsWhole, EndsAt, SitedEnds, Rests}
 use Rattle.ts_board.proofs.Runs.{by_actor, sound, word_start, steps_by-append, steps_by-nobody, content_unacted}
@@ -405,17 +406,30 @@ zeros : (i : ℕ) → slice_index (0 ∷ []) i ≡ 0
 zeros zero = refl
 zeros (suc i) = refl
 
-first_right : (actions : List Action) (ws : List ℕ) → AreFirstWords actions ws → (i : ℕ) → slice_index ws i ≡ slice_index (opening_words actions) i
-first_right actions ws (inl e) i = ap (λ (l : List ℕ). slice_index l i) e
-first_right actions ws (inr t) i = ap (λ (l : List ℕ). slice_index l i) t.1 ∙ zeros i ∙ sym (ap (λ (l : List ℕ). slice_index l i) t.0)
+first_right : (actions : List Action) (i : ℕ) → slice_index (first_words actions) i ≡ slice_index (opening_words actions) i
+first_right [] i = zeros i
+first_right (action ∷ actions) i = refl
 
-pub first_wide : (actions : List Action) (ws : List ℕ) → AreFirstWords actions ws → (length actions ≤ length ws) × (0 < length actions → length ws ≡ length actions)
-first_wide actions ws (inl e) = let h = long_as actions in let l = ap length e in (omega arith, λ p. omega arith)
-first_wide actions ws (inr t) = let h = long_as actions in let z : length (opening_words actions) ≡ 0 = ap length t.0 in (omega arith, λ p. absurd (omega arith))
+pub first_positive : (actions : List Action) → 0 < length (first_words actions)
+first_positive [] = omega arith
+first_positive (action ∷ actions) = let h = long_as (action ∷ actions) in omega arith
 
-pub opens_any : {S : Type 0} (content : Slot S → Work) (good : Terms → ℕ → Slot S → Type 0) (plan : Terms) (ws : List ℕ) (xs : List (Slot S)) → IsOrderly plan.plan → ((i : ℕ) → i < length xs → content (slice_index_or xs i Empty) ≡ Marked) → ((i : ℕ) → i < length xs → good plan i (slice_index_or xs i Empty)) → size plan ≤ length xs → AreFirstWords plan.plan.actions ws → Kept content good plan (opening ws xs (newcomer plan))
+pub first_none : (actions : List Action) → true ≡ (length actions == 0) → first_words actions ≡ 0 ∷ []
+first_none [] e = refl
+first_none (action ∷ actions) e = let z = eqb-true (length (action ∷ actions)) 0 (sym e) in absurd (omega arith)
+
+pub first_some : (actions : List Action) → false ≡ (length actions == 0) → first_words actions ≡ opening_words actions
+first_some [] e = absurd (false≢true e)
+first_some (action ∷ actions) e = refl
+
+pub first_wide : (actions : List Action) (ws : List ℕ) → ws ≡ first_words actions → (length actions ≤ length ws) × (0 < length actions → length ws ≡ length actions)
+first_wide [] ws e = (omega arith, λ p. absurd (omega arith))
+first_wide (action ∷ actions) ws e =
+    let h = long_as (action ∷ actions) in let l : length ws ≡ length (opening_words (action ∷ actions)) = ap length e in (omega arith, λ p. omega arith)
+
+pub opens_any : {S : Type 0} (content : Slot S → Work) (good : Terms → ℕ → Slot S → Type 0) (plan : Terms) (ws : List ℕ) (xs : List (Slot S)) → IsOrderly plan.plan → ((i : ℕ) → i < length xs → content (slice_index_or xs i Empty) ≡ Marked) → ((i : ℕ) → i < length xs → good plan i (slice_index_or xs i Empty)) → size plan ≤ length xs → ws ≡ first_words plan.plan.actions → Kept content good plan (opening ws xs (newcomer plan))
 opens_any content good plan ws xs orderly blank fine many f = opens content good plan ws xs orderly blank fine many (first_wide plan.plan.actions ws f).0
-    (λ i _. first_right plan.plan.actions ws f i ∙ at_start plan.plan.actions i)
+    (λ i _. ap (λ (l : List ℕ). slice_index l i) f ∙ first_right plan.plan.actions i ∙ at_start plan.plan.actions i)
 
 -- ---- the end
 

@@ -100,8 +100,9 @@ abbrev pub opening_words : List Action → List ℕ
 opening_words actions = map (λ (action : Action). length action.preds) actions
 
 -- the words of a board at its start; where the plan has no action, there is one word, which belongs to none
-abbrev pub AreFirstWords : List Action → List ℕ → Type 0
-AreFirstWords actions words = (words ≡ opening_words actions) ⊎ ((opening_words actions ≡ []) × (words ≡ 0 ∷ []))
+abbrev pub first_words : List Action → List ℕ
+first_words [] = 0 ∷ []
+first_words (action ∷ actions) = opening_words (action ∷ actions)
 
 -- as slots are at the start
 abbrev pub IsUntouched : {S : Type 0} → Slot S → Type 0

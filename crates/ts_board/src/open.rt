@@ -1,7 +1,8 @@
 //! A board is opened and closed.
-ghost use Rattle.std.specs.Prelude.{ℕ, ◌≡◌, ◌<◌, ◌≤◌, [], IfOk, IfErr, length, slice_index_or};
+ghost use Rattle.std.specs.Prelude.{ℕ, ◌≡◌, ◌≤◌, [], IfOk, IfErr, length, slice_index_or};
 ghost use Rattle.std.specs.Mem.Slots.{slots_len};
-ghost use Rattle.ts_board.specs.Terms.{AreFirstWords, AreSited, IsOrderly, IsUntouched, commit_count, opening_terms, terms_with};
+ghost use Rattle.std.specs.Vec.{vec_capacity};
+ghost use Rattle.ts_board.specs.Terms.{AreSited, IsOrderly, IsUntouched, commit_count, first_words, placed, terms_with};
 ghost use Rattle.ts_board.specs.Calls.{Ends, IsPassAt, IsPassOf, IsWhole, mine, plan_of, seen, slots_of, table_of, terms_of, words_of};
 ghost use Rattle.ts_board.specs.Checks.{terms_for};
 ghost use Rattle.ts_board.specs.declared.law.Slot.TheVariants.{Empty};
@@ -20,8 +21,7 @@ use ts_site::Site;
 
 /// The words that a plan's actions have at the start. Where there is no action, one word stands there that belongs to none.
 fn first_words(alloc: Global, plan: &Plan) -> Result<Vec<u64>, AllocError>
-    ensures counts { IfOk result (λ words. AreFirstWords plan.now.actions words.items) }
-    ensures some { IfOk result (λ words. 0 < length words.items) }
+    ensures { IfOk result (λ words. words.items ≡ first_words plan.now.actions) }
 {
     let actions = plan.actions.as_slice();
     let mut words = Vec::with_capacity(alloc, actions.len().max(1))?;
@@ -35,14 +35,16 @@ fn first_words(alloc: Global, plan: &Plan) -> Result<Vec<u64>, AllocError>
     Ok(words)
 }
 
-/// A board with these slots, on which nothing is done yet, and its one pass.
+/// A board with these words and slots, on which nothing is done yet, and its one pass.
 pub(crate) fn open_slots<S: Site>(
     alloc: Global,
     plan: &Plan,
     first: &Print,
     second: &Print,
+    words: &[u64],
     slots: Vec<Slot<S>>,
 ) -> Result<(Board<S>, Pass<S>), Vec<Slot<S>>>
+    requires words { words.now ≡ first_words plan.now.actions }
     requires orderly { IsOrderly plan.now }
     requires each { length slots.items ≡ length plan.now.actions }
     requires sited { AreSited plan.now slots.items }
@@ -52,16 +54,13 @@ pub(crate) fn open_slots<S: Site>(
     ensures nothing { IfOk result (λ r. (seen r.1 ≡ []) × (mine r.1 ≡ [])) }
     ensures err { IfErr result (λ back. back.items ≡ slots.items) }
 {
-    let Ok(words) = first_words(alloc, plan) else {
-        return Err(slots);
-    };
     let key = Key {
         plan: Snapshot::of(plan),
         first: Snapshot::of(first),
         second: Snapshot::of(second),
         slots: Snapshot::of(&slots),
     };
-    match Table::new(alloc, words.as_slice(), slots, &key) {
+    match Table::new(alloc, words, slots, &key) {
         Ok((table, seat)) => Ok((Board { table }, Pass { seat })),
         Err(refused) => {
             let Refused { slots } = refused;
@@ -70,53 +69,96 @@ pub(crate) fn open_slots<S: Site>(
     }
 }
 
-impl<S: Site> Board<S> {
-    /// A board for an orderly plan, on which nothing is done yet, and its one pass. There is one site for each commit, in
-    /// the order of the actions. Where memory runs out, the sites come back.
-    pub(crate) fn open_with(
+/// A board that is laid out and not opened yet: its words, and its slots with the sites in those of the commits.
+#[derive(Drop)]
+pub struct Opening<S> {
+    words: Vec<u64>,
+    slots: Vec<Slot<S>>,
+    /// Room for the sites, should they have to come back.
+    back: Vec<S>,
+    plan: Snapshot<Plan>,
+    sites: Snapshot<Vec<S>>,
+    ghost first: { words.items ≡ first_words plan.value.actions },
+    ghost placed: { slots.items ≡ placed plan.value.actions sites.value.items },
+    ghost sited: { length sites.value.items ≡ commit_count plan.value.actions },
+    ghost room: { (back.items ≡ []) × (length sites.value.items ≤ vec_capacity back) },
+}
+
+impl<S: Site> Opening<S> {
+    /// Lays a board out for a checked plan. There is one site for each commit, in the order of the actions. Where memory runs
+    /// out, the sites come back.
+    pub fn lay_out(
         alloc: Global,
-        plan: &Plan,
-        first: &Print,
-        second: &Print,
+        checked: &Checked<'_>,
         sites: Vec<S>,
-    ) -> Result<(Board<S>, Pass<S>), (Vec<S>, OpenFault)>
-        requires orderly { IsOrderly plan.now }
-        requires sites { length sites.items ≡ commit_count plan.now.actions }
-        ensures board { IfOk result (λ r. terms_of S.content r.0 ≡ opening_terms S.content plan.now first.now second.now sites.items) }
-        ensures pass { IfOk result (λ r. IsPassAt (table_of r.0) (opening_terms S.content plan.now first.now second.now sites.items) r.1 × IsWhole r.1) }
-        ensures nothing { IfOk result (λ r. (seen r.1 ≡ []) × (mine r.1 ≡ [])) }
+    ) -> Result<Opening<S>, (Vec<S>, OpenFault)>
+        requires sites { length sites.items ≡ commit_count checked.now.plan.actions }
+        ensures plan { IfOk result (λ o. o.plan.value ≡ checked.now.plan) }
+        ensures sites { IfOk result (λ o. o.sites.value.items ≡ sites.items) }
         ensures back { IfErr result (λ refused. refused.0.items ≡ sites.items) }
     {
+        let plan = checked.plan();
         let Ok(back) = Vec::with_capacity(alloc, sites.len()) else {
             return Err((sites, OpenFault::OutOfMemory));
         };
-        let slots = match slots_with(alloc, plan, sites) {
-            Ok(slots) => slots,
-            Err(sites) => return Err((sites, OpenFault::OutOfMemory)),
+        let Ok(words) = first_words(alloc, plan) else {
+            return Err((sites, OpenFault::OutOfMemory));
         };
-        match open_slots(alloc, plan, first, second, slots) {
+        let given = Snapshot::of(&sites);
+        match slots_with(alloc, plan, sites) {
+            Ok(slots) => Ok(Opening {
+                words,
+                slots,
+                back,
+                plan: Snapshot::of(plan),
+                sites: given,
+            }),
+            Err(sites) => Err((sites, OpenFault::OutOfMemory)),
+        }
+    }
+
+    /// The sites, in their order.
+    pub fn into_sites(self) -> Vec<S>
+        ensures { result.items ≡ self.sites.value.items }
+    {
+        let Opening { slots, back, .. } = self;
+        sites_from(slots, back)
+    }
+
+    /// The board, on which nothing is done yet, and its one pass. Where memory runs out, the sites come back.
+    pub fn open(
+        self,
+        alloc: Global,
+        checked: &Checked<'_>,
+    ) -> Result<(Board<S>, Pass<S>), (Vec<S>, OpenFault)>
+        requires plan { self.plan.value ≡ checked.now.plan }
+        ensures board { IfOk result (λ r. terms_of S.content r.0 ≡ terms_for S.content checked.now self.sites.value.items) }
+        ensures pass { IfOk result (λ r. IsPassAt (table_of r.0) (terms_for S.content checked.now self.sites.value.items) r.1 × IsWhole r.1) }
+        ensures nothing { IfOk result (λ r. (seen r.1 ≡ []) × (mine r.1 ≡ [])) }
+        ensures back { IfErr result (λ refused. refused.0.items ≡ self.sites.value.items) }
+    {
+        let Opening {
+            words,
+            slots,
+            back,
+            ..
+        } = self;
+        let plan = checked.plan();
+        match open_slots(
+            alloc,
+            plan,
+            checked.first(),
+            checked.second(),
+            words.as_slice(),
+            slots,
+        ) {
             Ok(opened) => Ok(opened),
             Err(slots) => Err((sites_from(slots, back), OpenFault::OutOfMemory)),
         }
     }
+}
 
-    /// A board for a checked plan, on which nothing is done yet, and its one pass. There is one site for each commit, in the
-    /// order of the actions. Where memory runs out, the sites come back.
-    pub fn open(
-        alloc: Global,
-        checked: &Checked<'_>,
-        sites: Vec<S>,
-    ) -> Result<(Board<S>, Pass<S>), (Vec<S>, OpenFault)>
-        requires sites { length sites.items ≡ commit_count checked.now.plan.actions }
-        ensures board { IfOk result (λ r. terms_of S.content r.0 ≡ terms_for S.content checked.now sites.items) }
-        ensures pass { IfOk result (λ r. IsPassAt (table_of r.0) (terms_for S.content checked.now sites.items) r.1 × IsWhole r.1) }
-        ensures nothing { IfOk result (λ r. (seen r.1 ≡ []) × (mine r.1 ≡ [])) }
-        ensures back { IfErr result (λ refused. refused.0.items ≡ sites.items) }
-    {
-        let plan = checked.plan();
-        Board::open_with(alloc, plan, checked.first(), checked.second(), sites)
-    }
-
+impl<S: Site> Board<S> {
     /// The board at its end, with its words and what lies in its slots.
     pub fn close(self, pass: Pass<S>) -> Closed<S>
         requires pass { IsPassOf S.content self pass }

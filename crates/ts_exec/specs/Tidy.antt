@@ -5,12 +5,13 @@
 --     IsTry plan i fault b     the steps b of one try of action i, which failed with this fault or didn't fail
 --     MakesTry x p i fault q   between these passes one try of action i was made
 --     AreFresh members         no worker has found a failure yet
+--     IsCrewFor plan crew      the crew hasn't begun, and has room for what comes of each action
 --     Listed, Noted            why each action failed is known, and what acts did is what folders tell
 --     StayNoted, AreNoted      what the list of a worker adds to the faults that are noted
 --     Swept                    the actions below this number were tried in order
 --     IsSwept x own seen       all actions were tried in order, or the run may be stopped
 --     KeepsList, KeepsNotes    a pass of this board is tidy, and Listed or Noted
-use Rattle.std.specs.Prelude.{◌≡◌, ◌≢◌, ◌⊎◌, ℕ, ◌<◌, ◌*◌, ◌^◌, All, length, List, [], ◌∷◌, ◌++◌, Option, Some, IsSome, slice_get}
+use Rattle.std.specs.Prelude.{◌≡◌, ◌≢◌, ◌⊎◌, ℕ, ◌<◌, ◌≤◌, ◌*◌, ◌^◌, All, length, List, [], ◌∷◌, ◌++◌, Option, Some, IsSome, slice_get, vec_capacity}
 use Rattle.atomic_table.specs.Seated.{TableId}
 use Rattle.ts_model.specs.Plans.{Waits}
 use Rattle.ts_model.specs.Runs.{Run, Has, claims, finishes, fails, releases, takes, word_after, IsPieceOf}
@@ -23,6 +24,7 @@ use Rattle.ts_board.specs.declared.law.Terms.{Terms}
 use Rattle.ts_exec.specs.Failures.{Setting, AreTold, MayFail}
 use Rattle.ts_exec.specs.declared.fault.ActFault.{ActFault}
 use Rattle.ts_exec.specs.declared.crew.Failure.{Failure}
+use Rattle.ts_exec.specs.declared.crew.Crew.{Crew}
 use Rattle.ts_exec.specs.declared.crew.Member.{Member}
 
 pub record IsTidy (plan : Plan) (own : Run) : Type 0 where
@@ -56,6 +58,10 @@ MakesTry x p i fault q = (block : Run) × (mine q ≡ mine p ++ block) × IsTry 
 
 abbrev pub AreFresh : List Member → Type 0
 AreFresh members = All (λ (m : Member). m.failures.items ≡ []) members
+
+abbrev pub IsCrewFor : Plan → Crew → Type 0
+IsCrewFor plan crew =
+    AreFresh crew.members.items × (length crew.faults.items ≡ length plan.actions) × (crew.results.items ≡ []) × (length plan.actions ≤ vec_capacity crew.results)
 
 -- the number of the failed action is in the list
 abbrev pub IsListed : ℕ → List Failure → Type 0

@@ -1,6 +1,6 @@
 //! The workers' hints, and room for what they find.
-ghost use Rattle.std.specs.Prelude.{◌≡◌, ◌≤◌, [], IfOk, length, vec_capacity};
-ghost use Rattle.ts_exec.specs.Tidy.{AreFresh};
+ghost use Rattle.std.specs.Prelude.{◌≡◌, IfOk, length};
+ghost use Rattle.ts_exec.specs.Tidy.{AreFresh, IsCrewFor};
 
 use crate::fault::ActFault;
 use crate::outcome::ActionResult;
@@ -12,9 +12,12 @@ use ts_model::plan::{Action, Kind, PIECE_SIZE};
 /// How many hints a queue has room for at first, at least.
 const FIRST_HINTS: usize = 64;
 
-/// How many small actions in a row are dealt to one share, and how many are taken from one before a look begins at the next. What
-/// neighbours need lies side by side in memory, so that one worker should have them.
+/// How many small actions in a row are dealt to one share, and taken from it at once. What neighbours need lies side by side in
+/// memory, so that one worker should have them.
 const BLOCK: u32 = 16;
+
+/// How much of a block a small action is.
+const LEAST_WEIGHT: u64 = PIECE_SIZE / BLOCK as u64;
 
 /// The number of an action that failed, and why.
 #[derive(Clone, Copy, Debug, Drop)]
@@ -28,17 +31,16 @@ pub struct Failure {
 pub struct Queues {
     /// Its share of the actions that wait for nothing, the lowest first.
     pub dealt: Stealer<u32>,
-    /// The actions that it freed.
-    pub freed: Stealer<u32>,
+    /// Its own hints.
+    pub own: Stealer<u32>,
 }
 
-/// What a worker needs to find hints: those that it leaves itself, whose share it looks at first, and how many hints it has taken
-/// from shares.
+/// What a worker needs to find hints: its own, and whose share it looks at first.
 #[derive(Drop)]
 pub struct Hints {
-    pub freed: Worker<u32>,
+    /// The rest of a block that it took from a share, and the actions that it freed.
+    pub own: Worker<u32>,
     pub turn: usize,
-    pub taken: u32,
 }
 
 /// What a worker starts with: hints, and room for as many failures as there are actions.
@@ -63,35 +65,28 @@ pub struct Crew {
 }
 
 impl Crew {
-    /// A crew of so many workers for a plan with so many commits. Nothing is dealt out yet.
+    /// A crew with a worker for each share, by the plan's actions. Nothing is dealt out yet.
     pub fn gather(
         alloc: Global,
         checked: &Checked<'_>,
-        commits: usize,
-        workers: u32,
+        shares: Vec<Worker<u32>>,
     ) -> Result<Crew, AllocError>
-        ensures workers { IfOk result (λ crew. (length crew.members.items ≡ workers) × (length crew.queues.items ≡ workers)) }
-        ensures members { IfOk result (λ crew. AreFresh crew.members.items) }
-        ensures faults { IfOk result (λ crew. length crew.faults.items ≡ length checked.now.plan.actions) }
-        ensures results { IfOk result (λ crew. (crew.results.items ≡ []) × (length checked.now.plan.actions ≤ vec_capacity crew.results)) }
+        ensures workers { IfOk result (λ crew. (length crew.members.items ≡ length shares.items) × (length crew.queues.items ≡ length shares.items)) }
+        ensures crew { IfOk result (IsCrewFor checked.now.plan) }
     {
         let actions = checked.action_count() as usize;
-        let room = room_in_a_share(commits, workers);
-        let mut queues = Vec::with_capacity(alloc, workers as usize)?;
-        let mut shares = Vec::with_capacity(alloc, workers as usize)?;
-        let mut freed = Vec::with_capacity(alloc, workers as usize)?;
-        for _ in 0..workers {
-            let share: Worker<u32> = Worker::new_fifo(alloc, room)?;
+        let mut queues = Vec::with_capacity(alloc, shares.len())?;
+        let mut owned = Vec::with_capacity(alloc, shares.len())?;
+        for share in shares.as_slice() {
             let own: Worker<u32> = Worker::new_lifo(alloc, FIRST_HINTS)?;
             queues.push(Queues {
                 dealt: share.stealer()?,
-                freed: own.stealer()?,
+                own: own.stealer()?,
             })?;
-            shares.push(share)?;
-            freed.push(own)?;
+            owned.push(own)?;
         }
         Ok(Crew {
-            members: members_with(alloc, freed, actions)?,
+            members: members_with(alloc, owned, actions)?,
             queues,
             shares,
             unread: Worker::new_lifo(alloc, FIRST_HINTS)?,
@@ -99,6 +94,22 @@ impl Crew {
             results: Vec::with_capacity(alloc, actions)?,
         })
     }
+}
+
+/// A share for each of so many workers, with room for its part of a plan with so many commits. Nothing is dealt out yet.
+pub fn shares_for(
+    alloc: Global,
+    commits: usize,
+    workers: u32,
+) -> Result<Vec<Worker<u32>>, AllocError>
+    ensures count { IfOk result (λ shares. length shares.items ≡ workers) }
+{
+    let room = room_in_a_share(commits, workers);
+    let mut shares = Vec::with_capacity(alloc, workers as usize)?;
+    for _ in 0..workers {
+        shares.push(Worker::new_fifo(alloc, room)?)?;
+    }
+    Ok(shares)
 }
 
 /// How many hints a share has room for at first. Where small files are copied, as many actions wait for nothing as there are
@@ -112,7 +123,7 @@ fn room_in_a_share(commits: usize, workers: u32) -> usize {
     FIRST_HINTS.max(blocks.saturating_mul(block))
 }
 
-/// A member for each queue of freed actions, with room for all failures.
+/// A member for each queue of own hints, with room for all failures.
 fn members_with(
     alloc: Global,
     queues: Vec<Worker<u32>>,
@@ -122,15 +133,11 @@ fn members_with(
     ensures fresh { IfOk result (λ members. AreFresh members.items) }
 {
     let mut members = Vec::with_capacity(alloc, queues.len())?;
-    for freed in queues {
+    for own in queues {
         let failures = Vec::with_capacity(alloc, actions)?;
         let turn = members.len();
         members.push(Member {
-            hints: Hints {
-                freed,
-                turn,
-                taken: 0,
-            },
+            hints: Hints { own, turn },
             failures,
         })?;
     }
@@ -162,46 +169,47 @@ pub fn deal(checked: &Checked<'_>, shares: &mut [Worker<u32>]) {
 
 /// How much of a block an action is, by what it reads.
 fn weight(action: Option<&Action>) -> u64 {
-    let least = PIECE_SIZE / u64::from(BLOCK);
     match action {
         Some(
             Action {
                 kind: Kind::Piece { length, .. },
                 ..
             },
-        ) => least.max(*length),
-        _ => least,
+        ) => LEAST_WEIGHT.max(*length),
+        _ => LEAST_WEIGHT,
     }
 }
 
 impl Hints {
-    /// The next hint: the last action that the worker freed; or else the lowest of a share, where the look begins one further after
-    /// each block; or else an action that another freed. So the shares stay in step however long one worker is busy, pieces
-    /// are staged nearly in order, and few commits have staged bytes at once.
-    pub fn next(&mut self, all: &[Queues]) -> Option<u32> {
-        if let Some(hint) = self.freed.pop() {
+    /// The next hint: the last action that the worker freed, or the next of its block; or else the lowest of a share, where the
+    /// look begins one further after each block; or else one that another has. So the shares stay in step however long one worker
+    /// is busy, pieces are staged nearly in order, and few commits have staged bytes at once.
+    pub fn next(&mut self, checked: &Checked<'_>, all: &[Queues]) -> Option<u32> {
+        if let Some(hint) = self.own.pop() {
             return Some(hint);
         }
         let (before, from) = all.split_at(self.turn.min(all.len()));
         for queues in from.iter().chain(before) {
             if let Steal::Success(hint) = queues.dealt.steal() {
-                self.take(all.len());
+                self.take_block(checked, &queues.dealt, hint);
+                self.turn = self.turn.wrapping_add(1) % all.len().max(1);
                 return Some(hint);
             }
         }
         for queues in all {
-            if let Steal::Success(hint) = queues.freed.steal() {
+            if let Steal::Success(hint) = queues.own.steal() {
                 return Some(hint);
             }
         }
         None
     }
 
-    /// A hint was taken from one of so many shares. After a block the look begins at the next one.
-    fn take(&mut self, shares: usize) {
-        self.taken = self.taken.wrapping_add(1);
-        if self.taken % BLOCK == 0 {
-            self.turn = self.turn.wrapping_add(1) % shares.max(1);
+    /// Takes the rest of a block that a small action begins from a share, so that no other worker has its neighbours.
+    fn take_block(&mut self, checked: &Checked<'_>, dealt: &Stealer<u32>, first: u32) {
+        let action = checked.plan().actions.as_slice().get(first as usize);
+        if weight(action) == LEAST_WEIGHT {
+            // Where there is no room, none is taken.
+            let _ = dealt.steal_batch_with_limit(&mut self.own, BLOCK as usize - 1);
         }
     }
 }

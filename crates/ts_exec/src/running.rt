@@ -7,10 +7,10 @@ ghost use Rattle.ts_board.specs.Terms.{commit_count};
 ghost use Rattle.ts_exec.specs.Failures.{or_jammed, setting_for, setting_over, setting_until};
 ghost use Rattle.ts_exec.specs.Stores.{IsKeptOutcome, StaysKept};
 ghost use Rattle.ts_exec.specs.Outcomes.{IsOutcomeOf, IsSteady, MisfitsAreUntold, OnlyMemoryRanOut};
-ghost use Rattle.ts_exec.specs.Tidy.{AreFresh, IsSwept, IsTidy, Noted};
+ghost use Rattle.ts_exec.specs.Tidy.{AreFresh, IsCrewFor, IsSwept, IsTidy, Noted};
 ghost use Rattle.ts_exec.specs.Sharing.{setting_of};
 
-use crate::crew::{Crew, Member, Queues, deal};
+use crate::crew::{Crew, Member, Queues, deal, shares_for};
 use crate::crowd::{AllWorked, work_at_once};
 use crate::fault::{ActFault, RunFault};
 use crate::gate::Gate;
@@ -21,13 +21,13 @@ use crate::stop::{Stop, Stoppable, Unstopped};
 use crossbeam_deque::Worker;
 use std::alloc::Global;
 use std::thread::{Threads, join};
-use ts_board::{Board, OpenFault, Pass};
+use ts_board::{Board, OpenFault, Opening, Pass};
 use ts_check::Checked;
 use ts_folder::Folder;
 use ts_site::Site;
 use ts_stage::{MemStage, Stage};
 
-/// With fewer actions the board is opened and the hints are dealt one after the other: a thread would take longer to start.
+/// With fewer actions what comes before the workers is done by one thread: another would take longer to start.
 const MANY_ACTIONS: u32 = 4_096;
 
 /// Lets all members work, and then tries what is still open, in order. Where a member was stopped that is left out.
@@ -244,33 +244,77 @@ where
     .0
 }
 
-/// Opens the board, and deals the actions that wait for nothing out to the shares, both at once where there are many. Where memory
-/// runs out, the sites come back.
-fn open_and_deal<R: Threads + Sync, S: Site>(
+/// Gathers the crew and lays the board out, both at once where there are many actions. Where memory runs out, the sites come back.
+fn gather_and_lay_out<R: Threads + Sync, S: Site>(
     rt: &R,
     alloc: Global,
     checked: &Checked<'_>,
     sites: Vec<S>,
+    workers: u32,
+) -> Result<(Crew, Opening<S>), Vec<S>>
+    requires sites { length sites.items ≡ commit_count checked.now.plan.actions }
+    ensures crew { IfOk result (λ r. IsCrewFor checked.now.plan r.0) }
+    ensures plan { IfOk result (λ r. r.1.plan.value ≡ checked.now.plan) }
+    ensures sites { IfOk result (λ r. r.1.sites.value.items ≡ sites.items) }
+    ensures back { IfErr result (λ back. back.items ≡ sites.items) }
+{
+    let commits = sites.len();
+    let (shares, laid) = if is_for_one(checked, workers as usize) {
+        let shares = shares_for(alloc, commits, workers);
+        (shares, Opening::lay_out(alloc, checked, sites))
+    } else {
+        join(
+            rt,
+            || shares_for(alloc, commits, workers),
+            move || -> Result<Opening<S>, (Vec<S>, OpenFault)>
+                requires { length sites.items ≡ commit_count checked.now.plan.actions }
+            { Opening::lay_out(alloc, checked, sites) },
+        )
+    };
+    let opening = match laid {
+        Ok(opening) => opening,
+        Err((sites, _)) => return Err(sites),
+    };
+    if let Ok(shares) = shares {
+        if let Ok(crew) = Crew::gather(alloc, checked, shares) {
+            return Ok((crew, opening));
+        }
+    }
+    Err(opening.into_sites())
+}
+
+/// Deals the actions that wait for nothing out to the shares and opens the board, both at once where there are many actions. Where
+/// memory runs out, the sites come back.
+fn deal_and_open<R: Threads + Sync, S: Site>(
+    rt: &R,
+    alloc: Global,
+    checked: &Checked<'_>,
+    opening: Opening<S>,
     shares: &mut [Worker<u32>],
 ) -> Result<(Board<S>, Pass<S>), (Vec<S>, OpenFault)>
-    requires sites { length sites.items ≡ commit_count checked.now.plan.actions }
-    ensures board { IfOk result (λ r. terms_of S.content r.0 ≡ terms_for S.content checked.now sites.items) }
-    ensures pass { IfOk result (λ r. IsPassAt (table_of r.0) (terms_for S.content checked.now sites.items) r.1 × IsWhole r.1) }
+    requires plan { opening.plan.value ≡ checked.now.plan }
+    ensures board { IfOk result (λ r. terms_of S.content r.0 ≡ terms_for S.content checked.now opening.sites.value.items) }
+    ensures pass { IfOk result (λ r. IsPassAt (table_of r.0) (terms_for S.content checked.now opening.sites.value.items) r.1 × IsWhole r.1) }
     ensures nothing { IfOk result (λ r. (seen r.1 ≡ []) × (mine r.1 ≡ [])) }
-    ensures back { IfErr result (λ refused. refused.0.items ≡ sites.items) }
+    ensures back { IfErr result (λ refused. refused.0.items ≡ opening.sites.value.items) }
 {
-    if shares.len() < 2 || checked.action_count() < MANY_ACTIONS {
+    if is_for_one(checked, shares.len()) {
         deal(checked, shares);
-        return Board::open(alloc, checked, sites);
+        return opening.open(alloc, checked);
     }
     let ((), opened) = join(
         rt,
         || deal(checked, shares),
         move || -> Result<(Board<S>, Pass<S>), (Vec<S>, OpenFault)>
-            requires { length sites.items ≡ commit_count checked.now.plan.actions }
-        { Board::open(alloc, checked, sites) },
+            requires { opening.plan.value ≡ checked.now.plan }
+        { opening.open(alloc, checked) },
     );
     opened
+}
+
+/// Whether what comes before the workers is done by one thread.
+fn is_for_one(checked: &Checked<'_>, workers: usize) -> bool {
+    workers < 2 || checked.action_count() < MANY_ACTIONS
 }
 
 /// Carries out a checked plan, until its gate says to stop, and makes checkpoints meanwhile.
@@ -309,8 +353,9 @@ where
     ensures wide { IfOk result.0 (λ o. HasPlaces o.closed (length checked.now.plan.actions)) }
     ensures back { IfErr result.0 (λ refused. (refused.0.items ≡ sites.items) × (result.1 ≡ keeping.keeper)) }
 {
-    let Ok(crew) = Crew::gather(alloc, checked, sites.len(), workers) else {
-        return (Err((sites, RunFault::OutOfMemory)), keeping.into_keeper());
+    let (crew, opening) = match gather_and_lay_out(rt, alloc, checked, sites, workers) {
+        Ok(ready) => ready,
+        Err(sites) => return (Err((sites, RunFault::OutOfMemory)), keeping.into_keeper()),
     };
     let Crew {
         members,
@@ -320,7 +365,7 @@ where
         faults,
         results,
     } = crew;
-    let (board, pass) = match open_and_deal(rt, alloc, checked, sites, shares.as_mut_slice()) {
+    let (board, pass) = match deal_and_open(rt, alloc, checked, opening, shares.as_mut_slice()) {
         Ok(opened) => opened,
         Err((sites, _)) => return (Err((sites, RunFault::OutOfMemory)), keeping.into_keeper()),
     };

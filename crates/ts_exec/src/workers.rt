@@ -124,14 +124,14 @@ where
             if idle >= PATIENCE || worked.failures.len() >= worked.failures.capacity() {
                 return worked;
             }
-            match hints.next(queues) {
+            match hints.next(self.checked, queues) {
                 Some(i) => {
                     if self.gate.now() {
                         worked.is_stopped = true;
                         return worked;
                     }
                     idle = 0;
-                    self.follow(&mut worked, i, &mut hints.freed, keeping);
+                    self.follow(&mut worked, i, &mut hints.own, keeping);
                 }
                 None => {
                     idle += 1;

@@ -10,7 +10,7 @@ use crate::board::task::{Seen, Task, Turn};
 use anyhow::{Result, bail};
 use std::alloc::Global;
 use std::thread::Threads;
-use ts_board::{Board, Pass};
+use ts_board::{Board, Opening, Pass};
 use ts_check::Checked;
 use ts_print::Print;
 use ts_site::Site;
@@ -37,7 +37,10 @@ pub fn opened<S: Site>(
     ensures from { IfOk result (λ r. IsFromCheck (terms_of S.content r.0) checked.now) }
     ensures pass { IfOk result (λ r. IsPassOf S.content r.0 r.1) }
 {
-    match Board::open(alloc, checked, sites) {
+    let Ok(opening) = Opening::lay_out(alloc, checked, sites) else {
+        bail!("no memory to lay a board out");
+    };
+    match opening.open(alloc, checked) {
         Ok(opened) => Ok(opened),
         Err(_) => bail!("no memory for a board"),
     }

@@ -1,4 +1,4 @@
-use Rattle.std.proofs.Common.{List, Option, refl, sym, subst}
+use Rattle.std.proofs.Common.{◌∙◌, List, Option, ap, refl, sym, subst}
 use Rattle.std.specs.Mem.Slots.{slots_items}
 use Rattle.ts_model.specs.Runs.{Run}
 use Rattle.ts_board.specs.Calls.{mine, seen, terms_of}
@@ -20,9 +20,9 @@ pub results_of-results-requires-clause-end : goal.results_of-results-requires-cl
 results_of-results-requires-clause-end g c κs within = (
   c.close-closed.ensures.ends.0,
   end g.S.Site.content g.S.Site.failures g.F.Folder.tells g.F.Folder.lets c.args.checked.now c.plan-plan.ensures.valid c.args.first.now c.args.second.now
-      (terms_of g.S.Site.content c.in-Ok-open_and_deal.opened.0) (terms_for g.S.Site.content c.args.checked.now c.args.sites.items) c.in-Ok-open_and_deal.ensures.board (refl, refl, refl)
+      (terms_of g.S.Site.content c.in-Ok-deal_and_open.opened.0) (terms_for g.S.Site.content c.args.checked.now c.args.sites.items) (c.in-Ok-deal_and_open.ensures.board ∙ ap (terms_for g.S.Site.content c.args.checked.now) c.in-Ok.ensures.sites) (refl, refl, refl)
       c.work_and_sweep-pass.result.0 (slots_items c.close-closed.result.row.words) (slots_items c.close-closed.result.row.slots) c.as_slice-2.result.now
-      c.close-closed.ensures.ends c.work_and_sweep-pass.ensures.pass.1 (g.P.Stage.fails c.args.stage.now) (g.G.Stop.stops c.args.gate.now) c.work_and_sweep-pass.ensures.tidy (subst (λ (f : List (Option ActFault)). Noted (or_jammed (g.P.Stage.fails c.args.stage.now) (or_stopped (g.G.Stop.stops c.args.gate.now) (setting_with g.S.Site.failures g.F.Folder.tells g.F.Folder.lets c.args.checked.now c.args.first.now c.args.second.now (terms_of g.S.Site.content c.in-Ok-open_and_deal.opened.0).told))) (mine c.work_and_sweep-pass.result.0) (seen c.work_and_sweep-pass.result.0) f) (sym c.as_slice-2.ensures.value) c.work_and_sweep-pass.ensures.noted) c.work_and_sweep-pass.ensures.swept,
+      c.close-closed.ensures.ends c.work_and_sweep-pass.ensures.pass.1 (g.P.Stage.fails c.args.stage.now) (g.G.Stop.stops c.args.gate.now) c.work_and_sweep-pass.ensures.tidy (subst (λ (f : List (Option ActFault)). Noted (or_jammed (g.P.Stage.fails c.args.stage.now) (or_stopped (g.G.Stop.stops c.args.gate.now) (setting_with g.S.Site.failures g.F.Folder.tells g.F.Folder.lets c.args.checked.now c.args.first.now c.args.second.now (terms_of g.S.Site.content c.in-Ok-deal_and_open.opened.0).told))) (mine c.work_and_sweep-pass.result.0) (seen c.work_and_sweep-pass.result.0) f) (sym c.as_slice-2.ensures.value) c.work_and_sweep-pass.ensures.noted) c.work_and_sweep-pass.ensures.swept,
 )
 
 pub returns-clause-outcome : goal.returns-clause-outcome
@@ -30,15 +30,15 @@ returns-clause-outcome g c =
     let opened : Terms = terms_for g.S.Site.content c.args.checked.now c.args.sites.items in
     let ends = c.close-closed.ensures.ends in
     let is_end = end g.S.Site.content g.S.Site.failures g.F.Folder.tells g.F.Folder.lets c.args.checked.now c.plan-plan.ensures.valid c.args.first.now c.args.second.now
-    (terms_of g.S.Site.content c.in-Ok-open_and_deal.opened.0) opened c.in-Ok-open_and_deal.ensures.board (refl, refl, refl)
+    (terms_of g.S.Site.content c.in-Ok-deal_and_open.opened.0) opened (c.in-Ok-deal_and_open.ensures.board ∙ ap (terms_for g.S.Site.content c.args.checked.now) c.in-Ok.ensures.sites) (refl, refl, refl)
     c.work_and_sweep-pass.result.0 (slots_items c.close-closed.result.row.words) (slots_items c.close-closed.result.row.slots) c.as_slice-2.result.now
-    c.close-closed.ensures.ends c.work_and_sweep-pass.ensures.pass.1 (g.P.Stage.fails c.args.stage.now) (g.G.Stop.stops c.args.gate.now) c.work_and_sweep-pass.ensures.tidy (subst (λ (f : List (Option ActFault)). Noted (or_jammed (g.P.Stage.fails c.args.stage.now) (or_stopped (g.G.Stop.stops c.args.gate.now) (setting_with g.S.Site.failures g.F.Folder.tells g.F.Folder.lets c.args.checked.now c.args.first.now c.args.second.now (terms_of g.S.Site.content c.in-Ok-open_and_deal.opened.0).told))) (mine c.work_and_sweep-pass.result.0) (seen c.work_and_sweep-pass.result.0) f) (sym c.as_slice-2.ensures.value) c.work_and_sweep-pass.ensures.noted) c.work_and_sweep-pass.ensures.swept in
+    c.close-closed.ensures.ends c.work_and_sweep-pass.ensures.pass.1 (g.P.Stage.fails c.args.stage.now) (g.G.Stop.stops c.args.gate.now) c.work_and_sweep-pass.ensures.tidy (subst (λ (f : List (Option ActFault)). Noted (or_jammed (g.P.Stage.fails c.args.stage.now) (or_stopped (g.G.Stop.stops c.args.gate.now) (setting_with g.S.Site.failures g.F.Folder.tells g.F.Folder.lets c.args.checked.now c.args.first.now c.args.second.now (terms_of g.S.Site.content c.in-Ok-deal_and_open.opened.0).told))) (mine c.work_and_sweep-pass.result.0) (seen c.work_and_sweep-pass.result.0) f) (sym c.as_slice-2.ensures.value) c.work_and_sweep-pass.ensures.noted) c.work_and_sweep-pass.ensures.swept in
     let k = c.args.checked.now in let before = g.K.Keeper.kept c.args.keeping.keeper in let after = g.K.Keeper.kept c.work_and_sweep-pass.result.2 in
-    let begun : IsKept k before (seen c.in-Ok-open_and_deal.opened.1) before = subst (λ (r : Run). IsKept k before r before) (sym c.in-Ok-open_and_deal.ensures.nothing.0) (nothing_kept k before) in
+    let begun : IsKept k before (seen c.in-Ok-deal_and_open.opened.1) before = subst (λ (r : Run). IsKept k before r before) (sym c.in-Ok-deal_and_open.ensures.nothing.0) (nothing_kept k before) in
     let made = kept_outcome g.S.Site.content g.S.Site.failures g.F.Folder.tells g.F.Folder.lets c.args.checked.now c.plan-plan.ensures.valid c.args.first.now c.args.second.now
-    (terms_of g.S.Site.content c.in-Ok-open_and_deal.opened.0) opened c.in-Ok-open_and_deal.ensures.board (refl, refl, refl)
+    (terms_of g.S.Site.content c.in-Ok-deal_and_open.opened.0) opened (c.in-Ok-deal_and_open.ensures.board ∙ ap (terms_for g.S.Site.content c.args.checked.now) c.in-Ok.ensures.sites) (refl, refl, refl)
     c.work_and_sweep-pass.result.0 (slots_items c.close-closed.result.row.words) (slots_items c.close-closed.result.row.slots) c.as_slice-2.result.now
-    c.close-closed.ensures.ends c.work_and_sweep-pass.ensures.pass.1 (g.P.Stage.fails c.args.stage.now) (g.G.Stop.stops c.args.gate.now) c.work_and_sweep-pass.ensures.tidy (subst (λ (f : List (Option ActFault)). Noted (or_jammed (g.P.Stage.fails c.args.stage.now) (or_stopped (g.G.Stop.stops c.args.gate.now) (setting_with g.S.Site.failures g.F.Folder.tells g.F.Folder.lets c.args.checked.now c.args.first.now c.args.second.now (terms_of g.S.Site.content c.in-Ok-open_and_deal.opened.0).told))) (mine c.work_and_sweep-pass.result.0) (seen c.work_and_sweep-pass.result.0) f) (sym c.as_slice-2.ensures.value) c.work_and_sweep-pass.ensures.noted) c.work_and_sweep-pass.ensures.swept c.results_of-results.result.items c.results_of-results.ensures.count (c.results_of-results.ensures.each ends.0 is_end)
+    c.close-closed.ensures.ends c.work_and_sweep-pass.ensures.pass.1 (g.P.Stage.fails c.args.stage.now) (g.G.Stop.stops c.args.gate.now) c.work_and_sweep-pass.ensures.tidy (subst (λ (f : List (Option ActFault)). Noted (or_jammed (g.P.Stage.fails c.args.stage.now) (or_stopped (g.G.Stop.stops c.args.gate.now) (setting_with g.S.Site.failures g.F.Folder.tells g.F.Folder.lets c.args.checked.now c.args.first.now c.args.second.now (terms_of g.S.Site.content c.in-Ok-deal_and_open.opened.0).told))) (mine c.work_and_sweep-pass.result.0) (seen c.work_and_sweep-pass.result.0) f) (sym c.as_slice-2.ensures.value) c.work_and_sweep-pass.ensures.noted) c.work_and_sweep-pass.ensures.swept c.results_of-results.result.items c.results_of-results.ensures.count (c.results_of-results.ensures.each ends.0 is_end)
     before after (c.work_and_sweep-pass.ensures.kept before begun) in
     let x = or_jammed (g.P.Stage.fails c.args.stage.now) (setting_until g.S.Site g.F.Folder g.G.Stop c.args.checked.now c.args.first.now c.args.second.now c.args.sites.items c.args.gate.now) in
     subst

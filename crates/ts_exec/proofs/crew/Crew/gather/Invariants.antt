@@ -1,5 +1,5 @@
 use Rattle.std.proofs.Common.{◌≡◌, length}
 use Rattle.ts_exec.proofs.crew.Crew.gather.Given as goal
 
-abbrev pub invariant-loop : goal.invariant-loop
-invariant-loop l = (length l.queues.items ≡ l.counter) × (length l.freed.items ≡ l.counter)
+abbrev pub invariant-loop-share : goal.invariant-loop-share
+invariant-loop-share l = (length l.queues.items ≡ l.share-index) × (length l.owned.items ≡ l.share-index)
