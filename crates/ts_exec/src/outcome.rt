@@ -1,5 +1,5 @@
 //! What came of a plan.
-ghost use Rattle.std.specs.Prelude.{◌≡◌, ◌<◌, ◌≤◌, [], Some, length, slice_get, slice_index_or, slice_set, vec_capacity, IfNone, IfOk, IfSome};
+ghost use Rattle.std.specs.Prelude.{ℕ, ◌≡◌, ◌<◌, ◌≤◌, [], Some, length, slice_get, slice_index_or, slice_set, vec_capacity, IfNone, IfOk, IfSome};
 ghost use Rattle.std.specs.Mem.Slots.{slots_len};
 ghost use Rattle.ts_board.specs.Archives.{HasEnded, LeftArchive};
 ghost use Rattle.ts_board.specs.Terms.{commit_count, site_in};
@@ -71,6 +71,16 @@ impl<S: Site> Outcome<S> {
         ensures results { self.new.results ≡ self.old.results }
     {
         self.closed.take_site(c)
+    }
+
+    /// Lets the sites of all commits go, with what they take of memory. What came of the actions stays.
+    pub fn let_sites_go(&mut self)
+        ensures none { (c : ℕ) → slice_index_or (slots_of self.new.closed) c Empty ≡ Empty }
+        ensures words { words_of self.new.closed ≡ words_of self.old.closed }
+        ensures counts { IsAsWide self.old.closed self.new.closed }
+        ensures results { self.new.results ≡ self.old.results }
+    {
+        self.closed.let_sites_go();
     }
 
     /// The archive that the plan was checked against, with the mark of each action that is done. It is asked of the plan that

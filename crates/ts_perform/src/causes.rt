@@ -1,6 +1,7 @@
 //! Why scans, actions and answers failed, as far as the system says.
 ghost use Rattle.std.specs.Prelude.{◌≡◌, ◌⊎◌, ◌<◌, ◌≤◌, length};
 ghost use Rattle.std.specs.Mem.Slots.{slots_len};
+ghost use Rattle.ts_board.specs.Calls.{IsAsWide, words_of};
 ghost use Rattle.ts_perform.specs.Faults.{IsCauseBelow, IsOfSecond, IsSameButCause, IsWithCauseBelow, IsWithOutputCause};
 ghost use Rattle.ts_perform.specs.Trials.{IsQuiet};
 
@@ -27,6 +28,8 @@ pub(crate) fn causes_of<R: Machine>(
     requires count { length outcome.old.results.items ≡ length checked.now.plan.actions }
     requires slots { length checked.now.plan.actions ≤ slots_len outcome.old.closed.row.slots }
     ensures results { outcome.new.results ≡ outcome.old.results }
+    ensures words { words_of outcome.new.closed ≡ words_of outcome.old.closed }
+    ensures counts { IsAsWide outcome.old.closed outcome.new.closed }
 {
     let mut causes = Vec::new(task.rt.alloc());
     if task.command.explain {
@@ -53,7 +56,8 @@ fn cause_of_action<R: Machine>(
     requires action { i < length checked.now.plan.actions }
     requires slots { length checked.now.plan.actions ≤ slots_len outcome.old.closed.row.slots }
     ensures results { outcome.new.results ≡ outcome.old.results }
-    ensures slots { slots_len outcome.new.closed.row.slots ≡ slots_len outcome.old.closed.row.slots }
+    ensures words { words_of outcome.new.closed ≡ words_of outcome.old.closed }
+    ensures counts { IsAsWide outcome.old.closed outcome.new.closed }
 {
     let ActionResult::Failed(ActFault::Device | ActFault::Unreadable) = outcome.result(i) else {
         return Cause::Unknown;

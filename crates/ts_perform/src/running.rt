@@ -293,10 +293,12 @@ impl<R: Machine> Task<'_, R> {
         self.save(alloc, plan, &*claims)?;
         match act(self, &mut claims.archive, &checked) {
             Ok((mut outcome, stage)) => {
+                let causes = causes_of(self, &checked, &mut outcome, &stage);
+                // the archive is made while most memory is taken
+                outcome.let_sites_go();
                 let cleared = self.clear(alloc, plan, notices);
                 let kept = keep_archive(self, &mut claims.archive, &checked, &outcome);
                 self.remove(alloc, cleared);
-                let causes = causes_of(self, &checked, &mut outcome, &stage);
                 // what can't be found out of mounts is no reason to end
                 let _ = self.add_mounts(alloc, plan, outcome.results(), notices);
                 let skips = skips_of(alloc, self.command, plan, snapshot);
