@@ -35,6 +35,9 @@ impl Bytes {
     pub fn share(alloc: Global, bytes: Vec<u8>) -> Result<Bytes, AllocError>
         ensures { IfOk result (λ shared. shared ≡ bytes.items) }
     {
+        if bytes.is_empty() {
+            return Ok(Bytes::none());
+        }
         Ok(Bytes {
             shared: Some(Arc::new(alloc, bytes)?),
         })
@@ -52,6 +55,7 @@ impl Bytes {
         }
     }
 
+    /// The bytes themselves. It takes no memory.
     pub fn as_slice(&self) -> &[u8]
         ensures { result.now ≡ self.now }
     {
