@@ -13,4 +13,4 @@ mod placing;
 
 pub use board::{Board, Closed, Held, Pass};
 pub use fault::OpenFault;
-pub use open::Opening;
+pub use open::{FirstWords, Opening};

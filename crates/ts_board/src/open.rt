@@ -20,6 +20,30 @@ use ts_print::Print;
 use ts_site::Site;
 
 /// The words that a plan's actions have at the start. Where there is no action, one word stands there that belongs to none.
+#[derive(Drop)]
+pub struct FirstWords {
+    words: Vec<u64>,
+    plan: Snapshot<Plan>,
+    ghost counted: { words.items ≡ first_words plan.value.actions },
+}
+
+impl FirstWords {
+    /// The first words for a checked plan: how many others each action waits for.
+    ///
+    /// # Errors
+    ///
+    /// Out of memory alone.
+    pub fn count(alloc: Global, checked: &Checked<'_>) -> Result<FirstWords, AllocError>
+        ensures { IfOk result (λ w. w.plan.value ≡ checked.now.plan) }
+    {
+        let plan = checked.plan();
+        Ok(FirstWords {
+            words: first_words(alloc, plan)?,
+            plan: Snapshot::of(plan),
+        })
+    }
+}
+
 fn first_words(alloc: Global, plan: &Plan) -> Result<Vec<u64>, AllocError>
     ensures { IfOk result (λ words. words.items ≡ first_words plan.now.actions) }
 {
@@ -69,16 +93,14 @@ pub(crate) fn open_slots<S: Site>(
     }
 }
 
-/// A board that is laid out and not opened yet: its words, and its slots with the sites in those of the commits.
+/// A board that is laid out and not opened yet: its slots, with the sites in those of the commits.
 #[derive(Drop)]
 pub struct Opening<S> {
-    words: Vec<u64>,
     slots: Vec<Slot<S>>,
     /// Room for the sites, should they have to come back.
     back: Vec<S>,
     plan: Snapshot<Plan>,
     sites: Snapshot<Vec<S>>,
-    ghost first: { words.items ≡ first_words plan.value.actions },
     ghost placed: { slots.items ≡ placed plan.value.actions sites.value.items },
     ghost sited: { length sites.value.items ≡ commit_count plan.value.actions },
     ghost room: { (back.items ≡ []) × (length sites.value.items ≤ vec_capacity back) },
@@ -101,13 +123,9 @@ impl<S: Site> Opening<S> {
         let Ok(back) = Vec::with_capacity(alloc, sites.len()) else {
             return Err((sites, OpenFault::OutOfMemory));
         };
-        let Ok(words) = first_words(alloc, plan) else {
-            return Err((sites, OpenFault::OutOfMemory));
-        };
         let given = Snapshot::of(&sites);
         match slots_with(alloc, plan, sites) {
             Ok(slots) => Ok(Opening {
-                words,
                 slots,
                 back,
                 plan: Snapshot::of(plan),
@@ -125,31 +143,29 @@ impl<S: Site> Opening<S> {
         sites_from(slots, back)
     }
 
-    /// The board, on which nothing is done yet, and its one pass. Where memory runs out, the sites come back.
+    /// The board, on which nothing is done yet, and its one pass. Slots and words have to be those of the plan that was checked.
+    /// Where memory runs out, the sites come back.
     pub fn open(
         self,
         alloc: Global,
         checked: &Checked<'_>,
+        first: FirstWords,
     ) -> Result<(Board<S>, Pass<S>), (Vec<S>, OpenFault)>
         requires plan { self.plan.value ≡ checked.now.plan }
+        requires words { first.plan.value ≡ checked.now.plan }
         ensures board { IfOk result (λ r. terms_of S.content r.0 ≡ terms_for S.content checked.now self.sites.value.items) }
         ensures pass { IfOk result (λ r. IsPassAt (table_of r.0) (terms_for S.content checked.now self.sites.value.items) r.1 × IsWhole r.1) }
         ensures nothing { IfOk result (λ r. (seen r.1 ≡ []) × (mine r.1 ≡ [])) }
         ensures back { IfErr result (λ refused. refused.0.items ≡ self.sites.value.items) }
     {
-        let Opening {
-            words,
-            slots,
-            back,
-            ..
-        } = self;
+        let Opening { slots, back, .. } = self;
         let plan = checked.plan();
         match open_slots(
             alloc,
             plan,
             checked.first(),
             checked.second(),
-            words.as_slice(),
+            first.words.as_slice(),
             slots,
         ) {
             Ok(opened) => Ok(opened),

@@ -5,7 +5,7 @@
 --     IsTry plan i fault b     the steps b of one try of action i, which failed with this fault or didn't fail
 --     MakesTry x p i fault q   between these passes one try of action i was made
 --     AreFresh members         no worker has found a failure yet
---     IsCrewFor plan crew      the crew hasn't begun, and has room for what comes of each action
+--     HasRoomFor plan notes    nothing is noted, and there is room for what comes of each action
 --     Listed, Noted            why each action failed is known, and what acts did is what folders tell
 --     StayNoted, AreNoted      what the list of a worker adds to the faults that are noted
 --     Swept                    the actions below this number were tried in order
@@ -24,8 +24,8 @@ use Rattle.ts_board.specs.declared.law.Terms.{Terms}
 use Rattle.ts_exec.specs.Failures.{Setting, AreTold, MayFail}
 use Rattle.ts_exec.specs.declared.fault.ActFault.{ActFault}
 use Rattle.ts_exec.specs.declared.crew.Failure.{Failure}
-use Rattle.ts_exec.specs.declared.crew.Crew.{Crew}
 use Rattle.ts_exec.specs.declared.crew.Member.{Member}
+use Rattle.ts_exec.specs.declared.crew.Notes.{Notes}
 
 pub record IsTidy (plan : Plan) (own : Run) : Type 0 where
   pub ended : (i : ℕ) → Has own (claims i) → Has own (finishes i) ⊎ Has own (fails i)
@@ -59,9 +59,8 @@ MakesTry x p i fault q = (block : Run) × (mine q ≡ mine p ++ block) × IsTry 
 abbrev pub AreFresh : List Member → Type 0
 AreFresh members = All (λ (m : Member). m.failures.items ≡ []) members
 
-abbrev pub IsCrewFor : Plan → Crew → Type 0
-IsCrewFor plan crew =
-    AreFresh crew.members.items × (length crew.faults.items ≡ length plan.actions) × (crew.results.items ≡ []) × (length plan.actions ≤ vec_capacity crew.results)
+abbrev pub HasRoomFor : Plan → Notes → Type 0
+HasRoomFor plan notes = (length notes.faults.items ≡ length plan.actions) × (notes.results.items ≡ []) × (length plan.actions ≤ vec_capacity notes.results)
 
 -- the number of the failed action is in the list
 abbrev pub IsListed : ℕ → List Failure → Type 0

@@ -64,7 +64,8 @@ where
         }
     }
 
-    /// Stages the bytes of a piece, read in one range. Where the file ends before the piece does they don't fit.
+    /// Stages the bytes of a piece, read in one range, and keeps what stands for them in a box. Where the file ends before the
+    /// piece does they don't fit.
     fn stage(
         &self,
         held: &mut Held<S>,

@@ -1,6 +1,6 @@
 //! The workers' hints, and room for what they find.
 ghost use Rattle.std.specs.Prelude.{◌≡◌, IfOk, length};
-ghost use Rattle.ts_exec.specs.Tidy.{AreFresh, IsCrewFor};
+ghost use Rattle.ts_exec.specs.Tidy.{AreFresh, HasRoomFor};
 
 use crate::fault::ActFault;
 use crate::outcome::ActionResult;
@@ -12,12 +12,11 @@ use ts_model::plan::{Action, Kind, PIECE_SIZE};
 /// How many hints a queue has room for at first, at least.
 const FIRST_HINTS: usize = 64;
 
-/// How many small actions in a row are dealt to one share, and taken from it at once. What neighbours need lies side by side in
-/// memory, so that one worker should have them.
-const BLOCK: u32 = 16;
+/// How many small actions in a row are a block, which one worker takes. What neighbours need lies side by side in memory.
+const BLOCK: u64 = 64;
 
-/// How much of a block a small action is.
-const LEAST_WEIGHT: u64 = PIECE_SIZE / BLOCK as u64;
+/// How much of a block a small action is, where a block weighs as much as a whole piece.
+const LEAST_WEIGHT: u64 = PIECE_SIZE / BLOCK;
 
 /// The number of an action that failed, and why.
 #[derive(Clone, Copy, Debug, Drop)]
@@ -29,7 +28,7 @@ pub struct Failure {
 /// What all may take from one worker's hints which actions may be ready.
 #[derive(Drop)]
 pub struct Queues {
-    /// Its share of the actions that wait for nothing, the lowest first.
+    /// Its share of the blocks of actions that wait for nothing, the lowest first. The first action stands for its block.
     pub dealt: Stealer<u32>,
     /// Its own hints.
     pub own: Stealer<u32>,
@@ -50,31 +49,47 @@ pub struct Member {
     pub failures: Vec<Failure>,
 }
 
-/// All workers, and room for all results.
+/// Room for what comes of each action of a plan.
 #[derive(Drop)]
-pub struct Crew {
-    pub members: Vec<Member>,
-    pub queues: Vec<Queues>,
-    /// By these, actions are dealt to the queues of `dealt`: none so far.
-    pub shares: Vec<Worker<u32>>,
-    /// The sweep's own hints, which nobody reads.
-    pub unread: Worker<u32>,
+pub struct Notes {
     /// Why each action failed.
     pub faults: Vec<Option<ActFault>>,
     pub results: Vec<ActionResult>,
 }
 
-impl Crew {
-    /// A crew with a worker for each share, by the plan's actions. Nothing is dealt out yet.
-    pub fn gather(
-        alloc: Global,
-        checked: &Checked<'_>,
-        shares: Vec<Worker<u32>>,
-    ) -> Result<Crew, AllocError>
-        ensures workers { IfOk result (λ crew. (length crew.members.items ≡ length shares.items) × (length crew.queues.items ≡ length shares.items)) }
-        ensures crew { IfOk result (IsCrewFor checked.now.plan) }
+impl Notes {
+    /// Notes for a plan, in which nothing stands yet.
+    pub fn for_plan(alloc: Global, checked: &Checked<'_>) -> Result<Notes, AllocError>
+        ensures { IfOk result (HasRoomFor checked.now.plan) }
     {
         let actions = checked.action_count() as usize;
+        Ok(Notes {
+            faults: vec![in alloc; None; actions]?,
+            results: Vec::with_capacity(alloc, actions)?,
+        })
+    }
+}
+
+/// All workers, and how they find actions.
+#[derive(Drop)]
+pub struct Crew {
+    pub members: Vec<Member>,
+    pub queues: Vec<Queues>,
+    /// By these, blocks are dealt to the queues of `dealt`: none so far.
+    pub shares: Vec<Worker<u32>>,
+    /// The sweep's own hints, which nobody reads.
+    pub unread: Worker<u32>,
+}
+
+impl Crew {
+    /// A crew of so many workers for a plan. Nothing is dealt out yet.
+    pub fn gather(alloc: Global, checked: &Checked<'_>, workers: u32) -> Result<Crew, AllocError>
+        ensures members { IfOk result (λ crew. length crew.members.items ≡ workers) }
+        ensures queues { IfOk result (λ crew. length crew.queues.items ≡ workers) }
+        ensures fresh { IfOk result (λ crew. AreFresh crew.members.items) }
+    {
+        let actions = checked.action_count() as usize;
+        let shares = shares_for(alloc, workers)?;
         let mut queues = Vec::with_capacity(alloc, shares.len())?;
         let mut owned = Vec::with_capacity(alloc, shares.len())?;
         for share in shares.as_slice() {
@@ -90,37 +105,19 @@ impl Crew {
             queues,
             shares,
             unread: Worker::new_lifo(alloc, FIRST_HINTS)?,
-            faults: vec![in alloc; None; actions]?,
-            results: Vec::with_capacity(alloc, actions)?,
         })
     }
 }
 
-/// A share for each of so many workers, with room for its part of a plan with so many commits. Nothing is dealt out yet.
-pub fn shares_for(
-    alloc: Global,
-    commits: usize,
-    workers: u32,
-) -> Result<Vec<Worker<u32>>, AllocError>
+/// A share for each of so many workers. Nothing is dealt out yet.
+fn shares_for(alloc: Global, workers: u32) -> Result<Vec<Worker<u32>>, AllocError>
     ensures count { IfOk result (λ shares. length shares.items ≡ workers) }
 {
-    let room = room_in_a_share(commits, workers);
     let mut shares = Vec::with_capacity(alloc, workers as usize)?;
     for _ in 0..workers {
-        shares.push(Worker::new_fifo(alloc, room)?)?;
+        shares.push(Worker::new_fifo(alloc, FIRST_HINTS)?)?;
     }
     Ok(shares)
-}
-
-/// How many hints a share has room for at first. Where small files are copied, as many actions wait for nothing as there are
-/// commits, and each worker's share has its part of them, in whole blocks. Where there are more, it grows.
-fn room_in_a_share(commits: usize, workers: u32) -> usize {
-    if workers == 0 {
-        return FIRST_HINTS;
-    }
-    let block = BLOCK as usize;
-    let blocks = commits.div_ceil(workers as usize * block);
-    FIRST_HINTS.max(blocks.saturating_mul(block))
 }
 
 /// A member for each queue of own hints, with room for all failures.
@@ -144,8 +141,7 @@ fn members_with(
     Ok(members)
 }
 
-/// Deals out the actions that wait for nothing, the lowest first, a block to each share in turn. A whole piece is a block of its
-/// own, so that a large file is read nearly in order.
+/// Deals out the actions that wait for nothing, the lowest first, a block to each share in turn.
 pub fn deal(checked: &Checked<'_>, shares: &mut [Worker<u32>]) {
     let count = shares.len();
     if count == 0 {
@@ -156,8 +152,10 @@ pub fn deal(checked: &Checked<'_>, shares: &mut [Worker<u32>]) {
     let mut dealt = 0u64;
     for i in 0..checked.action_count() {
         if checked.preds(i).is_empty() {
-            // A hint that finds no room is dropped: the sweep comes to its action.
-            let _ = shares[next].push(i);
+            if dealt == 0 {
+                // A hint that finds no room is dropped: the sweep comes to its actions.
+                let _ = shares[next].push(i);
+            }
             dealt = dealt.saturating_add(weight(actions.get(i as usize)));
             if dealt >= PIECE_SIZE {
                 dealt = 0;
@@ -165,6 +163,22 @@ pub fn deal(checked: &Checked<'_>, shares: &mut [Worker<u32>]) {
             }
         }
     }
+}
+
+/// Where the block that an action begins has its end: behind the action with which it weighs as much as a whole piece. So a block
+/// has one whole piece at most, and a large file is read nearly in order.
+fn end_of_block(checked: &Checked<'_>, first: u32) -> u32 {
+    let actions = checked.plan().actions.as_slice();
+    let mut dealt = 0u64;
+    for i in first..checked.action_count() {
+        if checked.preds(i).is_empty() {
+            dealt = dealt.saturating_add(weight(actions.get(i as usize)));
+            if dealt >= PIECE_SIZE {
+                return i + 1;
+            }
+        }
+    }
+    checked.action_count()
 }
 
 /// How much of a block an action is, by what it reads.
@@ -181,19 +195,19 @@ fn weight(action: Option<&Action>) -> u64 {
 }
 
 impl Hints {
-    /// The next hint: the last action that the worker freed, or the next of its block; or else the lowest of a share, where the
-    /// look begins one further after each block; or else one that another has. So the shares stay in step however long one worker
-    /// is busy, pieces are staged nearly in order, and few commits have staged bytes at once.
+    /// The next hint: the last action that the worker freed, or the next of its block; or else the lowest block of a share, where
+    /// the look begins one further after each block; or else one that another has. So the shares stay in step however long one
+    /// worker is busy, pieces are staged nearly in order, and few commits have staged bytes at once.
     pub fn next(&mut self, checked: &Checked<'_>, all: &[Queues]) -> Option<u32> {
         if let Some(hint) = self.own.pop() {
             return Some(hint);
         }
         let (before, from) = all.split_at(self.turn.min(all.len()));
         for queues in from.iter().chain(before) {
-            if let Steal::Success(hint) = queues.dealt.steal() {
-                self.take_block(checked, &queues.dealt, hint);
+            if let Steal::Success(first) = queues.dealt.steal() {
+                self.take_block(checked, first);
                 self.turn = self.turn.wrapping_add(1) % all.len().max(1);
-                return Some(hint);
+                return Some(first);
             }
         }
         for queues in all {
@@ -204,12 +218,14 @@ impl Hints {
         None
     }
 
-    /// Takes the rest of a block that a small action begins from a share, so that no other worker has its neighbours.
-    fn take_block(&mut self, checked: &Checked<'_>, dealt: &Stealer<u32>, first: u32) {
-        let action = checked.plan().actions.as_slice().get(first as usize);
-        if weight(action) == LEAST_WEIGHT {
-            // Where there is no room, none is taken.
-            let _ = dealt.steal_batch_with_limit(&mut self.own, BLOCK as usize - 1);
+    /// Takes the rest of the block that an action begins: the worker's own hints are these, and the lowest comes first.
+    fn take_block(&mut self, checked: &Checked<'_>, first: u32) {
+        let rest = first.saturating_add(1)..end_of_block(checked, first);
+        for i in rest.rev() {
+            if checked.preds(i).is_empty() {
+                // A hint that finds no room is dropped here, too.
+                let _ = self.own.push(i);
+            }
         }
     }
 }

@@ -7,10 +7,10 @@ ghost use Rattle.ts_board.specs.Terms.{commit_count};
 ghost use Rattle.ts_exec.specs.Failures.{or_jammed, setting_for, setting_over, setting_until};
 ghost use Rattle.ts_exec.specs.Stores.{IsKeptOutcome, StaysKept};
 ghost use Rattle.ts_exec.specs.Outcomes.{IsOutcomeOf, IsSteady, MisfitsAreUntold, OnlyMemoryRanOut};
-ghost use Rattle.ts_exec.specs.Tidy.{AreFresh, IsCrewFor, IsSwept, IsTidy, Noted};
+ghost use Rattle.ts_exec.specs.Tidy.{AreFresh, HasRoomFor, IsSwept, IsTidy, Noted};
 ghost use Rattle.ts_exec.specs.Sharing.{setting_of};
 
-use crate::crew::{Crew, Member, Queues, deal, shares_for};
+use crate::crew::{Crew, Member, Notes, Queues, deal};
 use crate::crowd::{AllWorked, work_at_once};
 use crate::fault::{ActFault, RunFault};
 use crate::gate::Gate;
@@ -19,9 +19,9 @@ use crate::outcome::{Outcome, results_of};
 use crate::shared::Shared;
 use crate::stop::{Stop, Stoppable, Unstopped};
 use crossbeam_deque::Worker;
-use std::alloc::Global;
+use std::alloc::{AllocError, Global};
 use std::thread::{Threads, join};
-use ts_board::{Board, OpenFault, Opening, Pass};
+use ts_board::{Board, FirstWords, OpenFault, Opening, Pass};
 use ts_check::Checked;
 use ts_folder::Folder;
 use ts_site::Site;
@@ -244,55 +244,96 @@ where
     .0
 }
 
-/// Gathers the crew and lays the board out, both at once where there are many actions. Where memory runs out, the sites come back.
-fn gather_and_lay_out<R: Threads + Sync, S: Site>(
+/// What is made before a run begins: its crew, room for what comes of the actions, and the words and slots of its board.
+#[derive(Drop)]
+struct Prepared<S> {
+    crew: Crew,
+    notes: Notes,
+    words: FirstWords,
+    opening: Opening<S>,
+}
+
+/// Prepares a run. Where memory runs out, the sites come back.
+fn prepare<R: Threads + Sync, S: Site>(
     rt: &R,
     alloc: Global,
     checked: &Checked<'_>,
     sites: Vec<S>,
     workers: u32,
-) -> Result<(Crew, Opening<S>), Vec<S>>
+) -> Result<Prepared<S>, Vec<S>>
     requires sites { length sites.items ≡ commit_count checked.now.plan.actions }
-    ensures crew { IfOk result (λ r. IsCrewFor checked.now.plan r.0) }
-    ensures plan { IfOk result (λ r. r.1.plan.value ≡ checked.now.plan) }
-    ensures sites { IfOk result (λ r. r.1.sites.value.items ≡ sites.items) }
+    ensures fresh { IfOk result (λ r. AreFresh r.crew.members.items) }
+    ensures notes { IfOk result (λ r. HasRoomFor checked.now.plan r.notes) }
+    ensures words { IfOk result (λ r. r.words.plan.value ≡ checked.now.plan) }
+    ensures plan { IfOk result (λ r. r.opening.plan.value ≡ checked.now.plan) }
+    ensures sites { IfOk result (λ r. r.opening.sites.value.items ≡ sites.items) }
     ensures back { IfErr result (λ back. back.items ≡ sites.items) }
 {
-    let commits = sites.len();
-    let (shares, laid) = if is_for_one(checked, workers as usize) {
-        let shares = shares_for(alloc, commits, workers);
-        (shares, Opening::lay_out(alloc, checked, sites))
-    } else {
-        join(
-            rt,
-            || shares_for(alloc, commits, workers),
-            move || -> Result<Opening<S>, (Vec<S>, OpenFault)>
-                requires { length sites.items ≡ commit_count checked.now.plan.actions }
-            { Opening::lay_out(alloc, checked, sites) },
-        )
+    let Ok(notes) = Notes::for_plan(alloc, checked) else {
+        return Err(sites);
     };
+    let Ok(crew) = Crew::gather(alloc, checked, workers) else {
+        return Err(sites);
+    };
+    let (words, laid) = lay_out(rt, alloc, checked, sites, workers);
     let opening = match laid {
         Ok(opening) => opening,
         Err((sites, _)) => return Err(sites),
     };
-    if let Ok(shares) = shares {
-        if let Ok(crew) = Crew::gather(alloc, checked, shares) {
-            return Ok((crew, opening));
-        }
+    match words {
+        Ok(words) => Ok(Prepared {
+            crew,
+            notes,
+            words,
+            opening,
+        }),
+        Err(_) => Err(opening.into_sites()),
     }
-    Err(opening.into_sites())
 }
 
-/// Deals the actions that wait for nothing out to the shares and opens the board, both at once where there are many actions. Where
-/// memory runs out, the sites come back.
+/// Makes the words and lays the slots out, both at once where there are many actions. Where memory runs out for the slots, the
+/// sites come back.
+fn lay_out<R: Threads + Sync, S: Site>(
+    rt: &R,
+    alloc: Global,
+    checked: &Checked<'_>,
+    sites: Vec<S>,
+    workers: u32,
+) -> (
+    Result<FirstWords, AllocError>,
+    Result<Opening<S>, (Vec<S>, OpenFault)>,
+)
+    requires sites { length sites.items ≡ commit_count checked.now.plan.actions }
+    ensures words { IfOk result.0 (λ words. words.plan.value ≡ checked.now.plan) }
+    ensures plan { IfOk result.1 (λ o. o.plan.value ≡ checked.now.plan) }
+    ensures sites { IfOk result.1 (λ o. o.sites.value.items ≡ sites.items) }
+    ensures back { IfErr result.1 (λ refused. refused.0.items ≡ sites.items) }
+{
+    if is_for_one(checked, workers as usize) {
+        let words = FirstWords::count(alloc, checked);
+        return (words, Opening::lay_out(alloc, checked, sites));
+    }
+    let words = move || -> Result<FirstWords, AllocError>
+        ensures { IfOk result (λ words. words.plan.value ≡ checked.entry.now.plan) }
+    { FirstWords::count(alloc, checked) };
+    let slots = move || -> Result<Opening<S>, (Vec<S>, OpenFault)>
+        requires { length sites.items ≡ commit_count checked.now.plan.actions }
+    { Opening::lay_out(alloc, checked, sites) };
+    join(rt, words, slots)
+}
+
+/// Deals blocks of actions that wait for nothing out to the shares and opens the board, both at once where there are many actions.
+/// Where memory runs out, the sites come back.
 fn deal_and_open<R: Threads + Sync, S: Site>(
     rt: &R,
     alloc: Global,
     checked: &Checked<'_>,
     opening: Opening<S>,
+    words: FirstWords,
     shares: &mut [Worker<u32>],
 ) -> Result<(Board<S>, Pass<S>), (Vec<S>, OpenFault)>
     requires plan { opening.plan.value ≡ checked.now.plan }
+    requires words { words.plan.value ≡ checked.now.plan }
     ensures board { IfOk result (λ r. terms_of S.content r.0 ≡ terms_for S.content checked.now opening.sites.value.items) }
     ensures pass { IfOk result (λ r. IsPassAt (table_of r.0) (terms_for S.content checked.now opening.sites.value.items) r.1 × IsWhole r.1) }
     ensures nothing { IfOk result (λ r. (seen r.1 ≡ []) × (mine r.1 ≡ [])) }
@@ -300,14 +341,15 @@ fn deal_and_open<R: Threads + Sync, S: Site>(
 {
     if is_for_one(checked, shares.len()) {
         deal(checked, shares);
-        return opening.open(alloc, checked);
+        return opening.open(alloc, checked, words);
     }
     let ((), opened) = join(
         rt,
         || deal(checked, shares),
         move || -> Result<(Board<S>, Pass<S>), (Vec<S>, OpenFault)>
-            requires { opening.plan.value ≡ checked.now.plan }
-        { opening.open(alloc, checked) },
+            requires plan { opening.plan.value ≡ checked.now.plan }
+            requires words { words.plan.value ≡ checked.now.plan }
+        { opening.open(alloc, checked, words) },
     );
     opened
 }
@@ -353,8 +395,13 @@ where
     ensures wide { IfOk result.0 (λ o. HasPlaces o.closed (length checked.now.plan.actions)) }
     ensures back { IfErr result.0 (λ refused. (refused.0.items ≡ sites.items) × (result.1 ≡ keeping.keeper)) }
 {
-    let (crew, opening) = match gather_and_lay_out(rt, alloc, checked, sites, workers) {
-        Ok(ready) => ready,
+    let Prepared {
+        crew,
+        notes,
+        words,
+        opening,
+    } = match prepare(rt, alloc, checked, sites, workers) {
+        Ok(prepared) => prepared,
         Err(sites) => return (Err((sites, RunFault::OutOfMemory)), keeping.into_keeper()),
     };
     let Crew {
@@ -362,10 +409,10 @@ where
         queues,
         mut shares,
         unread,
-        faults,
-        results,
     } = crew;
-    let (board, pass) = match deal_and_open(rt, alloc, checked, opening, shares.as_mut_slice()) {
+    let Notes { faults, results } = notes;
+    let shares = shares.as_mut_slice();
+    let (board, pass) = match deal_and_open(rt, alloc, checked, opening, words, shares) {
         Ok(opened) => opened,
         Err((sites, _)) => return (Err((sites, RunFault::OutOfMemory)), keeping.into_keeper()),
     };

@@ -294,7 +294,7 @@ impl<R: Machine> Task<'_, R> {
         match act(self, &mut claims.archive, &checked) {
             Ok((mut outcome, stage)) => {
                 let causes = causes_of(self, &checked, &mut outcome, &stage);
-                // the archive is made while most memory is taken
+                // nothing is asked of them any more, and the archive is made while most memory is taken
                 outcome.let_sites_go();
                 let cleared = self.clear(alloc, plan, notices);
                 let kept = keep_archive(self, &mut claims.archive, &checked, &outcome);

@@ -10,7 +10,7 @@ use crate::board::task::{Seen, Task, Turn};
 use anyhow::{Result, bail};
 use std::alloc::Global;
 use std::thread::Threads;
-use ts_board::{Board, Opening, Pass};
+use ts_board::{Board, FirstWords, Opening, Pass};
 use ts_check::Checked;
 use ts_print::Print;
 use ts_site::Site;
@@ -37,10 +37,11 @@ pub fn opened<S: Site>(
     ensures from { IfOk result (λ r. IsFromCheck (terms_of S.content r.0) checked.now) }
     ensures pass { IfOk result (λ r. IsPassOf S.content r.0 r.1) }
 {
+    let words = FirstWords::count(alloc, checked)?;
     let Ok(opening) = Opening::lay_out(alloc, checked, sites) else {
         bail!("no memory to lay a board out");
     };
-    match opening.open(alloc, checked) {
+    match opening.open(alloc, checked, words) {
         Ok(opened) => Ok(opened),
         Err(_) => bail!("no memory for a board"),
     }
