@@ -246,7 +246,8 @@ impl Path {
         Ok(Path { bytes: shared })
     }
 
-    /// This path followed by the names of `rest`, or `TooLong` past the limits of a path.
+    /// This path followed by the names of `rest`, or `TooLong` past the limits of a path. Where one of them is the root, the other's
+    /// bytes are shared.
     pub fn join(&self, alloc: Global, rest: &Path) -> Result<Path, PathFault>
         ensures ok { IfOk result (λ p. p ≡ self.now ++ rest.now) }
         ensures lawful { IfOk result IsPath }
@@ -257,12 +258,19 @@ impl Path {
         if !is_short || self.depth() + rest.depth() > MOST_NAMES {
             return Err(PathFault::TooLong);
         }
+        if rest.is_root() {
+            return Ok(self.copy(alloc)?);
+        }
+        if self.is_root() {
+            return Ok(rest.copy(alloc)?);
+        }
         let bytes = concatenated(alloc, self.bytes.as_slice(), rest.bytes.as_slice())?;
         let shared = Bytes::share(alloc, bytes)?;
         Ok(Path { bytes: shared })
     }
 
-    /// What is left of this path below `top`, or `None` where it isn't at or below it.
+    /// What is left of this path below `top`, or `None` where it isn't at or below it. Below the root that is this path, whose bytes
+    /// are shared.
     pub fn below(&self, alloc: Global, top: &Path) -> Result<Option<Path>, AllocError>
         ensures value { IfOk result (λ o. o ≡ below top.now self.now) }
         ensures lawful { IfOk result (λ o. IfSome o IsPath) }
@@ -270,6 +278,9 @@ impl Path {
         let Some(rest) = self.bytes.as_slice().strip_prefix(top.bytes.as_slice()) else {
             return Ok(None);
         };
+        if top.is_root() {
+            return Ok(Some(self.copy(alloc)?));
+        }
         let bytes = Vec::from_slice(alloc, rest)?;
         let shared = Bytes::share(alloc, bytes)?;
         Ok(Some(Path { bytes: shared }))

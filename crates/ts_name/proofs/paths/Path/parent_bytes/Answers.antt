@@ -1,4 +1,4 @@
-use Rattle.std.proofs.Common.{◌≡◌, ◌-◌, length, take, ap, ap₂, sym, ◌∙◌}
+use Rattle.std.proofs.Common.{◌≡◌, ◌-◌, length, take, ap, ap₂}
 use Rattle.ts_name.proofs.Buffers.{Holds, Holds-parent}
 use Rattle.ts_name.proofs.paths.Path.parent_bytes.Goals as goal
 
