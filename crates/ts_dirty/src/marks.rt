@@ -10,12 +10,27 @@ use ts_model::plan::Side;
 use ts_name::Path;
 
 /// Where the archive and the replicas differ, and the topmost held paths, each in path order.
-#[derive(Drop)]
 pub struct Marks {
     first: Vec<Path>,
     second: Vec<Path>,
     apart: Vec<Path>,
     held: Vec<Path>,
+}
+
+// Written out, so that a proof about what drops marks calls a function.
+impl Drop for Marks {
+    fn drop(self) {
+        let Marks {
+            first,
+            second,
+            apart,
+            held,
+        } = self;
+        drop(first);
+        drop(second);
+        drop(apart);
+        drop(held);
+    }
 }
 
 impl Model for Marks {

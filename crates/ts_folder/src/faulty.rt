@@ -18,11 +18,24 @@ pub struct Failing {
 
 /// A folder in memory that fails at the listed directories when it lists them, and at the listed files when it reads them.
 /// The first in a list that names a path says how.
-#[derive(Drop)]
 pub struct FaultyFolder {
     pub folder: MemFolder,
     pub lists: Items<Failing>,
     pub reads: Items<Failing>,
+}
+
+// Written out, so that a proof about what drops a folder calls a function.
+impl Drop for FaultyFolder {
+    fn drop(self) {
+        let FaultyFolder {
+            folder,
+            lists,
+            reads,
+        } = self;
+        drop(folder);
+        drop(lists);
+        drop(reads);
+    }
 }
 
 impl FaultyFolder {

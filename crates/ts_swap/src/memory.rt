@@ -15,7 +15,6 @@ use ts_table::{CopyFile, SubTable};
 
 /// The spots of a swap in memory, so what lies there is known, and what lay there at each moment. Calls that change something
 /// fail where they are set to; out of memory is such a failure too.
-#[derive(Drop)]
 pub struct MemPlaces {
     alloc: Global,
     at_target: SubTable<Items<u8>>,
@@ -28,6 +27,27 @@ pub struct MemPlaces {
     failures: u64,
     // every look fails
     blind: bool,
+}
+
+// Written out, so that a proof about what drops places calls a function.
+impl Drop for MemPlaces {
+    fn drop(self) {
+        let MemPlaces {
+            alloc: _,
+            at_target,
+            at_new,
+            at_old,
+            past,
+            fails,
+            failures: _,
+            blind: _,
+        } = self;
+        drop(at_target);
+        drop(at_new);
+        drop(at_old);
+        drop(past);
+        drop(fails);
+    }
 }
 
 impl MemPlaces {
