@@ -175,9 +175,9 @@ impl PlanReader {
             return Err(PlanFault::PastLimit);
         }
         match self.last.take() {
-            Some(Action { kind, mut preds }) => {
-                let pushed = preds.push(self.alloc, number);
-                self.last = Some(Action { kind, preds });
+            Some(mut action) => {
+                let pushed = action.preds.push(self.alloc, number);
+                self.last = Some(action);
                 pushed?;
                 self.pred_count += 1;
                 Ok(())

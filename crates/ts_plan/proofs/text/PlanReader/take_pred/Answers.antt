@@ -14,8 +14,8 @@ returns-then-self-ge-PRED_LIMIT c =
 
 pub invariant_of-self-in-Some : goal.invariant_of-self-in-Some
 invariant_of-self-in-Some c =
-    let taken = c.in-Some.field-0 in
+    let taken = c.in-Some.action in
     let last = sym c.take.ensures.value ∙ c.in-Some.is in
     let body = ap (λ v. v.part) c.self.view_is ∙ c.requires.body in
-    pred_progress (progress c.self.inside) (record { kind = taken.kind; preds = taken.preds }) c.push-pushed.new.self c.args.number c.self.inside.pred_count
+    pred_progress (progress c.self.inside) taken c.push-pushed.new.self c.args.number c.self.inside.pred_count
     c.self.invariant.0 body last c.in_ok-pushed-in-Some.ensures.ok (omega arith) c.self.invariant.1 (omega (arith, c.if-self-ge-PRED_LIMIT.false))
