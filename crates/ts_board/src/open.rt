@@ -44,6 +44,7 @@ impl FirstWords {
     }
 }
 
+/// For each action how many others it waits for, or one word where there is no action.
 fn first_words(alloc: Global, plan: &Plan) -> Result<Vec<u64>, AllocError>
     ensures { IfOk result (λ words. words.items ≡ first_words plan.now.actions) }
 {
@@ -149,10 +150,10 @@ impl<S: Site> Opening<S> {
         self,
         alloc: Global,
         checked: &Checked<'_>,
-        first: FirstWords,
+        words: FirstWords,
     ) -> Result<(Board<S>, Pass<S>), (Vec<S>, OpenFault)>
         requires plan { self.plan.value ≡ checked.now.plan }
-        requires words { first.plan.value ≡ checked.now.plan }
+        requires words { words.plan.value ≡ checked.now.plan }
         ensures board { IfOk result (λ r. terms_of S.content r.0 ≡ terms_for S.content checked.now self.sites.value.items) }
         ensures pass { IfOk result (λ r. IsPassAt (table_of r.0) (terms_for S.content checked.now self.sites.value.items) r.1 × IsWhole r.1) }
         ensures nothing { IfOk result (λ r. (seen r.1 ≡ []) × (mine r.1 ≡ [])) }
@@ -165,7 +166,7 @@ impl<S: Site> Opening<S> {
             plan,
             checked.first(),
             checked.second(),
-            first.words.as_slice(),
+            words.words.as_slice(),
             slots,
         ) {
             Ok(opened) => Ok(opened),

@@ -9,7 +9,7 @@ use std::alloc::{AllocError, Global};
 use ts_check::Checked;
 use ts_model::plan::{Action, Kind, PIECE_SIZE};
 
-/// How many hints a queue has room for at first, at least.
+/// How many hints a queue has room for at first.
 const FIRST_HINTS: usize = 64;
 
 /// How many small actions in a row are a block, which one worker takes. What neighbours need lies side by side in memory.
@@ -86,6 +86,7 @@ impl Crew {
     pub fn gather(alloc: Global, checked: &Checked<'_>, workers: u32) -> Result<Crew, AllocError>
         ensures members { IfOk result (λ crew. length crew.members.items ≡ workers) }
         ensures queues { IfOk result (λ crew. length crew.queues.items ≡ workers) }
+        ensures shares { IfOk result (λ crew. length crew.shares.items ≡ workers) }
         ensures fresh { IfOk result (λ crew. AreFresh crew.members.items) }
     {
         let actions = checked.action_count() as usize;

@@ -12,7 +12,7 @@ use Rattle.ts_board.proofs.open.Opening.open.Goals as goal
 pub open_slots-requires-clause-words : goal.open_slots-requires-clause-words
 open_slots-requires-clause-words g c κs within =
     let same = c.requires.words ∙ sym c.plan-plan.ensures.plan in
-    subst (λ (p : Plan). c.as_slice.result.now ≡ first_words p.actions) same (c.as_slice.ensures.value ∙ c.args.first.counted)
+    subst (λ (p : Plan). c.as_slice.result.now ≡ first_words p.actions) same (c.as_slice.ensures.value ∙ c.args.words.counted)
 
 pub open_slots-requires-clause-orderly : goal.open_slots-requires-clause-orderly
 open_slots-requires-clause-orderly g c κs within = subst IsOrderly (sym c.plan-plan.ensures.plan) (orderly (snapshot_of c.args.checked.now) c.args.checked.now.plan c.plan-plan.ensures.valid)
