@@ -1,10 +1,12 @@
 """Has the prover try edits by the functions that they change, several at once, and not each by the whole crate.
 
-Most of a check's time goes into reading what stands below a crate. Each function is proved by itself, from the contracts of
-those that it calls: what the prover says of a function is said of the edit in it. So edits in different functions are tried
-in one check. An edit of which it says nothing there is tried alone, and where a check of its function doesn't refuse it,
-a whole check from nothing decides, as `rt ci` makes it.
+Most of a check's time goes into reading what stands below a crate, and into proving again what the changed functions call. Each
+function is proved by itself, from the contracts of those that it calls: what the prover says of a function is said of the edit
+in it, whatever bodies the others have. So edits in different functions are tried in one check, in which all other functions have
+lost their bodies. An edit of which it says nothing there is tried alone, with all bodies, and where a check of its function
+doesn't refuse it, a whole check from nothing decides, as `rt ci` makes it.
 """
+import itertools
 import os
 import re
 import tempfile
@@ -13,6 +15,8 @@ import time
 from dataclasses import dataclass, replace
 
 FUNCTION = re.compile(r"(?m)^( *)(?:pub(?:\([^)]*\))? )?(?:const )?(?:final )?fn (\w+)")
+# Where a function keeps its body: others are proved with it, or it is a test, or computed by the compiler, or has to take its value apart.
+KEEPS_ITS_BODY = re.compile(r"#\[(?:cycle|test)|\bconst fn |\bfn (?:main|drop)\b")
 # An `impl`: its own parameters, its trait with the trait's arguments, and its type with the type's arguments.
 IMPL = re.compile(r"impl(?:<(.*?)>)? (?:(?:\w+::)*(\w+)(<.*>)? for )?(\w+)(<.*>)?(?: where\b.*)?")
 # What stands between brackets in the parameters of an `impl`: their bounds' arguments.
@@ -72,6 +76,11 @@ class Place:
         return replace(self, only=module if module != path else None) if self.only == path else self
 
 
+def end_of_function(indent):
+    """Returns what finds the last line of a function with this indent, as `rt fmt` lays it out."""
+    return re.compile(rf"(?m)^{indent}(?:\}}|(?:\S.*)?\{{\}})$")
+
+
 def module_of(path):
     """Returns the path below its crate of the module in a file, or None for the crate's root and for what isn't code."""
     parts = path.removesuffix(".rt").split("/")
@@ -80,9 +89,46 @@ def module_of(path):
     return "::".join(parts[1:-1] if parts[-1] == "mod" else parts[1:])
 
 
+def body_of(text, found):
+    """Returns where the body of a function begins and ends, as `rt fmt` lays it out, or None where it can't be told so simply."""
+    indent, _ = found.groups()
+    end = end_of_function(indent).search(text, found.start())
+    if len(indent) > 4 or end is None or end[0] != f"{indent}}}":
+        return None
+    heads = (rf"(?m)^{indent}\{{$", rf"(?m)^{indent}(?:\S.*)\{{$")
+    head = next((it for it in (re.compile(it).search(text, found.start(), end.start()) for it in heads) if it), None)
+    return (head.end(), end.start()) if head else None
+
+
+def with_bodies_of(text, names):
+    """Returns the text of a file in which only the functions of these names have their bodies, with each line where it was."""
+    parts, last = [], 0
+    for found in FUNCTION.finditer(text):
+        above = itertools.takewhile(lambda it: it.lstrip().startswith(("#[", "//")), text[: found.start()].split("\n")[-2::-1])
+        body = None if found[2] in names or KEEPS_ITS_BODY.search("\n".join([*above, found[0]])) else body_of(text, found)
+        if body:
+            parts += [text[last : body[0]], f"\n{found[1]}    unreachable!()", "\n" * (text.count("\n", *body) - 1)]
+            last = body[1]
+    return "".join([*parts, text[last:]])
+
+
+def without_bodies(crate, tries, texts):
+    """Returns the texts with the changes of several edits, in which no other function of the crate has its body."""
+    places = {place for it in tries for place in it.places}
+    found = {}
+    for at, _, names in os.walk(f"{crate.folder}/src"):
+        for path in (os.path.relpath(f"{at}/{it}", crate.folder) for it in names):
+            with open(f"{crate.folder}/{path}", encoding="utf-8") as it:
+                own = it.read()
+            text = with_bodies_of(texts.get(path, own), {it.name for it in places if it.file == path})
+            if text != own:
+                found[path] = text
+    return {**texts, **found}
+
+
 def lines_of(text, start, indent):
     """Returns the first and the last line of the function that begins at a place, as `rt fmt` lays it out."""
-    end = re.compile(rf"(?m)^{indent}(?:\}}|(?:\S.*)?\{{\}})$").search(text, start)
+    end = end_of_function(indent).search(text, start)
     return text.count("\n", 0, start) + 1, text.count("\n", 0, end.start() if end else len(text)) + 1
 
 
@@ -329,7 +375,7 @@ def try_together(rt, crate, tries, flags, kept):
     texts = texts_of(crate, tries)
     if texts is None:
         return
-    if checked_by_functions(rt, crate, tries, texts, flags, kept) is None:
+    if checked_by_functions(rt, crate, tries, without_bodies(crate, tries, texts), flags, kept) is None:
         return
     if not LAST.said.rstrip("\n").split("\n")[-1].startswith("only="):
         return
@@ -373,7 +419,7 @@ def try_all(rt, crate, edits, flags, until=None, is_proved=False):
     with tempfile.TemporaryDirectory(prefix="rt-edits-") as kept:
         is_sound = not is_over(until) and (is_proved or is_proved_alone(rt, crate, tries, flags, kept))
         for part in rounds_of(tries) if is_sound else []:
-            if len(part) > 1 and not is_over(until):
+            if not is_over(until):
                 try_together(rt, crate, part, flags, kept)
         for it in tries:
             if it.answer is None and not is_over(until):

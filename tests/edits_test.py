@@ -511,14 +511,16 @@ def a_function_is_checked_before_its_crate(world):
     cases = [
         ([PROVED, failed(at(1, "returns"))], True, [part, part]),
         # the whole check decides where the function's doesn't refuse, or isn't proved without the edit
-        ([PROVED, PROVED, NOT_PROVED], True, [part, part, whole]),
-        ([PROVED, PROVED, WHOLE], False, [part, part, whole]),
+        ([PROVED, PROVED, PROVED, NOT_PROVED], True, [part, part, part, whole]),
+        ([PROVED, PROVED, PROVED, WHOLE], False, [part, part, part, whole]),
         ([failed(at(1, "returns")), NOT_PROVED], True, [part, whole]),
         ([failed(at(1, "returns")), WHOLE], False, [part, whole]),
+        # where the others need their bodies, it is checked with them
+        ([PROVED, (2, "error[E1]: no"), failed(at(1, "returns"))], True, [part, part, part]),
         # what can't be read or compiled isn't refused
-        ([PROVED, (1, "src/m.rt:2:5: error: cannot continue", "only=1 proved=0"), NOT_PROVED], True, [part, part, whole]),
-        ([PROVED, (2, "error[E1]: no"), (1, "error[E1]: no")], False, [part, part, whole]),
-        ([PROVED, (0, "only=1 proved=1"), *killed], False, [part, part] + [whole] * len(killed)),
+        ([PROVED, PROVED, (1, "src/m.rt:2:5: error: cannot continue", "only=1 proved=0"), NOT_PROVED], True, [part, part, part, whole]),
+        ([PROVED, (2, "error[E1]: no"), (2, "error[E1]: no"), (1, "error[E1]: no")], False, [part, part, part, whole]),
+        ([PROVED, PROVED, (0, "only=1 proved=1"), *killed], False, [part, part, part] + [whole] * len(killed)),
     ]
     for verdicts, wanted, flags in cases:
         prover = Prover(*verdicts)
@@ -546,8 +548,8 @@ def what_was_proved_is_not_checked_without_the_edits_again(world):
     part, whole, unknown = ["m::one"], [], "rattle: error: `low` has no function `{}`: help: write the name that a check prints"
     for verdicts, wanted, flags in [
         ([failed(at(1, "returns"))], True, [part]),
-        ([PROVED, NOT_PROVED], True, [part, whole]),
-        ([PROVED, WHOLE], False, [part, whole]),
+        ([PROVED, PROVED, NOT_PROVED], True, [part, part, whole]),
+        ([PROVED, PROVED, WHOLE], False, [part, part, whole]),
     ]:
         prover = Prover(*verdicts)
         same((prover.answers(world, "a", is_proved=True), prover.flags), ([wanted], flags))
@@ -573,6 +575,25 @@ def edits_of_different_functions_are_tried_in_one_check(world):
     same((prover.answers(world, "a", "b", "c"), len(prover.texts[2])), ([True] * 3, 1))
 
 
+def other_functions_lose_their_bodies(world):
+    head = "fn one() {\n    q\n}\n\n"
+    others = (
+        # a contract before its body, an arm that does nothing, a body on several lines
+        "/// Says two.\npub fn two(\n    b: u8,\n)\n    ensures { b ≡ c }\n{\n    match b {\n        0 => {}\n    }\n    d\n}\n\n"
+        "impl T {\n    fn three(&self) -> u8 {\n        e\n    }\n}\n\n"
+        # these keep what they have
+        "fn four() {}\n\nfn five()\n    ensures f\n{}\n\nconst fn six() -> u8 {\n    7\n}\n\n"
+        "#[cycle(odd)]\n/// Says eight.\nfn eight() {\n    g\n}\n\nimpl Drop for T {\n    fn drop(self) {\n        h\n    }\n}\n"
+    )
+    left = others.replace("    match b {\n        0 => {}\n    }\n    d\n", "    unreachable!()\n\n\n\n").replace("    e\n", "    unreachable!()\n")
+    world.put("crates/low/src/m.rt", head + others)
+    world.put("crates/low/src/n.rt", "fn one() {\n    k\n}\n")
+    world.put("q.edit", "file: src/m.rt\nold: q\nnew: qq\n")
+    prover = Prover(PROVED, failed(at(1, "returns")))
+    same(prover.answers(world, "q"), [True])
+    same(prover.texts[1], {"src/m.rt": head.replace("q", "qq") + left, "src/n.rt": "fn one() {\n    unreachable!()\n}\n"})
+
+
 def an_edit_of_which_nothing_is_said_is_tried_alone(world):
     put_functions(world)
     said = [at(1, "returns"), "note: `returns` of proofs/m/one/Answers.antt must prove: ⊥", at(6, "returns")]
@@ -590,7 +611,7 @@ def an_edit_has_to_break_what_it_says(world):
     for line, wanted in [(at(1, "returns-in-Ok-clause-some"), True), (at(1, "returns-clause-none"), False), (lost, False)]:
         same((line, Prover(PROVED, failed(line)).answers(world, "a")), (line, [wanted]))
         same((line, Prover(PROVED, failed(line, at(7, "returns"))).answers(world, "a", "b")), (line, [wanted, True]))
-    same(Prover(PROVED, PROVED, NOT_PROVED).answers(world, "a"), [False])
+    same(Prover(PROVED, PROVED, PROVED, NOT_PROVED).answers(world, "a"), [False])
     same("it doesn't break some, but nothing that was named" in world.said, True)
 
 
@@ -602,14 +623,15 @@ def what_answers_share_breaks_what_they_answer(world):
     left = "proofs/m/one/Answers.antt:5:1: error: {} on `{}`, which was rejected, {} not checked: {}"
     two = left.format("2 declarations that depend", "both", "were", "more, returns-clause-some")
     one = left.format("1 declaration that depends", "returns-clause-some", "was", "returns-clause-none")
-    for said, wanted in [
-        ([lost.format("both"), two], "breaks some: "),
+    for said, checks, wanted in [
+        ([lost.format("both"), two], 1, "breaks some: "),
         # an answer that others cite is that of its own goal
-        ([lost.format("returns-clause-some"), one], "breaks some: "),
+        ([lost.format("returns-clause-some"), one], 1, "breaks some: "),
         # where it isn't told what it answers, no clause is named
-        ([lost.format("both")], "refused, as it must be: ./proofs/m/one"),
+        ([lost.format("both")], 2, "refused, as it must be: ./proofs/m/one"),
     ]:
-        same((said, Prover(PROVED, failed(*said)).answers(world, "a"), wanted in world.said), (said, [True], True))
+        prover = Prover(PROVED, *[failed(*said)] * checks)
+        same((said, prover.answers(world, "a"), wanted in world.said), (said, [True], True))
     world.put("a.edit", "breaks: safety\nfile: src/m.rt\nold: a\nnew: aa\n")
     same(Prover(PROVED, failed(lost.format("both"), two)).answers(world, "a"), [False])
 
@@ -644,6 +666,7 @@ TESTS = [
     a_function_of_another_name_is_checked_with_its_module,
     what_was_proved_is_not_checked_without_the_edits_again,
     edits_of_different_functions_are_tried_in_one_check,
+    other_functions_lose_their_bodies,
     an_edit_of_which_nothing_is_said_is_tried_alone,
     an_edit_has_to_break_what_it_says,
     what_answers_share_breaks_what_they_answer,
