@@ -95,8 +95,11 @@ def body_of(text, found):
     end = end_of_function(indent).search(text, found.start())
     if len(indent) > 4 or end is None or end[0] != f"{indent}}}":
         return None
-    heads = (rf"(?m)^{indent}\{{$", rf"(?m)^{indent}(?:\S.*)\{{$")
-    head = next((it for it in (re.compile(it).search(text, found.start(), end.start()) for it in heads) if it), None)
+    # (what a trait only declares has none: then another function begins first)
+    later = FUNCTION.search(text, found.end(), end.start())
+    heads = (re.compile(it) for it in (rf"(?m)^{indent}\{{$", rf"(?m)^{indent}(?:\S.*)\{{$"))
+    places = [it.search(text, found.start(), later.start() if later else end.start()) for it in heads]
+    head = next((it for it in places if it), None)
     return (head.end(), end.start()) if head else None
 
 

@@ -582,7 +582,7 @@ def other_functions_lose_their_bodies(world):
         "/// Says two.\npub fn two(\n    b: u8,\n)\n    ensures { b ≡ c }\n{\n    match b {\n        0 => {}\n    }\n    d\n}\n\n"
         "impl T {\n    fn three(&self) -> u8 {\n        e\n    }\n}\n\n"
         # these keep what they have
-        "fn four() {}\n\nfn five()\n    ensures f\n{}\n\nconst fn six() -> u8 {\n    7\n}\n\n"
+        "fn four() {}\n\npub trait U {\n    fn nine(&self) -> u8\n        ensures { r };\n}\n\nfn five()\n    ensures f\n{}\n\nconst fn six() -> u8 {\n    7\n}\n\n"
         "#[cycle(odd)]\n/// Says eight.\nfn eight() {\n    g\n}\n\nimpl Drop for T {\n    fn drop(self) {\n        h\n    }\n}\n"
     )
     left = others.replace("    match b {\n        0 => {}\n    }\n    d\n", "    unreachable!()\n\n\n\n").replace("    e\n", "    unreachable!()\n")
