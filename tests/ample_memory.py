@@ -79,7 +79,7 @@ tree_calls/staging stores_pieces_in_memory: ts_stage::MemStage::store
 tree_calls/stages a_commit_takes_what_was_stored: ts_disk::DiskStage::store
 tree_calls/disks each_call_of_a_swap_does_its_part: ts_disk::DiskPlaces::present ts_disk::DiskPlaces::write
 tree_calls/disks each_call_of_a_swap_does_its_part: ts_disk::DiskPlaces::rename ts_disk::DiskPlaces::remove
-cases/main main: ts_board::FirstWords::count ts_board::Opening::open ts_board::Board::split ts_board::Held::commit ts_board::Closed::archive ts_exec::Outcome::archive
+cases/main main: ts_board::FirstWords::count ts_board::Opening::open ts_board::Board::split ts_board::Held::commit ts_board::Closed::archive ts_board::Closed::into_archive ts_exec::Outcome::archive
 """
 
 # SCRIPT: WORDS: CALLS, for what the program alone makes. The words are a line's beginning in that script of tests/, which the

@@ -3,6 +3,7 @@
 --     LeftArchive k words rows    the archive after whatever run left the words
 --     IsDone word                 the word says that its action is done
 --     AreMarked plan words flags  the flag of an entry is set where its mark is done
+--     AreMarksOf k words flags    the flagged marks are those of whatever run left the words
 --     picked xs flags             the entries at which the flag is set
 -- What flags of entries say of the archive, whatever set them.
 --     flagged plan flags          the marks of the entries at which the flag is set
@@ -44,6 +45,11 @@ pub record AreMarkedBelow (n : ℕ) (plan : Plan) (words : List ℕ) (flags : Li
 
 abbrev pub AreMarked : Plan → List ℕ → List Bool → Type 0
 AreMarked plan words flags = AreMarkedBelow (length plan.actions) plan words flags
+
+-- the flags are set at the marks that whatever run left the words has made
+pub record AreMarksOf (k : Checkup) (words : List ℕ) (flags : List Bool) : Type 0 where
+  pub ended : HasEnded k words
+  pub marked : AreMarked k.plan words flags
 
 abbrev pub picked : List Entry → List Bool → List Entry
 picked [] flags = []

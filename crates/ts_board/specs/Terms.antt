@@ -4,7 +4,7 @@
 --     IsOrderly plan       what a valid plan says of predecessors and pieces
 --     work_in slot         what lies in a slot, as the work of an act
 --     IsTold t i slot      the site in the slot of action i tells what it should
-use Rattle.std.specs.Prelude.{Bool, true, false, ◌≡◌, ◌⊎◌, ℕ, ◌+◌, List, [], ◌∷◌, length, map, Option, Some, None, slice_get, slice_index_or, option_to_list, ◌++◌}
+use Rattle.std.specs.Prelude.{Bool, true, false, ◌≡◌, ℕ, ◌+◌, List, [], ◌∷◌, length, map, Option, Some, None, slice_get, slice_index_or, option_to_list, ◌++◌}
 use Rattle.ts_model.specs.Trees.{Listing, at}
 use Rattle.ts_model.specs.Sync.{Snapshot}
 use Rattle.ts_name.specs.Paths.{Path}

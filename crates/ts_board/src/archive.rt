@@ -1,7 +1,7 @@
 //! The archive that a closed board leaves, and what flags of entries put into an archive.
 ghost use Rattle.std.specs.Prelude.{ℕ, List, ◌≡◌, ◌<◌, ◌≤◌, IfOk, IfSome, IfNone, OnOk, length, slice_index};
 ghost use Rattle.std.specs.Mem.Slots.{slots_items, slots_len};
-ghost use Rattle.ts_board.specs.Archives.{AreMarked, AreOfPart, ArchiveOf, HasEnded, IsDone, LeftArchive, picked};
+ghost use Rattle.ts_board.specs.Archives.{AreMarked, AreMarksOf, AreOfPart, ArchiveOf, HasEnded, IsDone, LeftArchive, picked};
 ghost use Rattle.ts_board.specs.Edits.{AreEdits, MayFollow, left_by, marks};
 ghost use Rattle.ts_model.specs.Runs.{Run};
 ghost use Rattle.ts_model.specs.Trees.{at};
@@ -36,12 +36,24 @@ impl<S: Site> Closed<S> {
         requires ended { HasEnded checked.now (slots_items self.now.row.words) }
         ensures { IfOk result (λ print. LeftArchive checked.now (slots_items self.now.row.words) print) }
     {
-        let plan = checked.plan();
-        let _archive = checked.archive().rows();
-        let _first = checked.first().rows();
-        let _second = checked.second().rows();
-        let marked = self.marked_entries(alloc, plan)?;
-        flagged_archive(alloc, checked, marked.as_slice())
+        let marked = self.marked_entries(alloc, checked.plan())?;
+        marked_archive(alloc, checked, marked.as_slice())
+    }
+
+    /// The same, where nothing else is asked of the board: it goes, with the sites of all commits, before the archive takes
+    /// memory.
+    ///
+    /// # Errors
+    ///
+    /// `AllocError` where memory ran out.
+    pub fn into_archive(self, alloc: Global, checked: &Checked<'_>) -> Result<Print, AllocError>
+        requires words { length checked.now.plan.actions ≤ slots_len self.row.words }
+        requires ended { HasEnded checked.now (slots_items self.row.words) }
+        ensures { IfOk result (λ print. LeftArchive checked.now (slots_items self.row.words) print) }
+    {
+        let marked = self.marked_entries(alloc, checked.plan())?;
+        drop(self);
+        marked_archive(alloc, checked, marked.as_slice())
     }
 
     /// For each entry, whether its mark is done.
@@ -73,6 +85,24 @@ impl<S: Site> Closed<S> {
             _ => None,
         }
     }
+}
+
+/// The archive that the plan was checked against, with the marks of the entries that are flagged, which are all that a run has
+/// made.
+///
+/// # Errors
+///
+/// `AllocError` where memory ran out.
+fn marked_archive(alloc: Global, checked: &Checked<'_>, flags: &[bool]) -> Result<Print, AllocError>
+    requires count { length flags.now ≡ length checked.now.plan.entries }
+    requires made { (words : List ℕ) × AreMarksOf checked.now words flags.now }
+    ensures { (words : List ℕ) → AreMarksOf checked.now words flags.now → IfOk result (λ print. LeftArchive checked.now words print) }
+{
+    let _plan = checked.plan();
+    let _archive = checked.archive().rows();
+    let _first = checked.first().rows();
+    let _second = checked.second().rows();
+    flagged_archive(alloc, checked, flags)
 }
 
 /// The archive that the plan was checked against, with the marks of the entries that are flagged, which are a closed part of

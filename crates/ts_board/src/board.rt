@@ -1,5 +1,5 @@
 //! The board, its passes and what they hold.
-ghost use Rattle.std.specs.Prelude.{ℕ, ◌≡◌, ◌<◌, ◌≤◌, true, false, [], length, slice_index, slice_index_or, slice_set, IsErrOf, OnErr, OnOk};
+ghost use Rattle.std.specs.Prelude.{◌≡◌, ◌<◌, ◌≤◌, true, false, [], length, slice_index, slice_index_or, slice_set, IsErrOf, OnErr, OnOk};
 ghost use Rattle.std.specs.Mem.Slots.{slots_items, slots_len, IsFull};
 ghost use Rattle.ts_board.specs.Terms.{AreSited, Suits, IsTold, content_of, failures_of, has_site, is_place, site_in, work_in};
 ghost use Rattle.ts_board.specs.declared.law.Terms.{Terms};
@@ -173,18 +173,6 @@ impl<S: Site> Closed<S> {
         let slot = self.row.slots.take(c as usize);
         self.row.slots.put(c as usize, Slot::Empty);
         slot.into_site()
-    }
-
-    /// Lets the sites of all commits go, with what they take of memory.
-    pub fn let_sites_go(&mut self)
-        ensures none { (c : ℕ) → slice_index_or (slots_items self.new.row.slots) c Empty ≡ Empty }
-        ensures words { slots_items self.new.row.words ≡ slots_items self.old.row.words }
-        ensures counts { (slots_len self.new.row.words ≡ slots_len self.old.row.words) × (slots_len self.new.row.slots ≡ slots_len self.old.row.slots) }
-    {
-        for c in 0..self.row.slot_count() {
-            drop(self.row.slots.take(c));
-            self.row.slots.put(c, Slot::Empty);
-        }
     }
 }
 

@@ -1,6 +1,7 @@
 //! The executor: a checked plan is carried out by many workers, and the outcome is that of one legal run.
 #![tactic(auto)]
 
+mod action_results;
 mod acts;
 mod crew;
 mod crowd;
@@ -14,6 +15,7 @@ mod stop;
 mod sweep;
 mod workers;
 
+pub use action_results::ActionResults;
 pub use fault::{ActFault, RunFault};
 pub use gate::{Gate, OpenGate};
 pub use keeping::Keeper;

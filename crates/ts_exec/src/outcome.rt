@@ -1,5 +1,5 @@
 //! What came of a plan.
-ghost use Rattle.std.specs.Prelude.{ℕ, ◌≡◌, ◌<◌, ◌≤◌, [], Some, length, slice_get, slice_index_or, slice_set, vec_capacity, IfNone, IfOk, IfSome};
+ghost use Rattle.std.specs.Prelude.{◌≡◌, ◌<◌, ◌≤◌, [], Some, length, slice_get, slice_index_or, slice_set, vec_capacity, IfNone, IfOk, IfSome};
 ghost use Rattle.std.specs.Mem.Slots.{slots_len};
 ghost use Rattle.ts_board.specs.Archives.{HasEnded, LeftArchive};
 ghost use Rattle.ts_board.specs.Terms.{commit_count, site_in};
@@ -8,6 +8,7 @@ ghost use Rattle.ts_exec.specs.Outcomes.{AreResults, HasWords, IsEnd, IsLeastOpe
 ghost use Rattle.ts_board.specs.Calls.{IsAsWide, slots_of, words_of};
 ghost use Rattle.ts_model.specs.Runs.{Run};
 
+use crate::action_results::ActionResults;
 use crate::fault::ActFault;
 use std::alloc::{AllocError, Global};
 use ts_board::Closed;
@@ -15,7 +16,6 @@ use ts_board::calls::{DONE, FAILED};
 use ts_check::Checked;
 use ts_model::plan::{Kind, Plan};
 use ts_print::Print;
-use ts_report::{Ending, Results};
 use ts_site::Site;
 
 /// What came of an action.
@@ -73,14 +73,13 @@ impl<S: Site> Outcome<S> {
         self.closed.take_site(c)
     }
 
-    /// Lets the sites of all commits go, with what they take of memory. What came of the actions stays.
-    pub fn let_sites_go(&mut self)
-        ensures none { (c : ℕ) → slice_index_or (slots_of self.new.closed) c Empty ≡ Empty }
-        ensures words { words_of self.new.closed ≡ words_of self.old.closed }
-        ensures counts { IsAsWide self.old.closed self.new.closed }
-        ensures results { self.new.results ≡ self.old.results }
+    /// What came of each action, and the board that was closed, with the sites of all commits. It takes no memory.
+    pub fn split(self) -> (ActionResults, Closed<S>)
+        ensures results { result.0.results ≡ self.results }
+        ensures closed { result.1 ≡ self.closed }
     {
-        self.closed.let_sites_go();
+        let Outcome { results, closed } = self;
+        (ActionResults::new(results), closed)
     }
 
     /// The archive that the plan was checked against, with the mark of each action that is done. It is asked of the plan that
@@ -95,24 +94,6 @@ impl<S: Site> Outcome<S> {
         ensures { IfOk result (λ print. LeftArchive checked.now (words_of self.now.closed) print) }
     {
         self.closed.archive(alloc, checked)
-    }
-}
-
-/// The report of a run is written by this.
-impl<S: Site> Results for Outcome<S> {
-    ghost use Rattle.std.specs.Prelude.{length};
-    ghost use Rattle.ts_exec.specs.Ends.{ending_at};
-
-    ghost count = { λ outcome. length outcome.results.items };
-
-    ghost endings = { λ outcome i. ending_at outcome.results.items i };
-
-    fn ending(&self, action: u32) -> Ending {
-        match self.results[action as usize] {
-            ActionResult::Done => Ending::Done,
-            ActionResult::Failed(_) => Ending::Failed,
-            ActionResult::Blocked(_) | ActionResult::Left => Ending::Left,
-        }
     }
 }
 

@@ -18,6 +18,7 @@ use crate::keeping::PlaceKeeper;
 use crate::spacing::usual_spacing;
 use crate::task::Task;
 use std::alloc::Global;
+use ts_board::Closed;
 use ts_cause::Cause;
 use ts_check::Checked;
 use ts_command::Pair;
@@ -125,17 +126,19 @@ fn way_of<'a, R: Disk>(to_first: &'a R::Way, to_second: &'a R::Way, reason: Reas
     }
 }
 
-/// Writes what the archive is after a run. Before it says so, what the run put in place has reached its device.
+/// Writes what the archive is after a run that ended with these results. Before it says so, what the run put in place has reached
+/// its device. The board goes before the archive is made, since most memory is taken then.
 pub(crate) fn keep_archive<R: Machine>(
     task: &Task<'_, R>,
     place: &mut R::Archive,
     checked: &Checked<'_>,
-    outcome: &Outcome<R::Site>,
+    results: &[ActionResult],
+    closed: Closed<R::Site>,
 ) -> Result<(), PerformFault>
-    requires count { length outcome.now.results.items ≡ length checked.now.plan.actions }
-    requires words { length checked.now.plan.actions ≤ slots_len outcome.now.closed.row.words }
-    requires ended { HasEnded checked.now (slots_items outcome.now.closed.row.words) }
-    ensures kept { OnOk result (HasKept R.has checked.now (words_of outcome.now.closed) place.new) }
+    requires count { length results.now ≡ length checked.now.plan.actions }
+    requires words { length checked.now.plan.actions ≤ slots_len closed.row.words }
+    requires ended { HasEnded checked.now (slots_items closed.row.words) }
+    ensures kept { OnOk result (HasKept R.has checked.now (words_of closed) place.new) }
     ensures named { OnOk result (R.is_named place.new task.now.pair.now.archive.now) }
 {
     let Task {
@@ -152,11 +155,11 @@ pub(crate) fn keep_archive<R: Machine>(
     }
     for side in [Side::First, Side::Second] {
         let root = replica(*pair, side).root;
-        let paths = paths_put(alloc, checked.plan(), outcome.results(), side)?;
+        let paths = paths_put(alloc, checked.plan(), results, side)?;
         rt.flush_above(*rt, alloc, root, paths.as_slice(), *workers)
             .map_err(|fault| of_disk(fault, replica_on(side)))?;
     }
-    let Ok(archive) = outcome.archive(alloc, checked) else {
+    let Ok(archive) = closed.into_archive(alloc, checked) else {
         return Err(PerformFault::OutOfMemory);
     };
     rt.write_archive(alloc, place, &archive)

@@ -15,12 +15,11 @@ use ts_cause::Cause;
 use ts_check::Checked;
 use ts_command::Command;
 use ts_disk::Notice;
-use ts_exec::{ActionResult, Outcome};
+use ts_exec::{ActionResult, ActionResults};
 use ts_explain::{Skipped, push_fault, push_sentence, write_explained};
 use ts_model::plan::{Action, Kind, Plan};
 use ts_name::Path;
 use ts_report::{ReportFault, Results, Totals};
-use ts_site::Site;
 use ts_text::{Sink, TextFault};
 
 /// The exit status where an action failed, or the archive or the report couldn't be written.
@@ -47,26 +46,26 @@ fn write_report<E: Results, O: Sink>(
 
 /// Writes the report, then the faults of failed actions, and why the new archive wasn't kept, if it wasn't. Answers the exit
 /// status.
-pub(crate) fn report_outcome<S: Site, O: Sink, E: Sink>(
+pub(crate) fn report_outcome<O: Sink, E: Sink>(
     alloc: Global,
     command: &Command<'_>,
     checked: &Checked<'_>,
-    outcome: &Outcome<S>,
+    ended: &ActionResults,
     causes: &[Cause],
     kept: Result<(), PerformFault>,
     out: &mut O,
     err: &mut E,
 ) -> Result<u8, TextFault>
-    requires count { length outcome.now.results.items ≡ length checked.now.plan.actions }
-    ensures report { Writes (O.holds out.old) (O.holds out.new) (run_report checked.now.plan outcome.now.results.items) result }
+    requires count { length ended.now.results.items ≡ length checked.now.plan.actions }
+    ensures report { Writes (O.holds out.old) (O.holds out.new) (run_report checked.now.plan ended.now.results.items) result }
     ensures faults { Writes (E.holds err.old) (E.holds err.new)
-        (text (run_faults command.now checked.now.plan outcome.now.results.items causes.now (lost_by kept))) result }
-    ensures status { IfOk result (λ status. status ≡ run_status checked.now.plan outcome.now.results.items (lost_by kept)) }
+        (text (run_faults command.now checked.now.plan ended.now.results.items causes.now (lost_by kept))) result }
+    ensures status { IfOk result (λ status. status ≡ run_status checked.now.plan ended.now.results.items (lost_by kept)) }
 {
     let plan = checked.plan();
     let _count = checked.action_count();
-    let results = outcome.results();
-    let totals = write_report(alloc, plan, outcome, out)?;
+    let results = ended.as_slice();
+    let totals = write_report(alloc, plan, ended, out)?;
     report_failures(alloc, command.explain, plan, results, causes, err)?;
     match kept {
         Ok(()) => Ok(totals.status()),
@@ -85,24 +84,24 @@ pub(crate) struct Remarks<'a> {
 }
 
 /// The same, and then the remarks.
-pub(crate) fn report_all<S: Site, O: Sink, E: Sink>(
+pub(crate) fn report_all<O: Sink, E: Sink>(
     alloc: Global,
     command: &Command<'_>,
     checked: &Checked<'_>,
-    outcome: &Outcome<S>,
+    ended: &ActionResults,
     causes: &[Cause],
     kept: Result<(), PerformFault>,
     remarks: &Remarks<'_>,
     out: &mut O,
     err: &mut E,
 ) -> Result<u8, TextFault>
-    requires count { length outcome.now.results.items ≡ length checked.now.plan.actions }
-    ensures report { Writes (O.holds out.old) (O.holds out.new) (run_report checked.now.plan outcome.now.results.items) result }
+    requires count { length ended.now.results.items ≡ length checked.now.plan.actions }
+    ensures report { Writes (O.holds out.old) (O.holds out.new) (run_report checked.now.plan ended.now.results.items) result }
     ensures faults { Writes (E.holds err.old) (E.holds err.new)
-        (text (run_faults command.now checked.now.plan outcome.now.results.items causes.now (lost_by kept) ++ remark_lines command.now remarks.now.notices.now remarks.now.skips.now)) result }
-    ensures status { IfOk result (λ status. status ≡ run_status checked.now.plan outcome.now.results.items (lost_by kept)) }
+        (text (run_faults command.now checked.now.plan ended.now.results.items causes.now (lost_by kept) ++ remark_lines command.now remarks.now.notices.now remarks.now.skips.now)) result }
+    ensures status { IfOk result (λ status. status ≡ run_status checked.now.plan ended.now.results.items (lost_by kept)) }
 {
-    let status = report_outcome(alloc, command, checked, outcome, causes, kept, out, err)?;
+    let status = report_outcome(alloc, command, checked, ended, causes, kept, out, err)?;
     report_remarks(alloc, command, remarks, err)?;
     Ok(status)
 }

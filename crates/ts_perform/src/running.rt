@@ -294,13 +294,13 @@ impl<R: Machine> Task<'_, R> {
         match act(self, &mut claims.archive, &checked) {
             Ok((mut outcome, stage)) => {
                 let causes = causes_of(self, &checked, &mut outcome, &stage);
-                // nothing is asked of them any more, and the archive is made while most memory is taken
-                outcome.let_sites_go();
+                let (ended, closed) = outcome.split();
+                let results = ended.as_slice();
                 let cleared = self.clear(alloc, plan, notices);
-                let kept = keep_archive(self, &mut claims.archive, &checked, &outcome);
+                let kept = keep_archive(self, &mut claims.archive, &checked, results, closed);
                 self.remove(alloc, cleared);
                 // what can't be found out of mounts is no reason to end
-                let _ = self.add_mounts(alloc, plan, outcome.results(), notices);
+                let _ = self.add_mounts(alloc, plan, results, notices);
                 let skips = skips_of(alloc, self.command, plan, snapshot);
                 let remarks = Remarks {
                     notices: notices.as_slice(),
@@ -311,7 +311,7 @@ impl<R: Machine> Task<'_, R> {
                     alloc,
                     self.command,
                     &checked,
-                    &outcome,
+                    &ended,
                     causes,
                     kept,
                     &remarks,

@@ -7,11 +7,12 @@ ghost use Rattle.ts_board.specs.Terms.{commit_count};
 
 use crate::board::desk::Desk;
 use crate::board::task::{Seen, Task, Turn};
-use anyhow::{Result, bail};
+use anyhow::{Result, bail, ensure};
 use std::alloc::Global;
 use std::thread::Threads;
 use ts_board::{Board, FirstWords, Opening, Pass};
 use ts_check::Checked;
+use ts_name::Path;
 use ts_print::Print;
 use ts_site::Site;
 
@@ -67,6 +68,11 @@ pub fn ended<S: Site>(
     }
     let site = closed.take_site(c);
     let is_again = closed.take_site(c).is_some();
+    let at_last = closed.into_archive(alloc, checked)?;
+    ensure!(
+        at_last.sub_eq(&archive, &Path::root(alloc)),
+        "another archive once the board is gone"
+    );
     Ok(End {
         words,
         archive,

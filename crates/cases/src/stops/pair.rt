@@ -255,7 +255,7 @@ impl Pair {
         &mut self,
         alloc: Global,
         checked: &Checked<'_>,
-        mut outcome: Outcome<FaultySite>,
+        outcome: Outcome<FaultySite>,
     ) -> Result<Came>
     where
         requires results { length checked.now.plan.actions ≤ length outcome.results.items }
@@ -266,13 +266,14 @@ impl Pair {
             plan.actions.as_slice().len() <= ACTION_LIMIT,
             "too many actions"
         );
-        let results = Vec::from_slice(alloc, outcome.results())?;
+        let (ended, mut closed) = outcome.split();
+        let results = Vec::from_slice(alloc, ended.as_slice())?;
         let mut sink = Counted::new(Vec::new(alloc));
-        write(alloc, plan, &outcome, &mut sink)?;
+        write(alloc, plan, &ended, &mut sink)?;
         for i in 0..checked.action_count() {
             if let Kind::Commit { entry } = plan.actions.as_slice()[i as usize].kind {
                 let entry = entry_at(plan, entry)?;
-                let site = outcome.take_site(i).context("finding a site")?;
+                let site = closed.take_site(i).context("finding a site")?;
                 let tree = self.replica(target_of(entry)?);
                 ensure!(tree.is_place(&entry.path), "no place for an entry");
                 tree.replace(alloc, &entry.path, site.into_content())?;

@@ -1,4 +1,4 @@
-use Rattle.std.proofs.Common.{◌≡◌, ◌++◌, List, Bool, length, sym, ap, ◌∙◌, subst, arith}
+use Rattle.std.proofs.Common.{List, sym, ap, ◌∙◌, subst, arith}
 use Rattle.ts_model.specs.Trees.{at}
 use Rattle.ts_model.specs.declared.plan.Entry.{Entry}
 use Rattle.ts_board.specs.Edits.{MayFollow, left_by, marks}

@@ -11,20 +11,20 @@ pub returns-in_err-status-clause-faults : goal.returns-in_err-status-clause-faul
 returns-in_err-status-clause-faults g c =
     let p = err_from_is_err_and c.from_residual.result c.from_residual.ensures.1 in
     let plan = c.args.checked.now.plan in
-    let lines = failure_lines c.args.command.now.explain plan.entries plan.actions c.args.outcome.now.results.items c.args.causes.now ++ lost_lines c.args.command.now (lost_by c.args.kept) in
+    let lines = failure_lines c.args.command.now.explain plan.entries plan.actions c.args.ended.now.results.items c.args.causes.now ++ lost_lines c.args.command.now (lost_by c.args.kept) in
     rw p.1 (begun_first (g.E.Sink.holds c.args.err.now) (g.E.Sink.holds c.report_outcome.new.err) lines (remark_lines c.args.command.now c.args.remarks.now.notices.now c.args.remarks.now.skips.now) c.in_err-status.ensures.faults)
 
 pub returns-in_err-report_remarks-clause-report : goal.returns-in_err-report_remarks-clause-report
 returns-in_err-report_remarks-clause-report g c =
     let p = err_from_is_err_and c.from_residual-in_err-report_remarks.result c.from_residual-in_err-report_remarks.ensures.1 in
-    let report = report_text (ending_at c.args.outcome.now.results.items) c.args.checked.now.plan in
+    let report = report_text (ending_at c.args.ended.now.results.items) c.args.checked.now.plan in
     rw p.1 (whole_begun (g.O.Sink.holds c.args.out.now) (g.O.Sink.holds c.report_outcome.new.out) report c.in_ok-status.ensures.report)
 
 pub returns-in_err-report_remarks-clause-faults : goal.returns-in_err-report_remarks-clause-faults
 returns-in_err-report_remarks-clause-faults g c =
     let p = err_from_is_err_and c.from_residual-in_err-report_remarks.result c.from_residual-in_err-report_remarks.ensures.1 in
     let plan = c.args.checked.now.plan in
-    let lines = failure_lines c.args.command.now.explain plan.entries plan.actions c.args.outcome.now.results.items c.args.causes.now ++ lost_lines c.args.command.now (lost_by c.args.kept) in
+    let lines = failure_lines c.args.command.now.explain plan.entries plan.actions c.args.ended.now.results.items c.args.causes.now ++ lost_lines c.args.command.now (lost_by c.args.kept) in
     rw p.1
     (begun_after (g.E.Sink.holds c.args.err.now) (g.E.Sink.holds c.report_outcome.new.err) (g.E.Sink.holds c.report_remarks.new.err) lines (remark_lines c.args.command.now c.args.remarks.now.notices.now c.args.remarks.now.skips.now)
     c.in_ok-status.ensures.faults c.in_err-report_remarks.ensures.told)
@@ -32,6 +32,6 @@ returns-in_err-report_remarks-clause-faults g c =
 pub returns-clause-faults : goal.returns-clause-faults
 returns-clause-faults g c =
     let plan = c.args.checked.now.plan in
-    let lines = failure_lines c.args.command.now.explain plan.entries plan.actions c.args.outcome.now.results.items c.args.causes.now ++ lost_lines c.args.command.now (lost_by c.args.kept) in
+    let lines = failure_lines c.args.command.now.explain plan.entries plan.actions c.args.ended.now.results.items c.args.causes.now ++ lost_lines c.args.command.now (lost_by c.args.kept) in
     sent_more (g.E.Sink.holds c.args.err.now) (g.E.Sink.holds c.report_outcome.new.err) (g.E.Sink.holds c.report_remarks.new.err) lines (remark_lines c.args.command.now c.args.remarks.now.notices.now c.args.remarks.now.skips.now)
     c.in_ok-status.ensures.faults c.in_ok-report_remarks.ensures.told

@@ -1,4 +1,4 @@
-use Rattle.std.proofs.Common.{List, ◌≡◌, ◌∙◌, ◌≤◌, ap, ap₂, length, sym, subst, arith}
+use Rattle.std.proofs.Common.{List, ◌∙◌, ap, ap₂, length, sym, arith}
 use Rattle.ts_model.specs.declared.plan.Plan.{Plan}
 use Rattle.ts_board.specs.Terms.{commit_count, placed}
 use Rattle.ts_board.proofs.open.Opening.lay_out.Goals as goal

@@ -1,4 +1,4 @@
-use Rattle.std.proofs.Common.{◌∙◌, refl, sym, subst}
+use Rattle.std.proofs.Common.{◌∙◌, ap, refl, sym, subst}
 use Rattle.std.proofs.lemmas.Result.{err_from_is_err_and}
 use Rattle.ts_board.specs.Calls.{slots_of, words_of}
 use Rattle.ts_check.specs.Checkup.{Checkup, snapshot_of}
@@ -11,11 +11,11 @@ use Rattle.ts_perform.proofs.task.Task.carry_out.Goals as goal
 
 pub returns-in-Ok : goal.returns-in-Ok
 returns-in-Ok g c =
-    let came : Came = record { checkup = c.in_ok-checked.checked; results = c.let_sites_go.new.self.results.items; causes = c.as_slice-causes.result.now; lost = lost_by c.keep_archive-kept.result; notices = c.as_slice.result.now; skips = c.as_slice-in-Ok.result.now } in
+    let came : Came = record { checkup = c.in_ok-checked.checked; results = c.split-ended.result.0.results.items; causes = c.as_slice-causes.result.now; lost = lost_by c.keep_archive-kept.result; notices = c.as_slice.result.now; skips = c.as_slice-in-Ok.result.now } in
     let same = c.in_ok-checked.ensures.checked in
-    let words = words_of c.let_sites_go.new.self.closed in
-    let same_results = c.let_sites_go.ensures.results ∙ c.causes_of-causes.ensures.results in
-    let same_words = c.let_sites_go.ensures.words ∙ c.causes_of-causes.ensures.words in
+    let words = words_of c.split-ended.result.1 in
+    let same_results = c.split-ended.ensures.results ∙ c.causes_of-causes.ensures.results in
+    let same_words = ap words_of c.split-ended.ensures.closed ∙ c.causes_of-causes.ensures.words in
     record {
       ran = (
         came,
