@@ -1,21 +1,21 @@
 -- How a path is kept in memory: one list of bytes, where each name is followed by a zero byte.
---     shared_bytes     the bytes that copies share
+--     shared_bytes     the bytes that copies share, and what is cut from their front
 --     pieces, ended    the names that a separator ends, and back
 --     HasNo            no separator among the bytes
 --     IsWhole          the bytes end with a separator, or there are none
 --     IsBuffer         the bytes that some lawful path is kept as
 --     HoldsParent      the bytes that a path's parent is kept as
-use Rattle.std.specs.Prelude.{◌≡◌, ◌≢◌, ℕ, ◌==◌, if◌then◌else◌, List, [], ◌∷◌, ◌++◌, Option, Some, None, flat_map}
+use Rattle.std.specs.Prelude.{◌≡◌, ◌≢◌, ℕ, ◌==◌, if◌then◌else◌, List, [], ◌∷◌, ◌++◌, drop, flat_map}
 use Rattle.std.specs.List.{AllByRecursion}
 use Rattle.std.specs.Arc.{arc_value}
-use Rattle.std.specs.declared.sync.Arc.{Arc}
-use Rattle.std.specs.declared.vec.Vec.{Vec}
+use Rattle.ts_name.specs.declared.bytes.Share.{Share}
+use Rattle.ts_name.specs.declared.bytes.Share.TheVariants.{Nothing, From}
 use Rattle.ts_name.specs.Paths.{Name, Path, IsPath}
 
--- the bytes that are shared, if there are any
-abbrev pub shared_bytes : {A B : Type 0} → Option (Arc (Vec ℕ A) B) → List ℕ
-shared_bytes None = []
-shared_bytes (Some bytes) = (arc_value bytes).items
+-- the bytes of a buffer from a start on, if there is one
+abbrev pub shared_bytes : Share → List ℕ
+shared_bytes Nothing = []
+shared_bytes (From start bytes) = drop start (arc_value bytes).items
 
 -- the names with a further byte at the head of the first
 abbrev pub in_front : ℕ → Path → Path

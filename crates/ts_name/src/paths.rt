@@ -247,7 +247,7 @@ impl Path {
     }
 
     /// This path followed by the names of `rest`, or `TooLong` past the limits of a path. Where one of them is the root, the other's
-    /// bytes are shared.
+    /// bytes are shared; and where `rest` is what was left of a path below this one, that path's bytes.
     pub fn join(&self, alloc: Global, rest: &Path) -> Result<Path, PathFault>
         ensures ok { IfOk result (λ p. p ≡ self.now ++ rest.now) }
         ensures lawful { IfOk result IsPath }
@@ -264,25 +264,25 @@ impl Path {
         if self.is_root() {
             return Ok(rest.copy(alloc)?);
         }
-        let bytes = concatenated(alloc, self.bytes.as_slice(), rest.bytes.as_slice())?;
+        let front = self.bytes.as_slice();
+        if let Some(whole) = rest.bytes.after(front)? {
+            return Ok(Path { bytes: whole });
+        }
+        let bytes = concatenated(alloc, front, rest.bytes.as_slice())?;
         let shared = Bytes::share(alloc, bytes)?;
         Ok(Path { bytes: shared })
     }
 
-    /// What is left of this path below `top`, or `None` where it isn't at or below it. Below the root that is this path, whose bytes
-    /// are shared.
+    /// What is left of this path below `top`, or `None` where it isn't at or below it. The bytes are shared with this path.
     pub fn below(&self, alloc: Global, top: &Path) -> Result<Option<Path>, AllocError>
         ensures value { IfOk result (λ o. o ≡ below top.now self.now) }
         ensures lawful { IfOk result (λ o. IfSome o IsPath) }
     {
-        let Some(rest) = self.bytes.as_slice().strip_prefix(top.bytes.as_slice()) else {
+        let start = top.bytes.as_slice();
+        if !self.bytes.as_slice().starts_with(start) {
             return Ok(None);
-        };
-        if top.is_root() {
-            return Ok(Some(self.copy(alloc)?));
         }
-        let bytes = Vec::from_slice(alloc, rest)?;
-        let shared = Bytes::share(alloc, bytes)?;
+        let shared = self.bytes.behind(alloc, start.len())?;
         Ok(Some(Path { bytes: shared }))
     }
 }
