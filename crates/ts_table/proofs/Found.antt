@@ -6,7 +6,7 @@ use Rattle.std.specs.List.Sorted.{IsNonDecreasingBy, IsPartitionedBy, IsPartitio
 use Rattle.std.specs.Ordering.{ordering_index, is_lt}
 use Rattle.std.proofs.lemmas.List.{take-append-drop, get_or-drop, length-drop, drop-drop}
 use Rattle.ts_name.specs.Paths.{Path, IsAbove, IsBefore, path_cmp}
-use Rattle.ts_model.specs.Trees.{Listing, listed, at, Ascend}
+use Rattle.ts_model.specs.Trees.{Listing, at, Ascend}
 use Rattle.ts_model.specs.declared.row.Content.TheVariants.{Absent}
 use Rattle.ts_model.specs.declared.row.Row.{Row}
 use Rattle.ts_table.specs.Tables.{is_above, rows_below, IsCut}

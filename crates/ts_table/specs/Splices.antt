@@ -53,6 +53,11 @@ abbrev pub spliced : {F : Type 0} → Listing F → List (Put F) → Listing F
 spliced rows [] = rows
 spliced rows (put ∷ puts) = lead (comes_before put.path) rows ++ (put.rows ++ spliced (trail (stands_below put.path) (trail (comes_before put.path) rows)) puts)
 
+-- these rows come before the path of the first put, if there is one
+abbrev pub ComeFirst : {F : Type 0} → List (Put F) → Listing F → Type 0
+ComeFirst [] rows = Unit {0}
+ComeFirst (put ∷ puts) rows = AllByRecursion (λ row. IsBefore row.path put.path) rows
+
 -- the rows of an edit, as they are put down
 abbrev pub put_of : {F : Type 0} → Edit F → Put F
 put_of edit = record { path = edit.path; rows = placed edit.path edit.part }

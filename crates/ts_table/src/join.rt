@@ -47,7 +47,7 @@ impl<F: Drop> Table<F> {
             Ok(space) => {
                 let Space { slots, puts, rows } = space;
                 let puts = put_down(slots, parts, puts);
-                let rows = merged(frame.into_rows(), puts, rows);
+                let rows = merged(VecDeque::from_vec(frame.into_rows()), puts, rows);
                 Ok(Table { rows })
             }
             Err(fault) => Err((frame, parts, fault)),

@@ -1,13 +1,13 @@
 //! Many changes of a table in one pass.
-ghost use Rattle.std.specs.Prelude.{◌≡◌, ◌++◌, ◌+◌, ◌≤◌, IfOk, IsErrOf, OnErr, OnOk, length, map, sum_by, vec_capacity, vec_len};
+ghost use Rattle.std.specs.Prelude.{◌≡◌, ◌++◌, ◌+◌, ◌≤◌, IfOk, IsErrOf, OnErr, OnOk, length, map, sum_by, take, vec_capacity, vec_len};
 ghost use Rattle.std.specs.VecDeque.{deque_len};
-ghost use Rattle.ts_model.specs.Trees.{at};
-ghost use Rattle.ts_table.specs.Splices.{ArePaths, ArePlaces, AreInOrder, comes_before, grafted, lead, put_of, spliced, stands_below, trail};
+ghost use Rattle.ts_model.specs.Trees.{Ascend, at};
+ghost use Rattle.ts_table.specs.Splices.{ArePaths, ArePlaces, AreInOrder, ComeFirst, comes_before, grafted, lead, put_of, spliced, stands_below, trail};
 
 use crate::fault::TableFault;
 use crate::subtable::SubTable;
 use crate::table::Table;
-use std::alloc::Global;
+use std::alloc::{AllocError, Global};
 use std::collections::VecDeque;
 use std::mem;
 use ts_model::items::Items;
@@ -30,7 +30,8 @@ pub(crate) struct Put<F> {
 
 impl<F: Drop> Table<F> {
     /// Makes many edits in one pass, each after the one before it: the paths ascend, and an edit may stand below an
-    /// earlier one, where that one's rows all come before it, as those of a bare directory do.
+    /// earlier one, where that one's rows all come before it, as those of a bare directory do. The rows before the first path
+    /// stay where they are, so that only those behind it are laid out twice.
     ///
     /// `TooLong` where a path would be past the limits. After an error nothing has changed, and the edits are dropped.
     #[tactic(auto, using(crate::proofs::Splicing::parts_push, crate::proofs::Splicing::edit_paths_push))]
@@ -43,7 +44,7 @@ impl<F: Drop> Table<F> {
         ensures err { OnErr result (self.new ≡ self.old) }
     {
         let mut puts = Vec::with_capacity(alloc, edits.len())?;
-        let mut room = self.rows.len();
+        let mut room = 0usize;
         for edit in edits {
             let Edit { path, part } = edit;
             let rows = part.placed(alloc, &path)?;
@@ -53,23 +54,59 @@ impl<F: Drop> Table<F> {
                 rows: Items::new(rows),
             })?;
         }
-        let out = Vec::with_capacity(alloc, room)?;
-        let rows = mem::replace(&mut self.rows, Vec::new(alloc));
-        self.rows = merged(rows, puts, out);
+        self.rows.reserve(room)?;
+        let start = rows_before(&self.rows, puts.as_slice());
+        let rest = cut_off(alloc, &mut self.rows, start)?;
+        let out = mem::replace(&mut self.rows, Vec::new(alloc));
+        self.rows = merged(rest, puts, out);
         Ok(())
     }
 }
 
+/// How many rows come before the path of the first put; all, where there is none.
+fn rows_before<F>(rows: &[Row<F>], puts: &[Put<F>]) -> usize
+    requires { Ascend rows.now }
+    ensures within { result ≤ length rows.now }
+    ensures before { ComeFirst puts.now (take result rows.now) }
+{
+    match puts.first() {
+        Some(put) => rows.partition_point(|row| row.path < put.path),
+        None => rows.len(),
+    }
+}
+
+/// Moves the rows from a place on into a queue. Where memory runs out nothing changes.
+fn cut_off<F>(
+    alloc: Global,
+    rows: &mut Vec<Row<F>>,
+    start: usize,
+) -> Result<VecDeque<Row<F>>, AllocError>
+    requires { start ≤ vec_len rows.old }
+    ensures front { OnOk result (rows.new.items ≡ take start rows.old.items) }
+    ensures rest { IfOk result (λ rest. rows.new.items ++ rest.items ≡ rows.old.items) }
+    ensures len { IfOk result (λ rest. vec_len rows.new + deque_len rest ≡ vec_len rows.old) }
+    ensures capacity { vec_capacity rows.new ≡ vec_capacity rows.old }
+    ensures err { OnErr result (rows.new ≡ rows.old) }
+{
+    let mut rest = VecDeque::with_capacity(alloc, rows.len() - start)?;
+    while start < rows.len() {
+        let Some(row) = rows.pop() else {
+            unreachable!();
+        };
+        rest.push_front_reserved(row);
+    }
+    Ok(rest)
+}
+
 /// The rows with those of each put at its path, gathered in `out`, which has room for all.
 pub(crate) fn merged<F: Drop>(
-    rows: Vec<Row<F>>,
+    mut rest: VecDeque<Row<F>>,
     puts: Vec<Put<F>>,
     mut out: Vec<Row<F>>,
 ) -> Vec<Row<F>>
-    requires { vec_len out + length rows.items + sum_by (λ put. length put.rows) puts.items ≤ vec_capacity out }
-    ensures { result.items ≡ out.items ++ spliced rows.items puts.items }
+    requires { vec_len out + deque_len rest + sum_by (λ put. length put.rows) puts.items ≤ vec_capacity out }
+    ensures { result.items ≡ out.items ++ spliced rest.items puts.items }
 {
-    let mut rest = VecDeque::from_vec(rows);
     for put in puts {
         let Put { path, rows } = put;
         move_before(&mut rest, &mut out, &path);

@@ -24,7 +24,7 @@ outcome : (g : Over) (c : After-merged-rows g) → IsSpliced (at c.args.frame.ro
 outcome g c =
     let puts = c.put_down-puts.ensures ∙ ap₂ (λ x y. x ++ map put_of (edits_of y c.args.parts.items)) c.in-Ok.ensures.no_puts c.in-Ok.ensures.slots in
     let is : c.merged-rows.result.items ≡ spliced c.args.frame.rows (map put_of (edits_of c.args.frame.paths c.args.parts.items)) =
-    c.merged-rows.ensures ∙ ap (λ z. z ++ spliced c.into_rows.result.items c.put_down-puts.result.items) c.in-Ok.ensures.no_rows ∙ ap₂ spliced c.into_rows.ensures.rows puts in
+    c.merged-rows.ensures ∙ ap (λ z. z ++ spliced c.from_vec.result.items c.put_down-puts.result.items) c.in-Ok.ensures.no_rows ∙ ap₂ spliced (c.from_vec.ensures.items ∙ c.into_rows.ensures.rows) puts in
     subst (λ z. IsSpliced (at c.args.frame.rows) (edits_of c.args.frame.paths c.args.parts.items) z) (sym is)
     (frame_joined c.args.frame c.args.parts.items c.into_rows.ensures.lawful c.requires (rw c.deref.ensures.value at c.in-Ok.ensures.listings) (rw c.deref.ensures.value at c.in-Ok.ensures.paths))
 
