@@ -34,7 +34,7 @@ where
 {
     let idle = Idle::new(u64::from(workers) - 1);
     let root = Path::root(alloc);
-    let work = Work::new(alloc)?;
+    let work = Work::new(alloc, 0)?;
     let mut done = scan_directory(rt, folder, &idle, alloc, &root, work)?;
     // they stay as long as the print does, and their room has grown by doubling
     done.rows.shrink_to_fit();

@@ -34,15 +34,34 @@ pub(crate) struct Work {
 }
 
 impl Work {
-    pub(crate) fn new(alloc: Global) -> Result<Work, ScanFault>
+    /// Nothing is found yet, and there is room for so many rows.
+    pub(crate) fn new(alloc: Global, room: usize) -> Result<Work, ScanFault>
         ensures found { IfOk result (λ work. work.rows.items ≡ []) }
         ensures fault { IfErr result (λ e. e ≡ ScanFault.OutOfMemory) }
     {
         let buffer = vec![in alloc; 0u8; PIECE]?;
         Ok(Work {
-            rows: Vec::new(alloc),
+            rows: Vec::with_capacity(alloc, room)?,
             buffer,
         })
+    }
+
+    /// Makes room for so many rows more.
+    fn make_room(&mut self, rows: usize) -> Result<(), ScanFault>
+        ensures rows { self.new.rows.items ≡ self.old.rows.items }
+        ensures fault { IfErr result (λ e. e ≡ ScanFault.OutOfMemory) }
+    {
+        self.rows.reserve(rows)?;
+        Ok(())
+    }
+
+    /// Puts the row of a directory at the end, and makes room for those of its children.
+    fn push_dir(&mut self, path: Path, children: usize) -> Result<(), ScanFault>
+        ensures rows { OnOk result (self.new.rows.items ≡ self.old.rows.items ++ record { path = path; content = Dir } ∷ []) }
+        ensures fault { IfErr result (λ e. e ≡ ScanFault.OutOfMemory) }
+    {
+        self.push(path, Content::Dir)?;
+        self.make_room(children)
     }
 
     /// Puts a row at the end.
@@ -62,7 +81,7 @@ pub(crate) fn scan_directory<R: Threads + Sync, F: Folder + Sync>(
     idle: &Idle,
     alloc: Global,
     path: &Path,
-    work: Work,
+    mut work: Work,
 ) -> Result<Work, ScanFault>
 where
     F::File: Send,
@@ -73,6 +92,7 @@ where
         Ok(children) => children,
         Err(fault) => return Err(told(alloc, path, fault)),
     };
+    work.make_room(children.len())?;
     scan_children(rt, folder, idle, alloc, path, &children, work)
 }
 
@@ -133,7 +153,7 @@ where
         ensures fault { IfSome (F.tells folder.entry.now) (λ tree. AreThere (at tree) path.entry.now second.entry.now)
             → IfErr result (MayFail (F.lets folder.entry.now) (F.tells folder.entry.now)) }
     {
-        let work = Work::new(alloc)?;
+        let work = Work::new(alloc, second.len())?;
         let found = scan_children(rt, folder, idle, alloc, path, second, work);
         idle.half_ended(ended);
         found
@@ -200,7 +220,7 @@ where
             let Ok(own) = path.copy(alloc) else {
                 return Err(ScanFault::OutOfMemory);
             };
-            work.push(own, Content::Dir)?;
+            work.push_dir(own, children.len())?;
             scan_children(rt, folder, idle, alloc, &path, &children, work)
         }
     }

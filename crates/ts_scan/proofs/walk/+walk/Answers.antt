@@ -61,19 +61,19 @@ scan_child-returns-in_ok-push-in-File-clause-found g t c =
     c.requires.lawful c.in_ok-path.ensures.path.0 c.in_ok-path.ensures.path.1
     (subst (IsOpened told c.in_ok-path.path c.args.child.now.1) c.in-File.is c.in_ok-open.ensures.opened) c.in_ok-push-in-File.ensures.rows
 
-pub scan_child-returns-in_ok-push-in-Dir-clause-found : goal.scan_child-returns-in_ok-push-in-Dir-clause-found
-scan_child-returns-in_ok-push-in-Dir-clause-found g t c =
+pub scan_child-returns-in_ok-push_dir-in-Dir-clause-found : goal.scan_child-returns-in_ok-push_dir-in-Dir-clause-found
+scan_child-returns-in_ok-push_dir-in-Dir-clause-found g t c =
     let told = g.F.Folder.tells c.args.folder.now in
     let opened = subst (IsOpened told c.in_ok-path.path c.args.child.now.1) c.in-Dir.is c.in_ok-open.ensures.opened in
     let listed = subst (IsListed told c.in_ok-path.path) (sym c.deref.ensures.value) opened in
-    IfOk-weaker c.scan_children.result (λ done. Adds c.push-in-Dir.new.self.rows.items done.rows.items (Found told c.in_ok-path.path c.deref.result.now))
+    IfOk-weaker c.scan_children.result (λ done. Adds c.push_dir.new.self.rows.items done.rows.items (Found told c.in_ok-path.path c.deref.result.now))
     (λ done. Adds c.args.work.rows.items done.rows.items (Found told c.args.parent.now (c.args.child.now ∷ [])))
-    (λ done h. adds_opened told c.args.parent.now c.in_ok-path.path c.in-Ok.own c.args.child.now c.deref.result.now c.args.work.rows.items c.push-in-Dir.new.self.rows.items done.rows.items
-    c.in_ok-path.ensures.path.0 c.in_ok-path.ensures.path.1 c.in-Ok.ensures.value listed c.in_ok-push-in-Dir.ensures.rows h)
+    (λ done h. adds_opened told c.args.parent.now c.in_ok-path.path c.in-Ok.own c.args.child.now c.deref.result.now c.args.work.rows.items c.push_dir.new.self.rows.items done.rows.items
+    c.in_ok-path.ensures.path.0 c.in_ok-path.ensures.path.1 c.in-Ok.ensures.value listed c.in_ok-push_dir-in-Dir.ensures.rows h)
     c.scan_children.ensures.found
 
-pub scan_child-returns-in_ok-push-in-Dir-clause-fault : goal.scan_child-returns-in_ok-push-in-Dir-clause-fault
-scan_child-returns-in_ok-push-in-Dir-clause-fault g t c there =
+pub scan_child-returns-in_ok-push_dir-in-Dir-clause-fault : goal.scan_child-returns-in_ok-push_dir-in-Dir-clause-fault
+scan_child-returns-in_ok-push_dir-in-Dir-clause-fault g t c there =
     let told = g.F.Folder.tells c.args.folder.now in
     let opened = subst (IsOpened told c.in_ok-path.path c.args.child.now.1) c.in-Dir.is c.in_ok-open.ensures.opened in
     c.scan_children.ensures.fault (listed_there told c.in_ok-path.path c.deref.result.now (subst (IsListed told c.in_ok-path.path) (sym c.deref.ensures.value) opened))
