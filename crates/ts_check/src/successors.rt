@@ -19,12 +19,21 @@ fn push_waits(pairs: &mut Vec<(u32, u32)>, preds: &[u32], action: u32) -> Result
     Ok(())
 }
 
+/// How many predecessors there are. It only says how much room is made.
+fn pred_count(actions: &[Action]) -> usize {
+    let mut count = 0usize;
+    for action in actions {
+        count = count.saturating_add(action.preds.as_slice().len());
+    }
+    count
+}
+
 /// Each predecessor beside the action that waits for it.
 fn wait_pairs(alloc: Global, actions: &[Action]) -> Result<Vec<(u32, u32)>, AllocError>
     requires { length actions.now ≤ action_limit }
     ensures { IfOk result (λ pairs. pairs.items ≡ waits_from 0 actions.now) }
 {
-    let mut pairs = Vec::new(alloc);
+    let mut pairs = Vec::with_capacity(alloc, pred_count(actions))?;
     for (i, action) in actions.iter().enumerate() {
         push_waits(&mut pairs, action.preds.as_slice(), i as u32)?;
     }

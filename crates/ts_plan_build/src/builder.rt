@@ -12,7 +12,7 @@ use crate::block::add_entry;
 use crate::fault::BuildFault;
 use std::alloc::{AllocError, Global};
 use ts_model::items::Items;
-use ts_model::plan::{Action, ENTRY_LIMIT, Entry, Plan, Reason};
+use ts_model::plan::{ACTION_LIMIT, Action, ENTRY_LIMIT, Entry, Plan, Reason, Side};
 use ts_name::Path;
 use ts_print::Print;
 
@@ -74,7 +74,7 @@ fn actions_of(
     ensures count { IfOk result (λ actions. length actions.items ≡ planned_actions first.now second.now entries.now) }
     ensures past { IfErr result (λ fault. fault ≡ BuildFault.PastLimit → action_limit < planned_actions first.now second.now entries.now) }
 {
-    let mut actions = Vec::new(alloc);
+    let mut actions = Vec::with_capacity(alloc, room_for(first, second, entries))?;
     // the new directories above the path, the nearest one last
     let mut dirs = Vec::new(alloc);
     for number in 0..entries.len() {
@@ -93,9 +93,24 @@ fn actions_of(
         )?;
         keep(&mut dirs, entry, mark)?;
     }
-    // they stay as long as the plan does, and their room has grown by doubling
+    // they stay as long as the plan does
     actions.shrink_to_fit();
     Ok(actions)
+}
+
+/// How many actions the entries have, where no file has a second piece. It only says
+/// how much room is made, so that a long list is not moved while it grows.
+fn room_for(first: &Print, second: &Print, entries: &[Entry]) -> usize {
+    let mut room = 0usize;
+    for entry in entries {
+        let rows = match entry.reason.source() {
+            Some(Side::First) => first.sub(&entry.path).len(),
+            Some(Side::Second) => second.sub(&entry.path).len(),
+            None => 0,
+        };
+        room = room.saturating_add(rows).saturating_add(2);
+    }
+    room.min(ACTION_LIMIT)
 }
 
 /// Puts the entry at the end of the directories, where it is a new one.

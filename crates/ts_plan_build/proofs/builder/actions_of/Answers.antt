@@ -21,6 +21,6 @@ loop-number-preserved c =
 
 pub returns-in_err-add_entry-clause-past : goal.returns-in_err-add_entry-clause-past
 returns-in_err-add_entry-clause-past c =
-    let p = err_from_is_err_and c.from_residual.result c.from_residual.ensures.1 in
+    let p = err_from_is_err_and c.from_residual-in_err-add_entry.result c.from_residual-in_err-add_entry.ensures.1 in
     rw (p.1, p.2) (λ e. past_in_entries 1048576 c.args.first.now c.args.second.now c.args.entries.now c.index-entries-number.result c.loop-number.number c.loop-number.actions.items
     c.loop-number.invariant.counted c.loop-number-test.true c.index-entries-number.is (c.in_err-add_entry.ensures.past e))
