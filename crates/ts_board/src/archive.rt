@@ -19,10 +19,10 @@ use ts_site::Site;
 use ts_table::Edit;
 
 /// Into how many blocks the entries are cut at most, but for a rest.
-const BLOCKS: usize = 8;
+const BLOCKS: usize = 32;
 
 /// How many entries a block has at least, where there are as many.
-const LEAST_IN_BLOCK: usize = 16_384;
+const LEAST_IN_BLOCK: usize = 8_192;
 
 impl<S: Site> Closed<S> {
     /// The archive that the plan was checked against, with the mark of each action that is done: the archive after the run
@@ -130,7 +130,7 @@ pub(crate) fn flagged_archive(
 }
 
 /// The archive with the marks of the entries that are flagged. They are made a block of entries at a time, so that few are laid out
-/// at once, and in few blocks, since each block goes over the whole archive.
+/// at once, and in not too many blocks, since each moves the rows behind its first entry.
 fn with_marks(
     alloc: Global,
     entries: &[Entry],
