@@ -1,5 +1,5 @@
 -- What is gathered from the elements of a list, one after the other.
-use Rattle.std.proofs.Common.{◌≡◌, String, Global, ℕ, ◌+◌, ◌<◌, ◌^◌, List, [], ◌∷◌, ◌++◌, length, get_or, take, refl, sym, ap, subst, ◌∙◌, arith, inl, inr}
+use Rattle.std.proofs.Common.{◌≡◌, ◌⊎◌, String, Global, ℕ, ◌+◌, ◌<◌, ◌^◌, List, [], ◌∷◌, ◌++◌, length, get_or, take, refl, sym, ap, subst, ◌∙◌, arith, inl, inr}
 use Rattle.std.specs.Prelude.{All, Any, Contains, IsPermutation, codes, decimal}
 use Rattle.std.specs.List.{dedup}
 use Rattle.std.specs.String.{string_bytes, string_eq, string_eq_equiv}
@@ -62,3 +62,19 @@ any_sorted P old sorted new moved once (k, x, small, at, held) =
     let kept : Any (λ s. P (string_bytes s)) (dedup string_eq sorted) =
     (there.0, there.1, there.2, there.3, subst P ((bytes_eq-Decides (string_bytes x) (string_bytes there.1)).0 there.4) held) in
     subst (Any (λ s. P (string_bytes s))) (sym once) kept
+
+-- what holds by a text's bytes holds of something that has them
+pub any_same : (P : List ℕ → Type 0) (all : List (String Global)) (bytes : List ℕ) → Any (λ s. string_bytes s ≡ bytes) all → P bytes → Any (λ s. P (string_bytes s)) all
+any_same P all bytes (k, x, small, at, same) held = (k, x, small, at, subst P (sym same) held)
+
+-- ---- what stayed, or got one more
+
+pub any_grown : {B : Type 0} (P : B → Type 0) (old new : List B) (y : B) → (new ≡ old) ⊎ (new ≡ old ++ y ∷ []) → Any P old → Any P new
+any_grown P old new y (inl same) held = subst (Any P) (sym same) held
+any_grown P old new y (inr grown) held = any_kept P old new y grown held
+
+pub all_grown :
+    {A B : Type 0} (R : A → B → Type 0) (xs : List A) (i : ℕ) (x : A) (old new : List B) (y : B) → i < length xs → x ≡ get_or xs i x → (new ≡ old) ⊎ (new ≡ old ++ y ∷ []) → R x y
+    → All (λ z. Any (λ a. R a z) xs) old → All (λ z. Any (λ a. R a z) xs) new
+all_grown R xs i x old new y small is (inl same) of held = subst (All (λ z. Any (λ a. R a z) xs)) (sym same) held
+all_grown R xs i x old new y small is (inr grown) of held = from_more R xs i x old new y small is grown of held

@@ -1,5 +1,5 @@
 //! What a run put in place reaches the device before its archive says so.
-ghost use Rattle.std.specs.Prelude.{◌≡◌, ◌⊎◌, [], All, Any, IfErr, IfNone, IfOk, IfSome};
+ghost use Rattle.std.specs.Prelude.{◌≡◌, ◌⊎◌, ◌++◌, ◌∷◌, [], All, Any, IfErr, IfNone, IfOk, IfSome, IsTrue, OnOk};
 ghost use Rattle.std.specs.String.{string_bytes};
 ghost use Rattle.ts_cause.specs.declared.cause.Cause.{Cause};
 ghost use Rattle.ts_disk.specs.Flushing.{IsAboveAt};
@@ -73,12 +73,34 @@ fn places_above(alloc: Global, root: &str, paths: &[&Path]) -> Result<Vec<String
     let mut places = Vec::new(alloc);
     for path in paths {
         if let Some(place) = place_above(alloc, root, path)? {
-            places.push(place)?;
+            add_place(&mut places, place)?;
         }
     }
     places.sort_unstable();
     places.dedup();
     Ok(places)
+}
+
+/// Adds a place, unless it was added last: paths that stand in one directory mostly follow each other.
+fn add_place(places: &mut Vec<String>, place: String) -> Result<(), AllocError>
+    ensures there { OnOk result (Any (λ other. string_bytes other ≡ string_bytes place) places.new.items) }
+    ensures kept { OnOk result ((places.new.items ≡ places.old.items) ⊎ (places.new.items ≡ places.old.items ++ place ∷ [])) }
+{
+    if ends_with(places.as_slice(), place.as_str()) {
+        return Ok(());
+    }
+    places.push(place)?;
+    Ok(())
+}
+
+/// Whether a place is the last of these.
+fn ends_with(places: &[String], place: &str) -> bool
+    ensures { IsTrue result → Any (λ other. string_bytes other ≡ place.now) places.now }
+{
+    match places {
+        [.., last] => last.as_str() == place,
+        [] => false,
+    }
 }
 
 /// The place of the directory in which a path stands. The root stands in none.

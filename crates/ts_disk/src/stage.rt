@@ -35,8 +35,10 @@ pub struct DiskStage<R> {
     files: R,
     first: String,
     second: String,
-    // At the number of a piece that begins a file, how many of the file's pieces aren't stored yet; 0 where it is the only one,
-    // which nobody counts. At that of another piece the number of the one that begins its file, which stays.
+    // The pieces of files that have several, in ascending order.
+    parts: Vec<u32>,
+    // Beside each of these, where it begins its file, how many of the file's pieces aren't stored yet; else the number of the
+    // piece that begins it, which stays.
     waiting: Vec<AtomicU32>,
     // for each entry 0, or by its number why its pieces aren't stored any more: whichever failure came first
     failed: Vec<AtomicU32>,
@@ -49,12 +51,14 @@ impl<R: Drop> Drop for DiskStage<R> {
             files,
             first,
             second,
+            parts,
             waiting,
             failed,
         } = self;
         drop(files);
         drop(first);
         drop(second);
+        drop(parts);
         drop(waiting);
         drop(failed);
     }
@@ -99,7 +103,7 @@ impl<R: Drop> DiskStage<R> {
         ensures fault { IfErr result (λ e. e ≡ DiskFault.OutOfMemory) }
     {
         let plan = checked.plan();
-        let waiting = words(alloc, counts(alloc, checked)?.as_slice())?;
+        let (parts, waiting) = counts(alloc, checked)?;
         let none = vec![in alloc; 0u32; plan.entries.as_slice().len()]?;
         let failed = words(alloc, none.as_slice())?;
         let first = String::from_str(alloc, first)?;
@@ -108,6 +112,7 @@ impl<R: Drop> DiskStage<R> {
             files,
             first,
             second,
+            parts,
             waiting,
             failed,
         })
@@ -141,21 +146,22 @@ impl<R: Drop> DiskStage<R> {
 
     /// Counts a piece as stored.
     fn count_down(&self, action: u32, offset: u64) -> Turn {
-        let Some(word) = self.waiting.get(action as usize) else {
-            return Turn::NotYet;
+        let Some(word) = self.word_of(action) else {
+            return Turn::Only;
         };
-        let seen = word.load(Ordering::SeqCst);
         if offset == 0 {
-            return if seen == 0 {
-                Turn::Only
-            } else {
-                take_one(word)
-            };
+            return take_one(word);
         }
-        match self.waiting.get(seen as usize) {
+        match self.word_of(word.load(Ordering::SeqCst)) {
             Some(word) => take_one(word),
             None => Turn::NotYet,
         }
+    }
+
+    /// What is kept of a piece whose file has several.
+    fn word_of(&self, action: u32) -> Option<&AtomicU32> {
+        let index = self.parts.binary_search(&action).ok()?;
+        self.waiting.get(index)
     }
 
     /// Where the pieces of an entry are stored, which has this number, and where the file at this whole path is. None where the
@@ -297,42 +303,51 @@ fn words(alloc: Global, numbers: &[u32]) -> Result<Vec<AtomicU32>, AllocError>
     Ok(words)
 }
 
-/// For each action what `waiting` begins with.
-fn counts(alloc: Global, checked: &Checked<'_>) -> Result<Vec<u32>, AllocError>
-    ensures { IfOk result (λ counts. length counts.items ≡ length checked.now.plan.actions) }
-{
+/// The pieces of files that have several, and what `waiting` begins with beside each.
+fn counts(alloc: Global, checked: &Checked<'_>) -> Result<(Vec<u32>, Vec<AtomicU32>), AllocError> {
     let plan = checked.plan();
-    let mut counts = vec![in alloc; 0u32; plan.actions.as_slice().len()]?;
+    let mut counts = Vec::new(alloc);
     for commit in 0..checked.action_count() {
-        count_pieces(plan, checked.pieces(commit), counts.as_mut_slice());
+        count_pieces(plan, checked.pieces(commit), &mut counts)?;
     }
-    Ok(counts)
+    counts.sort_unstable();
+    let mut parts = Vec::with_capacity(alloc, counts.len())?;
+    let mut waiting = Vec::with_capacity(alloc, counts.len())?;
+    for (piece, word) in counts.as_slice() {
+        parts.push(*piece)?;
+        waiting.push(AtomicU32::new(*word))?;
+    }
+    Ok((parts, waiting))
 }
 
 /// Counts the pieces of a commit, which come by path and then by offset: each file's together, and the one that begins it first.
-fn count_pieces(plan: &Plan, pieces: &[u32], counts: &mut [u32])
-    ensures { length counts.new ≡ length counts.old }
-{
+fn count_pieces(
+    plan: &Plan,
+    pieces: &[u32],
+    counts: &mut Vec<(u32, u32)>,
+) -> Result<(), AllocError> {
     let mut first = 0u32;
+    let mut count: Option<usize> = None;
     for piece in pieces {
         if offset_of(plan, *piece) == 0 {
             first = *piece;
+            count = None;
         } else {
-            count_one(counts, first, *piece);
+            let index = match count {
+                Some(index) => index,
+                None => {
+                    counts.push((first, 1))?;
+                    counts.len() - 1
+                }
+            };
+            if let Some(counted) = counts.get_mut(index) {
+                counted.1 = counted.1.saturating_add(1);
+            }
+            counts.push((*piece, first))?;
+            count = Some(index);
         }
     }
-}
-
-/// Counts a piece of the file that another piece begins.
-fn count_one(counts: &mut [u32], first: u32, piece: u32)
-    ensures { length counts.new ≡ length counts.old }
-{
-    if let Some(word) = counts.get_mut(first as usize) {
-        *word = (*word).saturating_add(1).max(2);
-    }
-    if let Some(word) = counts.get_mut(piece as usize) {
-        *word = first;
-    }
+    Ok(())
 }
 
 /// Where the bytes of a piece begin in its file.

@@ -1,12 +1,12 @@
 //! Archives that are written while a run goes on.
 ghost use Rattle.std.specs.Prelude.{◌≡◌};
 
-use crate::acting::{paths_put, replica};
+use crate::acting::replica;
 use crate::disk::Disk;
 use crate::fault::PerformFault;
 use crate::task::Task;
 use std::alloc::Global;
-use ts_exec::{ActionResult, Keeper};
+use ts_exec::Keeper;
 use ts_model::plan::{Plan, Side};
 use ts_name::Path;
 use ts_print::Print;
@@ -48,6 +48,11 @@ fn paths_of_all<'a>(
     plan: &'a Plan,
     side: Side,
 ) -> Result<Vec<&'a Path>, PerformFault> {
-    let done = vec![in alloc; ActionResult::Done; plan.actions.as_slice().len()]?;
-    paths_put(alloc, plan, done.as_slice(), side)
+    let mut paths = Vec::new(alloc);
+    for entry in plan.entries.as_slice() {
+        if entry.reason.is_from(side.other()) {
+            paths.push(&entry.path)?;
+        }
+    }
+    Ok(paths)
 }

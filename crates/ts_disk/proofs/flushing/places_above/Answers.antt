@@ -1,4 +1,4 @@
-use Rattle.std.proofs.Common.{◌≡◌, ◌⊎◌, [], ◌∷◌, ◌++◌, List, String, Global, Bor, sym, subst, ap, ◌∙◌, inl, inr, ⊎_elim, get_or}
+use Rattle.std.proofs.Common.{◌≡◌, ◌⊎◌, [], ◌∷◌, ◌++◌, List, String, Global, Bor, sym, subst, ap, inl, inr, ⊎_elim, get_or}
 use Rattle.std.specs.Prelude.{All, Any}
 use Rattle.std.specs.String.{string_bytes}
 use Rattle.std.proofs.lemmas.List.{take_all}
@@ -6,8 +6,8 @@ use Rattle.std.proofs.lemmas.List.Filters.{All-dedup, dedup_is}
 use Rattle.std.proofs.lemmas.List.Sorted.{All-permutation}
 use Rattle.ts_name.specs.Paths.{Path}
 use Rattle.ts_disk.specs.Flushing.{IsAboveAt}
-use Rattle.ts_disk.proofs.Gathered.{any_kept, any_last, any_sorted, from_more, kept_more}
-use Rattle.ts_disk.proofs.flushing.places_above.Goals.{in-Some+in_ok-push, in_default}
+use Rattle.ts_disk.proofs.Gathered.{all_grown, any_grown, any_same, any_sorted, kept_more}
+use Rattle.ts_disk.proofs.flushing.places_above.Goals.{in-Some+in_ok-add_place, in_default}
 use Rattle.ts_disk.proofs.flushing.places_above.Goals as goal
 
 pub loop-path-preserved : goal.loop-path-preserved
@@ -20,13 +20,15 @@ loop-path-preserved c =
     let new = c.match-branch-2.places.items in
     let P = λ (held : List (String Global)) (p : Bor Path). (p.now ≡ []) ⊎ Any (λ place. IsAboveAt root p.now (string_bytes place)) held in
     elim c.match-branch-2.branch [
-      | in-Some+in_ok-push w ↦
-          (let grown : new ≡ old ++ w.in-Some.place ∷ [] = ap (λ v. v.items) w.places-is ∙ w.in_ok-push.ensures.items in
-          let above : IsAboveAt root path.now (string_bytes w.in-Some.place) = rw w.in-Some.is at c.in_ok-place.ensures.some in (
-            kept_more (P old) (P new) paths i path c.loop-path-test.true c.path-item.is
-                (λ p. ⊎_elim inl (λ held. inr (any_kept (λ place. IsAboveAt root p.now (string_bytes place)) old new w.in-Some.place grown held))) c.loop-path.invariant.0
-                (inr (any_last (λ place. IsAboveAt root path.now (string_bytes place)) old new w.in-Some.place grown above)),
-            from_more (λ p s. IsAboveAt root p.now (string_bytes s)) paths i path old new w.in-Some.place c.loop-path-test.true c.path-item.is grown above c.loop-path.invariant.1,
+      | in-Some+in_ok-add_place w ↦
+          (let place = w.in-Some.place in
+          let above : IsAboveAt root path.now (string_bytes place) = rw w.in-Some.is at c.in_ok-place.ensures.some in
+          let grown : (new ≡ old) ⊎ (new ≡ old ++ place ∷ []) = rw (← w.places-is) at w.in_ok-add_place.ensures.kept in
+          let there : Any (λ other. string_bytes other ≡ string_bytes place) new = rw (← w.places-is) at w.in_ok-add_place.ensures.there in
+          let keep : (p : Bor Path) → P old p → P new p = λ p. ⊎_elim inl (λ held. inr (any_grown (λ other. IsAboveAt root p.now (string_bytes other)) old new place grown held)) in (
+            kept_more (P old) (P new) paths i path c.loop-path-test.true c.path-item.is keep c.loop-path.invariant.0
+                (inr (any_same (IsAboveAt root path.now) new (string_bytes place) there above)),
+            all_grown (λ p s. IsAboveAt root p.now (string_bytes s)) paths i path old new place c.loop-path-test.true c.path-item.is grown above c.loop-path.invariant.1,
           ))
       | in_default w ↦
           (let same : old ≡ new = sym (ap (λ v. v.items) w.places-is) in
