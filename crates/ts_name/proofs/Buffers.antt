@@ -2,7 +2,7 @@
 use Rattle.std.proofs.Common.{◌≡◌, ◌≢◌, ◌↔◌, ◌-◌, eqb, Bor, MatchOption, IsTrue, rules, suc, ltb, get_or, drop-cons, length-take, ltb-false, ℕ, ◌+◌, ◌<◌, ◌≤◌, ◌==◌, Bool, true, false, cond, List, [], ◌∷◌, ◌++◌, Option, Some, None, length, take, drop, map, sum_by, count_by, position, refl, sym, ap, ap₂, subst, ◌∙◌, append_assoc, append-nil, eq-eqb, eqb-true, arith, length-append}
 use Rattle.std.proofs.lemmas.Bool.{cond-true, cond-false, false_from_ne_true, false≢true}
 use Rattle.std.proofs.lemmas.List.Concat.{flat_map-append}
-use Rattle.std.proofs.lemmas.List.{append_cancel_left, take-append-drop, get_or-take, map-append, take_at}
+use Rattle.std.proofs.lemmas.List.{append_cancel_left, take-append-drop, drop-take, drop-drop, get_or-take, map-append, take_at}
 use Rattle.std.proofs.lemmas.Slice.Eq.{starts_is}
 use Rattle.std.proofs.lemmas.List.Quantifiers.{position-Some}
 use Rattle.std.proofs.lemmas.List.Sums.{sum_by-cons, sum_by-append, fails_before_first}
@@ -385,3 +385,17 @@ Holds-parent b bytes path front name h e f =
     let long : length (ended 0 front) ≡ length b - length name - 1 = omega (arith, ap length is, length-append (ended 0 front) (ended 0 (name ∷ [])), length-ended 0 (name ∷ []), sum_by-cons {X = List ℕ} length name []) in
     let front_bytes : take (length b - length name - 1) b ≡ ended 0 front = ap (take (length b - length name - 1)) is ∙ take_at (ended 0 front) (ended 0 (name ∷ [])) _ long in
     Holds-from bytes front (IsPath-parts front (name ∷ []) (subst (λ z. IsPath z) e (lawful_held h))).0 (f ∙ front_bytes)
+
+-- ---- parts of a buffer
+
+-- a part without its first bytes
+pub part_behind : (items : List ℕ) (start long count start₂ long₂ : ℕ) → start₂ ≡ start + count → long₂ + count ≡ long → take long₂ (drop start₂ items) ≡ drop count (take long (drop start items))
+part_behind items start long count start₂ long₂ e f =
+    let g : long ≡ count + long₂ = omega arith in
+    ap (λ n. take long₂ (drop n items)) e ∙ ap (take long₂) (sym (drop-drop count start items)) ∙ sym (drop-take count long₂ (drop start items)) ∙ ap (λ n. drop count (take n (drop start items))) (sym g)
+
+-- what holds a path is short
+pub short_buffer : (bytes other : List ℕ) → other ≡ bytes → IsBuffer bytes → length other < 65536
+short_buffer bytes other e h =
+    let lawful = h.lawful in
+    omega (arith, ap length e, length_whole bytes h.whole, lawful.depth, lawful.size)

@@ -1,21 +1,21 @@
 -- How a path is kept in memory: one list of bytes, where each name is followed by a zero byte.
---     shared_bytes     the bytes that copies share, and what is cut from their front
+--     shared_bytes     the part of a buffer that a path has, and that its copies share
 --     pieces, ended    the names that a separator ends, and back
 --     HasNo            no separator among the bytes
 --     IsWhole          the bytes end with a separator, or there are none
 --     IsBuffer         the bytes that some lawful path is kept as
 --     HoldsParent      the bytes that a path's parent is kept as
-use Rattle.std.specs.Prelude.{◌≡◌, ◌≢◌, ℕ, ◌==◌, if◌then◌else◌, List, [], ◌∷◌, ◌++◌, drop, flat_map}
+use Rattle.std.specs.Prelude.{◌≡◌, ◌≢◌, ℕ, ◌==◌, if◌then◌else◌, List, [], ◌∷◌, ◌++◌, drop, flat_map, take}
 use Rattle.std.specs.List.{AllByRecursion}
 use Rattle.std.specs.Arc.{arc_value}
 use Rattle.ts_name.specs.declared.bytes.Share.{Share}
-use Rattle.ts_name.specs.declared.bytes.Share.TheVariants.{Nothing, From}
+use Rattle.ts_name.specs.declared.bytes.Share.TheVariants.{Nothing, Part}
 use Rattle.ts_name.specs.Paths.{Name, Path, IsPath}
 
--- the bytes of a buffer from a start on, if there is one
+-- so many bytes of a buffer from a start on, if there is one
 abbrev pub shared_bytes : Share → List ℕ
 shared_bytes Nothing = []
-shared_bytes (From start bytes) = drop start (arc_value bytes).items
+shared_bytes (Part long start buffer) = take long (drop start (arc_value buffer).items)
 
 -- the names with a further byte at the head of the first
 abbrev pub in_front : ℕ → Path → Path

@@ -1,4 +1,4 @@
-use Rattle.std.proofs.Common.{◌≡◌, ◌++◌, ◌∷◌, [], length, arith, ap, ap₂, ◌∙◌}
+use Rattle.std.proofs.Common.{◌≡◌, ◌++◌, ◌∷◌, [], length, length-append, arith, ap, ap₂, ◌∙◌}
 use Rattle.ts_name.proofs.Buffers.{Holds, Holds-same, measured, Holds-child}
 use Rattle.ts_name.proofs.paths.Path.child.Goals as goal
 
@@ -7,6 +7,12 @@ concatenated-requires c =
     let held : Holds c.self.inside.bytes c.args.self.now = record { buffer = c.self.invariant; path_is = c.self.view_is } in
     let m = measured (Holds-same c.as_slice.ensures held) in
     omega (arith, m.long, m.names, m.size, c.as_bytes-name.ensures.lawful.short, ap length c.as_bytes-name.ensures.value)
+
+pub share-requires : goal.share-requires
+share-requires c =
+    let held : Holds c.self.inside.bytes c.args.self.now = record { buffer = c.self.invariant; path_is = c.self.view_is } in
+    let m = measured (Holds-same c.as_slice.ensures held) in
+    omega (arith, m.long, m.names, m.size, c.as_bytes-name.ensures.lawful.short, ap length c.as_bytes-name.ensures.value, c.in_ok-push.ensures.len, ap length c.in_ok-bytes.ensures, length-append c.as_slice.result.now c.as_bytes-name.result.now)
 
 child_held : (c : goal.In_ok-shared) → Holds c.in_ok-shared.shared (c.args.self.now ++ c.args.name.now ∷ [])
 child_held c =

@@ -1,4 +1,4 @@
-use Rattle.std.proofs.Common.{◌≡◌, ◌++◌, arith, ap, ap₂, ◌∙◌}
+use Rattle.std.proofs.Common.{◌≡◌, ◌++◌, length, length-append, arith, ap, ap₂, ◌∙◌}
 use Rattle.ts_name.proofs.Buffers.{Holds, Holds-same, measured, Holds-append, IsPath-append, lawful_held}
 use Rattle.ts_name.proofs.paths.Path.join.Goals as goal
 
@@ -26,6 +26,14 @@ concatenated-requires c =
     let m = measured (Holds-same c.as_slice-front.ensures first) in
     let n = measured (Holds-same c.as_slice.ensures second) in
     omega (arith, m.long, m.names, m.size, n.long, n.names, n.size)
+
+pub share-requires : goal.share-requires
+share-requires c =
+    let first : Holds c.self.inside.bytes c.args.self.now = record { buffer = c.self.invariant; path_is = c.self.view_is } in
+    let second : Holds c.rest.inside.bytes c.args.rest.now = record { buffer = c.rest.invariant; path_is = c.rest.view_is } in
+    let m = measured (Holds-same c.as_slice-front.ensures first) in
+    let n = measured (Holds-same c.as_slice.ensures second) in
+    omega (arith, m.long, m.names, m.size, n.long, n.names, n.size, ap length c.in_ok-bytes.ensures, length-append c.as_slice-front.result.now c.as_slice.result.now)
 
 joined : (c : goal.In_ok-shared) → Holds c.in_ok-shared.shared (c.args.self.now ++ c.args.rest.now)
 joined c =

@@ -3,7 +3,7 @@ use Rattle.std.proofs.lemmas.Bool.{false≢true}
 use Rattle.std.specs.List.{AllByRecursion, list_any}
 use Rattle.ts_name.specs.Paths.{IsName, IsPath}
 use Rattle.ts_name.specs.Buffers.{IsBuffer, pieces}
-use Rattle.ts_name.proofs.Buffers.{whole_replaced}
+use Rattle.ts_name.proofs.Buffers.{short_buffer, whole_replaced}
 use Rattle.ts_name.proofs.Parsing.{Parsed, Parsed-no_names, Parsed-bad, Parsed-past, Parsed-path, Parsed-zero, Buffered-from, zero_for_slash, no_bytes}
 use Rattle.ts_name.proofs.Texts.{no_names_first, no_names_rest, root_text}
 use Rattle.ts_name.proofs.paths.Path.parse_text.Goals as goal
@@ -56,6 +56,19 @@ returns-then-not-is_within_limits c =
     let good = subst (λ z. AllByRecursion IsName (pieces 0 z)) c.deref-2.ensures.value (c.if-not-has_good_names.ensures.0 refl) in
     let h = Parsed-past c.args.text.now (pieces 0 bytes) b.spelled good (λ l. false≢true (c.if-not-is_within_limits.ensures.1 (subst (λ z. length (pieces 0 z) ≤ 64) (sym c.deref-3.ensures.value) l.depth, subst (λ z. sum_by length (pieces 0 z) ≤ 4096) (sym c.deref-3.ensures.value) l.size))) in
     record { ok = h.ok; reads = h.reads; bad_text = h.bad_text; bad_name = h.bad_name; too_long = h.too_long }
+
+pub share-requires : goal.share-requires
+share-requires c =
+    let limits = c.if-not-is_within_limits.ensures.0 refl in
+    let names = c.if-not-has_good_names.ensures.0 refl in
+    short_buffer c.end_names.new.bytes.items _ refl (record {
+      lawful = record {
+        names = subst (λ z. AllByRecursion IsName (pieces 0 z)) c.deref-2.ensures.value names;
+        depth = subst (λ z. length (pieces 0 z) ≤ 64) c.deref-3.ensures.value limits.0;
+        size = subst (λ z. sum_by length (pieces 0 z) ≤ 4096) c.deref-3.ensures.value limits.1;
+      };
+      whole = whole_replaced _ _ (c.end_names.ensures ∙ ap (λ z. map zero_for_slash z) c.in_ok-push.ensures.items);
+    })
 
 pub invariant_of-result : goal.invariant_of-result
 invariant_of-result c =
