@@ -28,6 +28,7 @@ use crate::waiting::{
 use std::alloc::{AllocError, Global};
 use std::thread::{Threads, join};
 use ts_hold::Holds;
+use ts_model::lists::let_go;
 use ts_model::plan::{Plan, PlanRule};
 use ts_model::row::{Row, Stamp};
 use ts_need::first_wrong;
@@ -249,7 +250,9 @@ fn check_pieces(
         Ok(staged) => staged,
         Err(place) => return Err(broken(PlanRule::PiecesComplete, place)),
     };
-    Ok(piece_lists(alloc, plan, first, second, &staged)?)
+    let lists = piece_lists(alloc, plan, first, second, &staged)?;
+    let_go(staged);
+    Ok(lists)
 }
 
 /// The rules about commits, pieces and marks, each by itself.

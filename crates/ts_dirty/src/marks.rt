@@ -6,6 +6,7 @@ ghost use Rattle.ts_model.specs.Sync.{Agree, IsChanged, IsDirty, Snapshot, Touch
 ghost use Rattle.ts_name.specs.Paths.{IsBefore};
 
 use std::marker::Model;
+use ts_model::lists::let_go;
 use ts_model::plan::Side;
 use ts_name::Path;
 
@@ -17,7 +18,7 @@ pub struct Marks {
     held: Vec<Path>,
 }
 
-// Written out, so that a proof about what drops marks calls a function.
+// Written out, so that a proof about what drops marks calls a function, and since the lists are long.
 impl Drop for Marks {
     fn drop(self) {
         let Marks {
@@ -26,10 +27,10 @@ impl Drop for Marks {
             apart,
             held,
         } = self;
-        drop(first);
-        drop(second);
-        drop(apart);
-        drop(held);
+        let_go(first);
+        let_go(second);
+        let_go(apart);
+        let_go(held);
     }
 }
 

@@ -3,6 +3,7 @@
 
 pub mod hold;
 pub mod items;
+pub mod lists;
 pub mod plan;
 pub mod predecessors;
 pub mod row;
