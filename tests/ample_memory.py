@@ -51,6 +51,9 @@ library_calls/tables looks_below: ts_table::Table::sub_table
 library_calls/tables replaces: ts_table::Table::replace ts_table::Table::make_dir ts_table::Table::splice
 library_calls/tables splits_and_joins: ts_table::Table::split
 library_calls/tables takes_rows_in_order: ts_table::Table::push
+library_calls/packing packs_what_grows: ts_table::Table::pack_last ts_print::Print::pack_last
+library_calls/packing packs_what_grows: ts_table::Table::reserve ts_print::Print::reserve
+library_calls/packing packed_paths_are_used_as_others: ts_name::Packing::add
 library_calls/folders lists_and_reads_in_memory: ts_folder::MemFolder::list ts_folder::Folder::read
 library_calls/folders fails_where_told: ts_folder::FaultyFolder::list
 library_calls/folders lists_and_reads_on_a_disk: ts_folder::DiskFolder::list

@@ -9,6 +9,8 @@ mod folders;
 #[cfg(test)]
 mod marks;
 #[cfg(test)]
+mod packing;
+#[cfg(test)]
 mod plans;
 #[cfg(test)]
 mod shared;

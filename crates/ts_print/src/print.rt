@@ -115,6 +115,21 @@ impl Print {
         Ok(())
     }
 
+    /// Makes room for so many rows more, and for no others. The print is the same afterwards, also where memory runs out.
+    pub fn reserve(&mut self, rows: usize) -> Result<(), AllocError>
+        ensures { self.new ≡ self.old }
+    {
+        self.table.reserve(rows)
+    }
+
+    /// Lets the paths of the last rows share one buffer, where enough have come since it was done, as a table's `pack_last` does. The
+    /// print is the same afterwards, also where memory runs out.
+    pub fn pack_last(&mut self, alloc: Global) -> Result<(), AllocError>
+        ensures { self.new ≡ self.old }
+    {
+        self.table.pack_last(alloc)
+    }
+
     /// Puts a directory or a file after all that are there. Where memory runs out nothing changes.
     pub fn add(&mut self, path: Path, seen: Seen) -> Result<(), AllocError>
         requires present { seen ≢ Absent }

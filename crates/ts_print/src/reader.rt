@@ -59,6 +59,7 @@ impl PrintReader {
             return Err(PrintFault::NotCanonical);
         }
         print.push(row)?;
+        print.pack_last(alloc)?;
         Ok(PrintReader { print })
     }
 

@@ -6,15 +6,24 @@ ghost use Rattle.ts_model.specs.declared.row.Content.{Content};
 ghost use Rattle.ts_model.specs.Trees.{Ascend, IsListing, at, sub};
 ghost use Rattle.ts_table.specs.Tables.{rows_below, seen, IsCut, IsPlace, with_row};
 
+use crate::packing::pack_last;
 use std::alloc::{AllocError, Global};
 use std::marker::Model;
+use ts_model::lists::let_go;
 use ts_model::row::{Content, Row};
 use ts_name::Path;
 
 /// What is at each path but the root, which is a directory.
-#[derive(Drop)]
 pub struct Table<F> {
     pub(crate) rows: Vec<Row<F>>,
+}
+
+// The rows may be many megabytes, and others like them come after these.
+impl<F: Drop> Drop for Table<F> {
+    fn drop(self) {
+        let Table { rows: long } = self;
+        let_go(long);
+    }
 }
 
 impl<F> Model for Table<F> {
@@ -137,6 +146,22 @@ impl<F> Table<F> {
     {
         self.rows.push(row)?;
         Ok(())
+    }
+
+    /// Makes room for so many rows more, and for no others. The table is the same afterwards, also where memory runs out.
+    pub fn reserve(&mut self, rows: usize) -> Result<(), AllocError>
+        ensures { self.new ≡ self.old }
+    {
+        self.rows.reserve_exact(rows)?;
+        Ok(())
+    }
+
+    /// Lets the paths of the last rows share one buffer, where enough have come since it was done: called after each `push`, it packs
+    /// the paths as the table grows. The table is the same afterwards, also where memory runs out.
+    pub fn pack_last(&mut self, alloc: Global) -> Result<(), AllocError>
+        ensures { self.new ≡ self.old }
+    {
+        pack_last(alloc, &mut self.rows)
     }
 }
 
