@@ -69,5 +69,8 @@ where
         requires { IsSync R.row × IsSync F.row × IsSend F.File.row × (1 ≤ workers) × (workers ≤ 64) }
         ensures { ScansTold (F.lets second.entry.now) (F.tells second.entry.now) result }
     { scan(rt, alloc, second, workers) };
-    join(rt, one, other)
+    // the first replica is scanned by this thread, since the names of a folder that is synced for the first time, often the first
+    // one, leave their room to what this thread lays out next
+    let (theirs, ours) = join(rt, other, one);
+    (ours, theirs)
 }

@@ -16,19 +16,27 @@ use std::alloc::Global;
 use std::sync::atomic::AtomicBool;
 use std::thread::{Threads, join};
 use ts_folder::{Folder, Kind};
+use ts_model::lists::let_go;
 use ts_model::row::{Content, Row, Stamp};
 use ts_name::{Name, Path, PathFault};
+use ts_table::{PACKED_ROWS, pack_paths};
 
 /// How many bytes of a file are read at once.
 const PIECE: usize = 65_536;
 
+/// For how many rows of another worker there is room at least. A list of 128 KiB comes from the system and goes back there; shorter
+/// ones would stay with the heap of that worker's thread, which no other thread uses.
+const LEAST_ROOM: usize = 2_048;
+
 /// How many times a directory is listed again for a child that isn't there when it is opened.
 const TRIES: u32 = 10;
 
-/// What a worker carries: the rows found so far, in path order, and the buffer through which it reads files.
+/// What a worker carries: the rows found so far, in path order, how many of them have no path with a buffer of its own, and the
+/// buffer through which it reads files.
 #[derive(Drop)]
 pub(crate) struct Work {
     pub(crate) rows: Vec<Row<Stamp>>,
+    packed: usize,
     buffer: Vec<u8>,
     ghost room: { 0 < vec_len buffer },
 }
@@ -42,6 +50,7 @@ impl Work {
         let buffer = vec![in alloc; 0u8; PIECE]?;
         Ok(Work {
             rows: Vec::with_capacity(alloc, room)?,
+            packed: 0,
             buffer,
         })
     }
@@ -56,20 +65,61 @@ impl Work {
     }
 
     /// Puts the row of a directory at the end, and makes room for those of its children.
-    fn push_dir(&mut self, path: Path, children: usize) -> Result<(), ScanFault>
+    fn push_dir(
+        &mut self,
+        alloc: Global,
+        path: Path,
+        children: usize,
+    ) -> Result<(), ScanFault>
         ensures rows { OnOk result (self.new.rows.items ≡ self.old.rows.items ++ record { path = path; content = Dir } ∷ []) }
         ensures fault { IfErr result (λ e. e ≡ ScanFault.OutOfMemory) }
     {
-        self.push(path, Content::Dir)?;
+        self.push(alloc, path, Content::Dir)?;
         self.make_room(children)
     }
 
     /// Puts a row at the end.
-    fn push(&mut self, path: Path, content: Content<Stamp>) -> Result<(), ScanFault>
+    fn push(
+        &mut self,
+        alloc: Global,
+        path: Path,
+        content: Content<Stamp>,
+    ) -> Result<(), ScanFault>
         ensures rows { OnOk result (self.new.rows.items ≡ self.old.rows.items ++ record { path = path; content = content } ∷ []) }
         ensures fault { IfErr result (λ e. e ≡ ScanFault.OutOfMemory) }
     {
         self.rows.push(Row { path, content })?;
+        self.pack(alloc)
+    }
+
+    /// Puts the rows that another worker found behind these.
+    fn append(&mut self, alloc: Global, mut more: Vec<Row<Stamp>>) -> Result<(), ScanFault>
+        ensures rows { OnOk result (self.new.rows.items ≡ self.old.rows.items ++ more.items) }
+        ensures fault { IfErr result (λ e. e ≡ ScanFault.OutOfMemory) }
+    {
+        self.rows.append(&mut more)?;
+        let_go(more);
+        self.pack(alloc)
+    }
+
+    /// The rows alone, for whoever waits for them: the buffer goes at once.
+    fn into_rows(self) -> Vec<Row<Stamp>>
+        ensures { result.items ≡ self.rows.items }
+    {
+        let Work { rows, .. } = self;
+        rows
+    }
+
+    /// Lets the paths of the rows that came last share one buffer, where they are many enough. The rows are the same.
+    fn pack(&mut self, alloc: Global) -> Result<(), ScanFault>
+        ensures rows { self.new.rows.items ≡ self.old.rows.items }
+        ensures fault { IfErr result (λ e. e ≡ ScanFault.OutOfMemory) }
+    {
+        let count = self.rows.len();
+        if count.saturating_sub(self.packed) >= PACKED_ROWS {
+            pack_paths(alloc, &mut self.rows[self.packed..])?;
+            self.packed = count;
+        }
         Ok(())
     }
 }
@@ -93,7 +143,9 @@ where
         Err(fault) => return Err(told(alloc, path, fault)),
     };
     work.make_room(children.len())?;
-    scan_children(rt, folder, idle, alloc, path, &children, work)
+    let done = scan_children(rt, folder, idle, alloc, path, &children, work);
+    let_go(children);
+    done
 }
 
 /// Adds the rows of some children of the directory at a path. Where a worker stands idle, it gets half of what is left.
@@ -147,16 +199,19 @@ where
     let (first, second) = halves(children);
     let one_ended = AtomicBool::new(false);
     let ended = &one_ended;
-    let theirs = || -> Result<Work, ScanFault>
+    let theirs = || -> Result<Vec<Row<Stamp>>, ScanFault>
         requires { IsSync R.row × IsSync F.row × IsSend F.File.row × InOrder second.now × IfSome (F.tells folder.now) IsTreeBody }
-        ensures found { IfOk result (λ done. Found (F.tells folder.entry.now) path.entry.now second.entry.now done.rows.items) }
+        ensures found { IfOk result (λ rows. Found (F.tells folder.entry.now) path.entry.now second.entry.now rows.items) }
         ensures fault { IfSome (F.tells folder.entry.now) (λ tree. AreThere (at tree) path.entry.now second.entry.now)
             → IfErr result (MayFail (F.lets folder.entry.now) (F.tells folder.entry.now)) }
     {
-        let work = Work::new(alloc, second.len())?;
+        let work = Work::new(alloc, second.len().max(LEAST_ROOM))?;
         let found = scan_children(rt, folder, idle, alloc, path, second, work);
         idle.half_ended(ended);
-        found
+        match found {
+            Ok(work) => Ok(work.into_rows()),
+            Err(fault) => Err(fault),
+        }
     };
     let ours = move || -> Result<Work, ScanFault>
         requires { IsSync R.row × IsSync F.row × IsSend F.File.row × InOrder first.now × IfSome (F.tells folder.now) IsTreeBody }
@@ -169,8 +224,8 @@ where
     };
     let (back, front) = join(rt, theirs, ours);
     let mut done = front?;
-    let mut more = back?;
-    done.rows.append(&mut more.rows)?;
+    let more = back?;
+    done.append(alloc, more)?;
     Ok(done)
 }
 
@@ -213,15 +268,17 @@ where
     match directory.open(&child.0, &path, child.1, work.buffer.as_mut_slice(), TRIES)? {
         Opened::Gone => Ok(work),
         Opened::File(stamp) => {
-            work.push(path, Content::File(stamp))?;
+            work.push(alloc, path, Content::File(stamp))?;
             Ok(work)
         }
         Opened::Dir(children) => {
             let Ok(own) = path.copy(alloc) else {
                 return Err(ScanFault::OutOfMemory);
             };
-            work.push_dir(own, children.len())?;
-            scan_children(rt, folder, idle, alloc, &path, &children, work)
+            work.push_dir(alloc, own, children.len())?;
+            let done = scan_children(rt, folder, idle, alloc, &path, &children, work);
+            let_go(children);
+            done
         }
     }
 }

@@ -32,11 +32,11 @@ in_halves-returns-in_err-more-clause-fault g t c there =
 pub in_halves-returns-clause-found : goal.in_halves-returns-clause-found
 in_halves-returns-clause-found g t c =
     let told = g.F.Folder.tells c.args.folder.now in
-    adds_half told c.args.path.now c.halves.result.0.now c.halves.result.1.now c.args.children.now c.args.work.rows.items c.in_ok-done.done.rows.items c.in_ok-more.more.rows.items c.append.new.self.items
+    adds_half told c.args.path.now c.halves.result.0.now c.halves.result.1.now c.args.children.now c.args.work.rows.items c.in_ok-done.done.rows.items c.in_ok-more.more.items c.append.new.self.rows.items
     c.halves.ensures.whole c.requires.order
     (IfOk-at_ok (λ done. Adds c.args.work.rows.items done.rows.items (Found told c.args.path.now c.halves.result.0.now)) c.in_ok-done.was c.join-back.ensures.second.0)
-    (IfOk-at_ok (λ more. Found told c.args.path.now c.halves.result.1.now more.rows.items) c.in_ok-more.was c.join-back.ensures.first.0)
-    c.in_ok-append.ensures.items
+    (IfOk-at_ok (λ more. Found told c.args.path.now c.halves.result.1.now more.items) c.in_ok-more.was c.join-back.ensures.first.0)
+    c.in_ok-append.ensures.rows
 
 -- ---- one child
 
@@ -66,17 +66,17 @@ scan_child-returns-in_ok-push_dir-in-Dir-clause-found g t c =
     let told = g.F.Folder.tells c.args.folder.now in
     let opened = subst (IsOpened told c.in_ok-path.path c.args.child.now.1) c.in-Dir.is c.in_ok-open.ensures.opened in
     let listed = subst (IsListed told c.in_ok-path.path) (sym c.deref.ensures.value) opened in
-    IfOk-weaker c.scan_children.result (λ done. Adds c.push_dir.new.self.rows.items done.rows.items (Found told c.in_ok-path.path c.deref.result.now))
+    IfOk-weaker c.scan_children-done.result (λ done. Adds c.push_dir.new.self.rows.items done.rows.items (Found told c.in_ok-path.path c.deref.result.now))
     (λ done. Adds c.args.work.rows.items done.rows.items (Found told c.args.parent.now (c.args.child.now ∷ [])))
     (λ done h. adds_opened told c.args.parent.now c.in_ok-path.path c.in-Ok.own c.args.child.now c.deref.result.now c.args.work.rows.items c.push_dir.new.self.rows.items done.rows.items
     c.in_ok-path.ensures.path.0 c.in_ok-path.ensures.path.1 c.in-Ok.ensures.value listed c.in_ok-push_dir-in-Dir.ensures.rows h)
-    c.scan_children.ensures.found
+    c.scan_children-done.ensures.found
 
 pub scan_child-returns-in_ok-push_dir-in-Dir-clause-fault : goal.scan_child-returns-in_ok-push_dir-in-Dir-clause-fault
 scan_child-returns-in_ok-push_dir-in-Dir-clause-fault g t c there =
     let told = g.F.Folder.tells c.args.folder.now in
     let opened = subst (IsOpened told c.in_ok-path.path c.args.child.now.1) c.in-Dir.is c.in_ok-open.ensures.opened in
-    c.scan_children.ensures.fault (listed_there told c.in_ok-path.path c.deref.result.now (subst (IsListed told c.in_ok-path.path) (sym c.deref.ensures.value) opened))
+    c.scan_children-done.ensures.fault (listed_there told c.in_ok-path.path c.deref.result.now (subst (IsListed told c.in_ok-path.path) (sym c.deref.ensures.value) opened))
 
 -- ---- the children of a directory
 
