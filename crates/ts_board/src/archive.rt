@@ -143,7 +143,7 @@ fn with_marks(
     requires count { length flags.now ≡ length entries.now }
     ensures { IfOk result (λ print. at print ≡ left_by (marks (at first.now) (at second.now)) (at archive.now) (picked entries.now flags.now)) }
 {
-    let mut print = archive.copy(alloc)?;
+    let mut print = copy_with_room(alloc, archive, first, second)?;
     let block = (entries.len() / BLOCKS).max(LEAST_IN_BLOCK);
     let (mut rest, mut rest_flags) = (entries, flags);
     while !rest.is_empty() {
@@ -154,6 +154,21 @@ fn with_marks(
         rest = later;
         rest_flags = later_flags;
     }
+    Ok(print)
+}
+
+/// The archive once more, with room for as many rows as either replica has: after most runs it has no more.
+fn copy_with_room(
+    alloc: Global,
+    archive: &Print,
+    first: &Print,
+    second: &Print,
+) -> Result<Print, AllocError>
+    ensures { IfOk result (λ print. print ≡ archive.now) }
+{
+    let mut print = archive.copy(alloc)?;
+    let most = first.rows().len().max(second.rows().len());
+    print.reserve(most.saturating_sub(archive.rows().len()))?;
     Ok(print)
 }
 
