@@ -22,7 +22,8 @@ EACH = 300
 
 def write(path, size, seed):
     """Writes a file of this size. No two seeds give the same bytes."""
-    block = (f"{seed} ".encode() * (MIB // 2))[:MIB]
+    length = min(size, MIB)
+    block = (f"{seed} ".encode() * (length // 2 + 1))[:length]
     os.makedirs(os.path.dirname(path), exist_ok=True)
     with open(path, "wb") as file:
         while size > 0:
@@ -47,6 +48,21 @@ def many_files(root):
     return 20_101
 
 
+def files_at_the_top(root):
+    for number in range(100_000):
+        write(f"{root}/{number:06}", 128, number)
+    return 100_000
+
+
+# The sets by their names.
+SETS = {
+    "one file": one_file,
+    "one new directory": one_directory,
+    "20,000 files in new directories": many_files,
+    "100,000 files at the top": files_at_the_top,
+}
+
+
 def held(words):
     """Runs the program. Returns its status, and the most bytes that it held."""
     child = subprocess.Popen([PROGRAM, *words], stdin=subprocess.DEVNULL, stdout=subprocess.DEVNULL, stderr=subprocess.DEVNULL)
@@ -65,7 +81,7 @@ def alike(first, second):
 
 
 def main():
-    for name, make in (("one file", one_file), ("one new directory", one_directory), ("20,000 files in new directories", many_files)):
+    for name, make in SETS.items():
         shutil.rmtree("first", ignore_errors=True)
         os.mkdir("first")
         paths = make("first")
