@@ -304,7 +304,9 @@ fn words(alloc: Global, numbers: &[u32]) -> Result<Vec<AtomicU32>, AllocError>
 }
 
 /// The pieces of files that have several, and what `waiting` begins with beside each.
-fn counts(alloc: Global, checked: &Checked<'_>) -> Result<(Vec<u32>, Vec<AtomicU32>), AllocError> {
+fn counts(alloc: Global, checked: &Checked<'_>) -> Result<(Vec<u32>, Vec<AtomicU32>), AllocError>
+    ensures { IfOk result (λ found. length found.0.items ≡ length found.1.items) }
+{
     let plan = checked.plan();
     let mut counts = Vec::new(alloc);
     for commit in 0..checked.action_count() {
