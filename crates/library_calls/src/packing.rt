@@ -107,9 +107,9 @@ fn packs_again_what_was_packed(rt: HostRuntime) {
     assert!(rt; is_at(alloc, &copy, "/d1002"));
 }
 
-/// Paths of several names, packed, and what is made of the middle one: what is left below its first name, that joined with it again,
-/// its parent and a child.
-fn made_of_packed(alloc: Global) -> Option<(Path, [Path; 4])> {
+/// Of paths of several names that were packed the middle one, and what is made of it: what is left below its first name, that
+/// joined with it again, its parent and a child.
+fn made_of_packed(alloc: Global) -> Option<Vec<Path>> {
     let mut paths = vec![in alloc; path(alloc, "/a/b")?, path(alloc, "/a/bc/d")?, path(alloc, "/a/be")?].ok()?;
     let mut packing = Packing::new(alloc);
     for it in paths.iter() {
@@ -125,17 +125,19 @@ fn made_of_packed(alloc: Global) -> Option<(Path, [Path; 4])> {
     let joined = top.join(alloc, &rest).ok()?;
     let parent = middle.parent(alloc).ok()??;
     let child = middle.child(alloc, &Name::parse(alloc, b"e").ok()?).ok()?;
-    Some((middle.copy(alloc).ok()?, [rest, joined, parent, child]))
+    let middle = middle.copy(alloc).ok()?;
+    vec![in alloc; middle, rest, joined, parent, child].ok()
 }
 
 #[test]
 fn packed_paths_are_used_as_others(rt: HostRuntime) {
     let alloc = rt.alloc();
-    let Some((middle, made)) = made_of_packed(alloc) else {
+    let Some(made) = made_of_packed(alloc) else {
         panic!(rt; "no paths");
     };
-    assert!(rt; is_at(alloc, &middle, "/a/bc/d"));
-    for (found, text) in made.iter().zip(["/bc/d", "/a/bc/d", "/a/bc", "/a/bc/d/e"]) {
+    let texts = ["/a/bc/d", "/bc/d", "/a/bc/d", "/a/bc", "/a/bc/d/e"];
+    assert!(rt; made.len() == texts.len());
+    for (found, text) in made.iter().zip(texts) {
         assert!(rt; is_at(alloc, found, text), "{text}");
     }
 }
