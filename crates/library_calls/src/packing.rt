@@ -110,7 +110,12 @@ fn packs_again_what_was_packed(rt: HostRuntime) {
 /// Of paths of several names that were packed the middle one, and what is made of it: what is left below its first name, that
 /// joined with it again, its parent and a child.
 fn made_of_packed(alloc: Global) -> Option<Vec<Path>> {
-    let mut paths = vec![in alloc; path(alloc, "/a/b")?, path(alloc, "/a/bc/d")?, path(alloc, "/a/be")?].ok()?;
+    let mut paths = vec![in alloc;
+        path(alloc, "/a/b")?,
+        path(alloc, "/a/bc/d")?,
+        path(alloc, "/a/be")?,
+    ]
+    .ok()?;
     let mut packing = Packing::new(alloc);
     for it in paths.iter() {
         packing.add(it).ok()?;

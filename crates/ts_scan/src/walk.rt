@@ -65,12 +65,7 @@ impl Work {
     }
 
     /// Puts the row of a directory at the end, and makes room for those of its children.
-    fn push_dir(
-        &mut self,
-        alloc: Global,
-        path: Path,
-        children: usize,
-    ) -> Result<(), ScanFault>
+    fn push_dir(&mut self, alloc: Global, path: Path, children: usize) -> Result<(), ScanFault>
         ensures rows { OnOk result (self.new.rows.items ≡ self.old.rows.items ++ record { path = path; content = Dir } ∷ []) }
         ensures fault { IfErr result (λ e. e ≡ ScanFault.OutOfMemory) }
     {
@@ -79,12 +74,7 @@ impl Work {
     }
 
     /// Puts a row at the end.
-    fn push(
-        &mut self,
-        alloc: Global,
-        path: Path,
-        content: Content<Stamp>,
-    ) -> Result<(), ScanFault>
+    fn push(&mut self, alloc: Global, path: Path, content: Content<Stamp>) -> Result<(), ScanFault>
         ensures rows { OnOk result (self.new.rows.items ≡ self.old.rows.items ++ record { path = path; content = content } ∷ []) }
         ensures fault { IfErr result (λ e. e ≡ ScanFault.OutOfMemory) }
     {
