@@ -35,10 +35,11 @@ where
     let idle = Idle::new(u64::from(workers) - 1);
     let root = Path::root(alloc);
     let work = Work::new(alloc, 0)?;
-    let mut done = scan_directory(rt, folder, &idle, alloc, &root, work)?;
+    let done = scan_directory(rt, folder, &idle, alloc, &root, work)?;
+    let mut rows = done.into_rows();
     // they stay as long as the print does, and their room has grown by doubling
-    done.rows.shrink_to_fit();
-    Ok(Print::from_table(Table::from_rows(done.rows)))
+    rows.shrink_to_fit();
+    Ok(Print::from_table(Table::from_rows(rows)))
 }
 
 /// The same of two folders at once, each by as many workers; by one worker one after the other.

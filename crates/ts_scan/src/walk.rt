@@ -21,11 +21,11 @@ use ts_model::row::{Content, Row, Stamp};
 use ts_name::{Name, Path, PathFault};
 use ts_table::{PACKED_ROWS, pack_paths};
 
-/// How many bytes of a file are read at once.
-const PIECE: usize = 65_536;
+/// How many bytes of a file are read at once. A buffer of 128 KiB comes from the system and goes back there.
+const PIECE: usize = 131_072;
 
-/// For how many rows of another worker there is room at least. A list of 128 KiB comes from the system and goes back there; shorter
-/// ones would stay with the heap of that worker's thread, which no other thread uses.
+/// For how many rows of another worker there is room at least: for 128 KiB, too. What is shorter would stay with the heap of that
+/// worker's thread, which no other thread uses.
 const LEAST_ROOM: usize = 2_048;
 
 /// How many times a directory is listed again for a child that isn't there when it is opened.
@@ -93,10 +93,11 @@ impl Work {
     }
 
     /// The rows alone, for whoever waits for them: the buffer goes at once.
-    fn into_rows(self) -> Vec<Row<Stamp>>
+    pub(crate) fn into_rows(self) -> Vec<Row<Stamp>>
         ensures { result.items ≡ self.rows.items }
     {
-        let Work { rows, .. } = self;
+        let Work { rows, buffer, .. } = self;
+        let_go(buffer);
         rows
     }
 
