@@ -28,6 +28,10 @@ const PIECE: usize = 131_072;
 /// worker's thread, which no other thread uses.
 const LEAST_ROOM: usize = 2_048;
 
+/// Where more children than these are left, a worker that stands idle gets an eighth of them, and not half: what it finds is held
+/// beside the room that is made for all rows, until it can be put behind those before it.
+const MANY_CHILDREN: usize = 65_536;
+
 /// How many times a directory is listed again for a child that isn't there when it is opened.
 const TRIES: u32 = 10;
 
@@ -139,7 +143,8 @@ where
     done
 }
 
-/// Adds the rows of some children of the directory at a path. Where a worker stands idle, it gets half of what is left.
+/// Adds the rows of some children of the directory at a path. Where a worker stands idle, it gets half of what is left, or an
+/// eighth of many.
 #[cycle(walk)]
 fn scan_children<R: Threads + Sync, F: Folder + Sync>(
     rt: &R,
@@ -160,7 +165,7 @@ where
     let mut rest = children;
     while let Some((child, others)) = rest.split_first() {
         if !others.is_empty() && idle.take() {
-            return in_halves(rt, folder, idle, alloc, path, rest, work);
+            return in_parts(rt, folder, idle, alloc, path, rest, work);
         }
         work = scan_child(rt, folder, idle, alloc, path, child, work)?;
         rest = others;
@@ -168,9 +173,9 @@ where
     Ok(work)
 }
 
-/// Adds the rows of some children of the directory at a path, the second half by another thread where one can be started.
+/// Adds the rows of some children of the directory at a path, the second part by another thread where one can be started.
 #[cycle(walk)]
-fn in_halves<R: Threads + Sync, F: Folder + Sync>(
+fn in_parts<R: Threads + Sync, F: Folder + Sync>(
     rt: &R,
     folder: &F,
     idle: &Idle,
@@ -187,7 +192,7 @@ where
     ensures found { IfOk result (λ done. Adds work.rows.items done.rows.items (Found (F.tells folder.now) path.now children.now)) }
     ensures fault { FailsAsTold (F.lets folder.now) (F.tells folder.now) (λ tree. AreThere tree path.now children.now) result }
 {
-    let (first, second) = halves(children);
+    let (first, second) = parts(children);
     let one_ended = AtomicBool::new(false);
     let ended = &one_ended;
     let theirs = || -> Result<Vec<Row<Stamp>>, ScanFault>
@@ -221,7 +226,7 @@ where
 }
 
 /// Two parts of some children, in their order.
-fn halves(children: &[(Name, Kind)]) -> (&[(Name, Kind)], &[(Name, Kind)])
+fn parts(children: &[(Name, Kind)]) -> (&[(Name, Kind)], &[(Name, Kind)])
     requires order { InOrder children.now }
     requires several { 1 < length children.now }
     ensures whole { children.now ≡ result.0.now ++ result.1.now }
@@ -230,7 +235,13 @@ fn halves(children: &[(Name, Kind)]) -> (&[(Name, Kind)], &[(Name, Kind)])
     ensures less { length result.0.now < length children.now }
     ensures more { length result.1.now < length children.now }
 {
-    children.split_at(children.len() / 2)
+    let count = children.len();
+    let back = if count > MANY_CHILDREN {
+        count / 8
+    } else {
+        count / 2
+    };
+    children.split_at(count - back)
 }
 
 /// Adds the rows of one child of the directory at a path.

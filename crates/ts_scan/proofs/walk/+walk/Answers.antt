@@ -13,29 +13,29 @@ use Rattle.ts_scan.proofs.Parts.{order_left, order_right}
 use Rattle.ts_scan.proofs.Walks.{child_path, there_left, there_right, there_first, adds_none, adds_rest, adds_half, adds_file, exit_tells}
 use Rattle.ts_scan.proofs.walk.+walk.Goals as goal
 
--- ---- two halves
+-- ---- two parts
 
-pub in_halves-returns-in_err-done-clause-fault : goal.in_halves-returns-in_err-done-clause-fault
-in_halves-returns-in_err-done-clause-fault g t c there =
+pub in_parts-returns-in_err-done-clause-fault : goal.in_parts-returns-in_err-done-clause-fault
+in_parts-returns-in_err-done-clause-fault g t c there =
     let told = g.F.Folder.tells c.args.folder.now in
     exit_tells c.from_residual.result c.in_err-done.field-0.0 (MayFail (g.F.Folder.lets c.args.folder.now) told) c.from_residual.ensures.1
     (IfErr-at_err (MayFail (g.F.Folder.lets c.args.folder.now) told) c.in_err-done.was
-    (c.join-back.ensures.second.1 (there_left told c.args.path.now c.halves.result.0.now c.halves.result.1.now c.args.children.now c.halves.ensures.whole there)))
+    (c.join-back.ensures.second.1 (there_left told c.args.path.now c.parts.result.0.now c.parts.result.1.now c.args.children.now c.parts.ensures.whole there)))
 
-pub in_halves-returns-in_err-more-clause-fault : goal.in_halves-returns-in_err-more-clause-fault
-in_halves-returns-in_err-more-clause-fault g t c there =
+pub in_parts-returns-in_err-more-clause-fault : goal.in_parts-returns-in_err-more-clause-fault
+in_parts-returns-in_err-more-clause-fault g t c there =
     let told = g.F.Folder.tells c.args.folder.now in
     exit_tells c.from_residual-in_err-more.result c.in_err-more.field-0.0 (MayFail (g.F.Folder.lets c.args.folder.now) told) c.from_residual-in_err-more.ensures.1
     (IfErr-at_err (MayFail (g.F.Folder.lets c.args.folder.now) told) c.in_err-more.was
-    (c.join-back.ensures.first.1 (there_right told c.args.path.now c.halves.result.0.now c.halves.result.1.now c.args.children.now c.halves.ensures.whole there)))
+    (c.join-back.ensures.first.1 (there_right told c.args.path.now c.parts.result.0.now c.parts.result.1.now c.args.children.now c.parts.ensures.whole there)))
 
-pub in_halves-returns-clause-found : goal.in_halves-returns-clause-found
-in_halves-returns-clause-found g t c =
+pub in_parts-returns-clause-found : goal.in_parts-returns-clause-found
+in_parts-returns-clause-found g t c =
     let told = g.F.Folder.tells c.args.folder.now in
-    adds_half told c.args.path.now c.halves.result.0.now c.halves.result.1.now c.args.children.now c.args.work.rows.items c.in_ok-done.done.rows.items c.in_ok-more.more.items c.append.new.self.rows.items
-    c.halves.ensures.whole c.requires.order
-    (IfOk-at_ok (λ done. Adds c.args.work.rows.items done.rows.items (Found told c.args.path.now c.halves.result.0.now)) c.in_ok-done.was c.join-back.ensures.second.0)
-    (IfOk-at_ok (λ more. Found told c.args.path.now c.halves.result.1.now more.items) c.in_ok-more.was c.join-back.ensures.first.0)
+    adds_half told c.args.path.now c.parts.result.0.now c.parts.result.1.now c.args.children.now c.args.work.rows.items c.in_ok-done.done.rows.items c.in_ok-more.more.items c.append.new.self.rows.items
+    c.parts.ensures.whole c.requires.order
+    (IfOk-at_ok (λ done. Adds c.args.work.rows.items done.rows.items (Found told c.args.path.now c.parts.result.0.now)) c.in_ok-done.was c.join-back.ensures.second.0)
+    (IfOk-at_ok (λ more. Found told c.args.path.now c.parts.result.1.now more.items) c.in_ok-more.was c.join-back.ensures.first.0)
     c.in_ok-append.ensures.rows
 
 -- ---- one child
@@ -83,22 +83,22 @@ scan_child-returns-in_ok-push_dir-in-Dir-clause-fault g t c there =
 pub scan_children-loop-child-init : goal.scan_children-loop-child-init
 scan_children-loop-child-init g t c = ([], refl, adds_none (g.F.Folder.tells c.args.folder.now) c.args.path.now c.args.work.rows.items)
 
-pub scan_children-in_halves-requires-clause-order : goal.scan_children-in_halves-requires-clause-order
-scan_children-in_halves-requires-clause-order g t c κs within =
+pub scan_children-in_parts-requires-clause-order : goal.scan_children-in_parts-requires-clause-order
+scan_children-in_parts-requires-clause-order g t c κs within =
     order_right c.loop-child.invariant.0 c.loop-child.rest.now (subst InOrder c.loop-child.invariant.1 c.requires.order)
 
 pub scan_children-returns-then-take-clause-found : goal.scan_children-returns-then-take-clause-found
 scan_children-returns-then-take-clause-found g t c =
     let told = g.F.Folder.tells c.args.folder.now in
     let inv = c.loop-child.invariant in
-    IfOk-weaker c.in_halves.result (λ done. Adds c.loop-child.work.rows.items done.rows.items (Found told c.args.path.now c.loop-child.rest.now)) (λ done. Adds c.args.work.rows.items done.rows.items (Found told c.args.path.now c.args.children.now))
+    IfOk-weaker c.in_parts.result (λ done. Adds c.loop-child.work.rows.items done.rows.items (Found told c.args.path.now c.loop-child.rest.now)) (λ done. Adds c.args.work.rows.items done.rows.items (Found told c.args.path.now c.args.children.now))
     (λ done h. adds_rest told c.args.path.now inv.0 c.loop-child.rest.now c.args.children.now c.args.work.rows.items c.loop-child.work.rows.items done.rows.items inv.1 c.requires.order inv.2 h)
-    c.in_halves.ensures.found
+    c.in_parts.ensures.found
 
 pub scan_children-returns-then-take-clause-fault : goal.scan_children-returns-then-take-clause-fault
 scan_children-returns-then-take-clause-fault g t c there =
     let inv = c.loop-child.invariant in
-    c.in_halves.ensures.fault (there_right (g.F.Folder.tells c.args.folder.now) c.args.path.now inv.0 c.loop-child.rest.now c.args.children.now inv.1 there)
+    c.in_parts.ensures.fault (there_right (g.F.Folder.tells c.args.folder.now) c.args.path.now inv.0 c.loop-child.rest.now c.args.children.now inv.1 there)
 
 pub scan_children-returns-in_err-work-clause-fault : goal.scan_children-returns-in_err-work-clause-fault
 scan_children-returns-in_err-work-clause-fault g t c there =

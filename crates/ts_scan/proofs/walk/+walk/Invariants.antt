@@ -3,14 +3,14 @@ use Rattle.ts_scan.specs.Scans.{Children, Adds, Found}
 use Rattle.ts_scan.proofs.Levels.{level}
 use Rattle.ts_scan.proofs.walk.+walk.Given as goal
 
-abbrev pub decreases-in_halves-ours : goal.decreases-in_halves-ours
-decreases-in_halves-ours g l = level l.path.now (4 * length l.first.now + 4)
+abbrev pub decreases-in_parts-ours : goal.decreases-in_parts-ours
+decreases-in_parts-ours g l = level l.path.now (4 * length l.first.now + 4)
 
-abbrev pub decreases-in_halves-theirs : goal.decreases-in_halves-theirs
-decreases-in_halves-theirs g l = level l.path.now (4 * length l.second.now + 4)
+abbrev pub decreases-in_parts-theirs : goal.decreases-in_parts-theirs
+decreases-in_parts-theirs g l = level l.path.now (4 * length l.second.now + 4)
 
-abbrev pub decreases-in_halves : goal.decreases-in_halves
-decreases-in_halves g l = level l.path.now (4 * length l.children.now + 2)
+abbrev pub decreases-in_parts : goal.decreases-in_parts
+decreases-in_parts g l = level l.path.now (4 * length l.children.now + 2)
 
 abbrev pub decreases-scan_child : goal.decreases-scan_child
 decreases-scan_child g l = level l.parent.now 2
