@@ -38,6 +38,7 @@ fn staged(alloc: Global, wanted: &[u8], piece: Piece) -> Option<Staged> {
     if staged.has_so_far(alloc, &path, 0) != Ok(true) {
         return None;
     }
+    let piece = Box::new(alloc, piece).ok()?;
     if staged.put(alloc, &path, 0, piece).is_err() {
         return None;
     }

@@ -115,6 +115,9 @@ fn puts(alloc: Global, staged: &mut Staged, plan: &Plan, number: u32, piece: Pie
     let Kind::Piece { offset, path, .. } = &action.kind else {
         return false;
     };
+    let Ok(piece) = Box::new(alloc, piece) else {
+        return false;
+    };
     match staged.has_so_far(alloc, path, *offset) {
         Ok(true) => staged.put(alloc, path, *offset, piece).is_ok(),
         Ok(false) | Err(_) => false,

@@ -96,7 +96,7 @@ fn begun(alloc: Global, print: &Print, text: &str) -> Option<Staged> {
 fn put(alloc: Global, staged: &mut Staged, file: &Path, parts: &[Part<'_>]) -> Option<()> {
     let mut offset = 0u64;
     for part in parts {
-        let piece = part.piece(alloc)?;
+        let piece = Box::new(alloc, part.piece(alloc)?).ok()?;
         if staged.has_so_far(alloc, file, offset) != Ok(true) {
             return None;
         }
@@ -378,6 +378,7 @@ fn stores_in_memory(alloc: Global) -> Option<bool> {
     if staged.has_so_far(alloc, &file, 0) != Ok(true) {
         return None;
     }
+    let piece = Box::new(alloc, piece).ok()?;
     staged.put(alloc, &file, 0, piece).ok()?;
     let has_bytes = file_of(&staged)?.bytes() == Some(b"abc".as_slice());
     Some(has_bytes && staged.is_held() && staged.is_complete())

@@ -84,8 +84,8 @@ impl<S: Site> Board<S> {
         slot
     }
 
-    /// What a piece of the held commit has staged. It is taken once.
-    pub fn take(&self, pass: &mut Pass<S>, held: &mut Held<S>, k: u32) -> Piece
+    /// The box with what a piece of the held commit has staged. It is taken once.
+    pub fn take(&self, pass: &mut Pass<S>, held: &mut Held<S>, k: u32) -> Box<Piece>
         requires pass { IsPassOf S.content self.now pass.old }
         requires action { k < length (plan_of self.now).actions }
         requires held { IsPending (mine pass.old) held.old.action }
@@ -93,11 +93,11 @@ impl<S: Site> Board<S> {
         requires untaken { HasNot (mine pass.old) (takes k) }
         ensures pass { IsPassOf S.content self.now pass.new × IsSamePart pass.old pass.new }
         ensures taken { Makes (terms_of S.content self.now) pass.old (Take held.old.action k ∷ []) pass.new }
-        ensures bytes { Contains (seen pass.new) (Act k (work.Staged result.bytes)) }
+        ensures bytes { Contains (seen pass.new) (Act k (work.Staged result.value.bytes)) }
         ensures held { held.new ≡ held.old }
     {
         match self.take_out::<Brand>(pass, held.action, k) {
-            Slot::Bytes(piece) => Box::into_inner(piece),
+            Slot::Bytes(piece) => piece,
             _ => unreachable!(),
         }
     }

@@ -163,10 +163,10 @@ where
     }
 
     /// Puts what a piece staged at the end of its file, which has all bytes before it so far.
-    fn add(&self, staged: &mut Staged, k: u32, piece: Piece) -> Result<(), ActFault>
+    fn add(&self, staged: &mut Staged, k: u32, piece: Box<Piece>) -> Result<(), ActFault>
         requires { k < length self.now.checked.now.plan.actions }
         ensures wanted { staged.new.wanted ≡ staged.old.wanted }
-        ensures put { OnOk result (IsPut self.now.checked.now.plan k piece staged.old staged.new) }
+        ensures put { OnOk result (IsPut self.now.checked.now.plan k piece.value staged.old staged.new) }
         ensures fault { IfErr result (λ e. e ≡ ActFault.OutOfMemory) }
     {
         let Kind::Piece { path, offset, .. } = self.kind(k) else {
@@ -188,10 +188,10 @@ fn append(
     staged: &mut Staged,
     path: &Path,
     offset: u64,
-    piece: Piece,
+    piece: Box<Piece>,
 ) -> Result<(), ActFault>
     ensures wanted { staged.new.wanted ≡ staged.old.wanted }
-    ensures put { OnOk result (HasSoFar staged.old path.now offset → IsAppended path.now piece staged.old staged.new) }
+    ensures put { OnOk result (HasSoFar staged.old path.now offset → IsAppended path.now piece.value staged.old staged.new) }
     ensures left_out { OnOk result ((¬ HasSoFar staged.old path.now offset) → staged.new ≡ staged.old) }
     ensures fault { IfErr result (λ e. e ≡ ActFault.OutOfMemory) }
 {

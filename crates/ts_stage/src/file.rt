@@ -13,12 +13,14 @@ use std::marker::Model;
 use std::mem;
 use ts_model::items::Items;
 use ts_model::row::Stamp;
-use ts_print::stamps::are_bytes;
+use ts_print::stamps::{are_bytes, stamp_of};
 
-/// What was staged of one file so far: its bytes, in memory or stored elsewhere.
+/// What was staged of one file so far: its bytes, in memory or stored elsewhere. An assembly has as many as it has files, so it is
+/// small: it keeps its first piece where that is, and adds the others to it.
 #[derive(Drop)]
 pub struct StagedFile {
-    kept: Kept,
+    /// None before the first piece.
+    piece: Option<Box<Piece>>,
 }
 
 impl Model for StagedFile {
@@ -26,26 +28,27 @@ impl Model for StagedFile {
 
     ghost Value = { Staging };
 
-    ghost use Rattle.ts_stage.specs.Keeping.{staging};
+    ghost use Rattle.ts_stage.specs.Keeping.{so_far};
 
-    ghost view = { λ s. staging s.kept };
+    ghost view = { λ s. so_far s.piece };
 }
 
 impl StagedFile {
     /// A file without bytes. It takes no memory.
-    pub(crate) fn empty(alloc: Global) -> StagedFile
+    pub(crate) fn empty() -> StagedFile
         ensures { result ≡ record { bytes = []; held = true } }
     {
-        StagedFile {
-            kept: Kept::Held(Items::new(Vec::new(alloc))),
-        }
+        StagedFile { piece: None }
     }
 
     /// How many bytes it has. It takes no memory.
     pub fn size(&self) -> u64
         ensures { result ≡ length self.now.bytes }
     {
-        self.kept.size()
+        match &self.piece {
+            Some(piece) => piece.kept.size(),
+            None => 0,
+        }
     }
 
     /// Its bytes, where they are in memory.
@@ -53,16 +56,22 @@ impl StagedFile {
         ensures some { IfSome result (λ bytes. (bytes.now ≡ self.now.bytes) × (self.now.held ≡ true)) }
         ensures none { IfNone result (self.now.held ≡ false) }
     {
-        self.kept.bytes()
+        match &self.piece {
+            Some(piece) => piece.kept.bytes(),
+            None => Some(&[]),
+        }
     }
 
     /// Its bytes, where they are in memory. It takes no memory.
-    pub fn into_bytes(self) -> Option<Items<u8>>
+    pub(crate) fn into_bytes(self, alloc: Global) -> Option<Items<u8>>
         ensures some { IfSome result (λ bytes. (bytes ≡ self.bytes) × FileFits (File bytes)) }
         ensures none { IfNone result (self.held ≡ false) }
     {
-        let StagedFile { kept } = self;
-        let bytes = kept.into_bytes()?;
+        let StagedFile { piece } = self;
+        let bytes = match piece {
+            Some(piece) => Box::into_inner(piece).kept.into_bytes()?,
+            None => Items::new(Vec::new(alloc)),
+        };
         are_bytes(bytes.as_slice());
         Some(bytes)
     }
@@ -74,29 +83,63 @@ impl StagedFile {
         ensures held { self.old.held ≡ true → self.new ≡ self.old }
         ensures none { IfNone result (self.old.held ≡ false) }
     {
-        let kept = mem::replace(&mut self.kept, Kept::Stored(Told::nothing()));
-        let (kept, stamp) = kept.settled();
-        self.kept = kept;
-        stamp
+        match &mut self.piece {
+            Some(piece) => settle(piece),
+            None => Some(stamp_of(b"")),
+        }
     }
 
     /// Puts a piece at the end of a file that is to have `size` bytes in the end, for which room is made from the second piece
     /// on. At a refusal nothing changes, and the piece comes back.
-    pub(crate) fn add(&mut self, alloc: Global, size: u64, piece: Piece) -> Result<(), Piece>
-        ensures ok { OnOk result (self.new ≡ joined self.old piece) }
+    pub(crate) fn add(
+        &mut self,
+        alloc: Global,
+        size: u64,
+        piece: Box<Piece>,
+    ) -> Result<(), Box<Piece>>
+        ensures ok { OnOk result (self.new ≡ joined self.old piece.value) }
         ensures err { OnErr result (self.new ≡ self.old) }
-        ensures back { IfErr result (λ back. back ≡ piece) }
+        ensures back { IfErr result (λ back. back.value ≡ piece.value) }
     {
-        let had = mem::replace(&mut self.kept, Kept::Stored(Told::nothing()));
-        match had.join(alloc, size, piece.kept) {
-            Ok(all) => {
-                self.kept = all;
+        match &mut self.piece {
+            Some(had) => join(alloc, size, had, piece),
+            None => {
+                self.piece = Some(piece);
                 Ok(())
             }
-            Err((had, kept)) => {
-                self.kept = had;
-                Err(Piece { kept })
-            }
+        }
+    }
+}
+
+/// What was read back of a stored file in place of what its pieces told, and the stamp that it has then.
+fn settle(piece: &mut Piece) -> Option<Stamp>
+    ensures stamp { IfSome result (λ stamp. stamp ≡ trees.stamp_of piece.new.bytes) }
+    ensures held { piece.old.held ≡ true → piece.new ≡ piece.old }
+    ensures none { IfNone result (piece.old.held ≡ false) }
+{
+    let kept = mem::replace(&mut piece.kept, Kept::Stored(Told::nothing()));
+    let (kept, stamp) = kept.settled();
+    piece.kept = kept;
+    stamp
+}
+
+/// Puts a piece at the end of all that was staged so far. At a refusal nothing changes, and the piece comes back.
+fn join(alloc: Global, size: u64, had: &mut Piece, mut piece: Box<Piece>) -> Result<(), Box<Piece>>
+    ensures ok { OnOk result (had.new ≡ joined had.old piece.value) }
+    ensures err { OnErr result (had.new ≡ had.old) }
+    ensures back { IfErr result (λ back. back.value ≡ piece.value) }
+{
+    let before = mem::replace(&mut had.kept, Kept::Stored(Told::nothing()));
+    let Piece { kept: more } = Box::replace(&mut piece, Piece::nothing());
+    match before.join(alloc, size, more) {
+        Ok(all) => {
+            had.kept = all;
+            Ok(())
+        }
+        Err((before, more)) => {
+            had.kept = before;
+            let _nothing = Box::replace(&mut piece, Piece { kept: more });
+            Err(piece)
         }
     }
 }

@@ -11,7 +11,8 @@ use ts_model::items::Items;
 use ts_model::row::Stamp;
 use ts_print::stamps::stamp_of;
 
-/// What is kept of bytes that were staged, of a piece or of a file. A plan has as many as it has pieces, so it is small.
+/// What is kept of bytes that were staged, of a piece or of a file. A plan has as many as it has pieces, so it has no further
+/// memory of its own where the bytes are stored elsewhere.
 #[derive(Drop)]
 pub(crate) enum Kept {
     /// The bytes, in memory.

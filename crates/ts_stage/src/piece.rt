@@ -36,6 +36,13 @@ impl Piece {
         }
     }
 
+    /// What stands in the place of a piece that was taken out. It takes no memory.
+    pub(crate) fn nothing() -> Piece {
+        Piece {
+            kept: Kept::Stored(Told::nothing()),
+        }
+    }
+
     /// These bytes, which are stored elsewhere; and where they were the last of their file that were stored, what was read back
     /// of it.
     pub fn stored(bytes: &Items<u8>, whole: Option<ReadBack>) -> Piece

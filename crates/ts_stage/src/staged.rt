@@ -75,12 +75,12 @@ impl Staged {
         alloc: Global,
         path: &Path,
         offset: u64,
-        piece: Piece,
-    ) -> Result<(), Piece>
+        piece: Box<Piece>,
+    ) -> Result<(), Box<Piece>>
         requires so_far { HasSoFar self.old path.now offset }
-        ensures ok { OnOk result (self.new ≡ put_in self.old path.now piece) }
+        ensures ok { OnOk result (self.new ≡ put_in self.old path.now piece.value) }
         ensures err { OnErr result (self.new ≡ self.old) }
-        ensures back { IfErr result (λ back. back ≡ piece) }
+        ensures back { IfErr result (λ back. back.value ≡ piece.value) }
     {
         let Ok(rest) = path.below(alloc, &self.top) else {
             return Err(piece);
@@ -178,21 +178,21 @@ fn without_bytes(alloc: Global, rows: &[Row<Stamp>]) -> Result<Vec<Row<StagedFil
     let mut made = Vec::with_capacity(alloc, rows.len())?;
     for row in rows {
         let path = row.path.copy(alloc)?;
-        let content = begun(alloc, &row.content);
+        let content = begun(&row.content);
         made.push(Row { path, content })?;
     }
     Ok(made)
 }
 
 /// A content without bytes yet.
-fn begun(alloc: Global, content: &Content<Stamp>) -> Content<StagedFile>
+fn begun(content: &Content<Stamp>) -> Content<StagedFile>
     ensures told { told result ≡ assemblies.begun content.now }
     ensures held { is_held result ≡ true }
 {
     match content {
         Content::Absent => Content::Absent,
         Content::Dir => Content::Dir,
-        Content::File(_) => Content::File(StagedFile::empty(alloc)),
+        Content::File(_) => Content::File(StagedFile::empty()),
     }
 }
 
@@ -205,14 +205,14 @@ fn with_bytes(alloc: Global, rows: Vec<Row<StagedFile>>) -> Result<Vec<Row<Items
     let mut made = Vec::with_capacity(alloc, rows.len())?;
     for row in rows {
         let Row { path, content } = row;
-        let content = bytes_of(content);
+        let content = bytes_of(alloc, content);
         made.push(Row { path, content })?;
     }
     Ok(made)
 }
 
 /// What is at a path, with its bytes, which are in memory.
-fn bytes_of(content: Content<StagedFile>) -> Content<Items<u8>>
+fn bytes_of(alloc: Global, content: Content<StagedFile>) -> Content<Items<u8>>
     requires { is_held content ≡ true }
     ensures told { result ≡ told content }
     ensures fits { FileFits result }
@@ -220,7 +220,7 @@ fn bytes_of(content: Content<StagedFile>) -> Content<Items<u8>>
     match content {
         Content::Absent => Content::Absent,
         Content::Dir => Content::Dir,
-        Content::File(file) => match file.into_bytes() {
+        Content::File(file) => match file.into_bytes(alloc) {
             Some(bytes) => Content::File(bytes),
             None => unreachable!(),
         },
@@ -291,12 +291,12 @@ fn add_piece(
     alloc: Global,
     content: &mut Content<StagedFile>,
     size: u64,
-    piece: Piece,
-) -> Result<(), Piece>
+    piece: Box<Piece>,
+) -> Result<(), Box<Piece>>
     requires file { (had : Staging) × (content.old ≡ File had) }
-    ensures ok { OnOk result (content.new ≡ joined_to piece content.old) }
+    ensures ok { OnOk result (content.new ≡ joined_to piece.value content.old) }
     ensures err { OnErr result (content.new ≡ content.old) }
-    ensures back { IfErr result (λ back. back ≡ piece) }
+    ensures back { IfErr result (λ back. back.value ≡ piece.value) }
 {
     let Content::File(file) = content else {
         unreachable!();

@@ -118,7 +118,7 @@ impl<'a, 'b, S: Site> Desk<'a, 'b, S> {
     }
 
     /// Puts what a piece staged in an assembly. Where it finds no room it is left out, and the assembly isn't complete.
-    fn append(&self, staged: &mut Staged, k: u32, piece: Piece)
+    fn append(&self, staged: &mut Staged, k: u32, piece: Box<Piece>)
         ensures { staged.new.wanted ≡ staged.old.wanted }
     {
         let actions = self.checked.plan().actions.as_slice();

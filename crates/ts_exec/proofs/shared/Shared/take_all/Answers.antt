@@ -100,7 +100,7 @@ loop-k-preserved g c =
       held = c.take-piece.ensures.held ∙ inv.held;
       wanted = c.add.ensures.wanted ∙ inv.wanted;
       filled = λ part of begun told read.
-          filled_next x j.valid a part of told xs pieces c.pieces-pieces.ensures.order n h (seen c.take-piece.new.pass) c.take-piece.result read c.take-piece.ensures.bytes c.loop-k.staged c.add.new.staged
+          filled_next x j.valid a part of told xs pieces c.pieces-pieces.ensures.order n h (seen c.take-piece.new.pass) c.take-piece.result.value read c.take-piece.ensures.bytes c.loop-k.staged c.add.new.staged
           (inv.filled part of begun told (read_front x (seen c.loop-k.pass) (seen c.take-piece.new.pass) later read)) c.in_ok-add.ensures.put (contains_at xs n 0 h);
     }
 

@@ -44,7 +44,7 @@ invariant_of-self c =
     let rows = c.self.inside.made.items in
     let place = rw c.deref.ensures.value at c.in-Some-find.ensures.place in
     let path = rw c.deref.ensures.value at c.in-Some-find.ensures.path in
-    still_told c.in-Some.rest c.args.piece rows c.in-Some-find.index row c.add_piece.new.content c.self.invariant place c.index_mut-row.ensures.value (path row)
+    still_told c.in-Some.rest c.args.piece.value rows c.in-Some-find.index row c.add_piece.new.content c.self.invariant place c.index_mut-row.ensures.value (path row)
     (either c.add_piece.result c.add_piece.ensures.ok c.add_piece.ensures.err)
 
 pub returns-clause-ok : goal.returns-clause-ok
@@ -55,15 +55,15 @@ returns-clause-ok c =
     let place = rw c.deref.ensures.value at c.in-Some-find.ensures.place in
     let path = rw c.deref.ensures.value at c.in-Some-find.ensures.path in
     let whole = below_gives top c.args.path.now c.in-Some.rest (sym c.in-Ok.ensures.value ∙ c.in-Some.is) in
-    let put = told_put top c.in-Some.rest c.args.piece rows c.in-Some-find.index row c.self.invariant.ascending place c.index_mut-row.ensures.value (path row) in
+    let put = told_put top c.in-Some.rest c.args.piece.value rows c.in-Some-find.index row c.self.invariant.ascending place c.index_mut-row.ensures.value (path row) in
     let a : Assembly = record { top = top; wanted = c.self.inside.wanted; made = told_rows rows; held = all_held rows } in
     let found = far_path a c.args.path.now c.in-Some.rest c.args.offset (subst (λ (z : Assembly). HasSoFar z c.args.path.now c.args.offset) (sym c.self.view_is) c.requires.so_far) (sym c.in-Ok.ensures.value ∙ c.in-Some.is) in
     let says = row_says rows c.in-Some-find.index row c.in-Some.rest c.self.invariant.ascending place c.index_mut-row.ensures.value (path row) in
     let file = told_file (listed rows c.in-Some.rest) found.0 (sym (listed-told rows c.in-Some.rest) ∙ found.1) in
-    let held = held_set c.args.piece file.0 rows c.in-Some-find.index row row place c.index_mut-row.ensures.value (says ∙ file.1) in
+    let held = held_set c.args.piece.value file.0 rows c.in-Some-find.index row row place c.index_mut-row.ensures.value (says ∙ file.1) in
     rw (← c.self.view_is)
     (on_ok_weaker c.add_piece.result
     (λ e. ap₂ (λ (made : Listing (List ℕ)) (held : Bool). let a : Assembly = record { top = top; wanted = c.self.inside.wanted; made = made; held = held } in a)
-    (ap (λ (x : Content Staging). told_rows (set rows c.in-Some-find.index (record { path = row.path; content = x }))) e ∙ put ∙ ap (λ p. with_more top p c.args.piece.bytes (told_rows rows)) (sym whole))
+    (ap (λ (x : Content Staging). told_rows (set rows c.in-Some-find.index (record { path = row.path; content = x }))) e ∙ put ∙ ap (λ p. with_more top p c.args.piece.value.bytes (told_rows rows)) (sym whole))
     (ap (λ (x : Content Staging). all_held (set rows c.in-Some-find.index (record { path = row.path; content = x }))) e ∙ held))
     c.add_piece.ensures.ok)
