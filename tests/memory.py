@@ -49,9 +49,10 @@ def many_files(root):
 
 
 def files_at_the_top(root):
-    for number in range(100_000):
+    """So many that the bound isn't kept where each path has a buffer of its own."""
+    for number in range(250_000):
         write(f"{root}/{number:06}", 128, number)
-    return 100_000
+    return 250_000
 
 
 # The sets by their names.
@@ -59,7 +60,7 @@ SETS = {
     "one file": one_file,
     "one new directory": one_directory,
     "20,000 files in new directories": many_files,
-    "100,000 files at the top": files_at_the_top,
+    "250,000 files at the top": files_at_the_top,
 }
 
 

@@ -5,7 +5,7 @@ set -u
 cd "$(dirname "$0")/.." || exit 1
 top=$PWD
 # shellcheck disable=SC2034
-room=1500
+room=2500
 . tests/cases.sh
 
 PYTHONDONTWRITEBYTECODE=1 python3 "$top/tests/memory.py" "$program"
