@@ -1,4 +1,4 @@
-//! Paths that share one buffer.
+//! Paths, and names, that share one buffer.
 use crate::shared::path;
 use std::alloc::Global;
 use ts_model::row::{Content, Row, Stamp};
@@ -145,4 +145,69 @@ fn packed_paths_are_used_as_others(rt: HostRuntime) {
     for (found, text) in made.iter().zip(texts) {
         assert!(rt; is_at(alloc, found, text), "{text}");
     }
+}
+
+/// A name of one byte, one of 255, and others, not in their order.
+fn some_names(alloc: Global) -> Option<Vec<Name>> {
+    let long = [b'n'; 255];
+    let mut names = Vec::new(alloc);
+    for bytes in [b"n".as_slice(), &long, b"b.txt", b"a b", b"\xc3\xa9"] {
+        names.push(Name::parse(alloc, bytes).ok()?).ok()?;
+    }
+    Some(names)
+}
+
+/// Lets names share one buffer.
+fn pack(alloc: Global, names: &mut Vec<Name>) -> Option<()> {
+    let mut packing = Packing::new(alloc);
+    for name in names.iter() {
+        packing.add_name(name).ok()?;
+    }
+    let mut buffer = packing.into_buffer(alloc).ok()?;
+    for name in names.iter_mut() {
+        buffer.lend_name(name);
+    }
+    Some(())
+}
+
+/// These names packed, and packed again with the same ones behind them, of which each has a buffer of its own.
+fn packed_names(alloc: Global) -> Option<Vec<Name>> {
+    let mut names = some_names(alloc)?;
+    pack(alloc, &mut names)?;
+    let mut more = some_names(alloc)?;
+    names.append(&mut more).ok()?;
+    pack(alloc, &mut names)?;
+    Some(names)
+}
+
+/// Whether a packed name is used as this one: it has the same bytes, which are parsed as it, compares the same, also with another,
+/// and makes the same path.
+fn is_used_as(alloc: Global, packed: &Name, name: &Name, other: &Name) -> Option<bool> {
+    let again = Name::parse(alloc, packed.as_bytes()).ok()?;
+    let root = Path::root(alloc);
+    let child = root.child(alloc, packed).ok()?;
+    let same = packed.as_bytes() == name.as_bytes() && packed == name && again == *packed;
+    let ordered = packed.cmp(other) == name.cmp(other) && other.cmp(packed) == other.cmp(name);
+    Some(same && ordered && child == root.child(alloc, name).ok()?)
+}
+
+/// Whether these are all the packed names, and each is used as the one that it was made like: the five come twice.
+fn are_used_as(alloc: Global, packed: &[Name], names: &[Name]) -> Option<bool> {
+    let mut same = packed.len() == 10 && names.len() == 5;
+    for (index, found) in packed.iter().enumerate() {
+        let name = names.get(index % 5)?;
+        for other in names {
+            same = same && is_used_as(alloc, found, name, other)?;
+        }
+    }
+    Some(same)
+}
+
+#[test]
+fn packed_names_are_used_as_others(rt: HostRuntime) {
+    let alloc = rt.alloc();
+    let (Some(packed), Some(names)) = (packed_names(alloc), some_names(alloc)) else {
+        panic!(rt; "no names");
+    };
+    assert!(rt; are_used_as(alloc, &packed, &names) == Some(true));
 }

@@ -4,6 +4,7 @@ ghost use Rattle.ts_folder.specs.Folders.{InOrder};
 
 use crate::fault::FolderFault;
 use crate::folder::{Folder, Kind};
+use crate::packing::{pack_last, pack_rest};
 use std::alloc::Global;
 use std::cmp::Ordering;
 use std::fs::{DirEntry, FileType, Files};
@@ -154,7 +155,8 @@ fn listing_fault(e: &io::Error) -> FolderFault {
     }
 }
 
-/// The names in a directory with their kinds, as the system gives them.
+/// The names in a directory with their kinds, as the system gives them. They share buffers, since a listing of many names stays
+/// until all that stands below has been scanned.
 fn read_names<R: Files + AllocGlobal + Clone + Drop>(
     alloc: Global,
     files: &R,
@@ -171,11 +173,15 @@ fn read_names<R: Files + AllocGlobal + Clone + Drop>(
             Ok(entry) => {
                 if !(is_root && entry.file_name() == OWN) {
                     names.push(child_of(alloc, &entry)?)?;
+                    pack_last(alloc, &mut names)?;
                 }
             }
             Err(e) => return Err(listing_fault(&e)),
         }
     }
+    pack_rest(alloc, &mut names)?;
+    // its room has grown by doubling
+    names.shrink_to_fit();
     Ok(names)
 }
 

@@ -6,6 +6,7 @@ pub mod fault;
 pub mod faulty;
 pub mod folder;
 pub mod memory;
+mod packing;
 
 pub use disk::DiskFolder;
 pub use fault::{FolderFault, Trouble};

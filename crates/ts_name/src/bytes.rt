@@ -1,4 +1,4 @@
-//! Bytes that several paths share.
+//! Bytes that several paths or names share.
 ghost use Rattle.std.specs.Prelude.{◌≡◌, ◌<◌, ◌+◌, ◌^◌, ◌++◌, [], drop, length, take, IfOk, IfSome};
 
 use std::alloc::{AllocError, Global};

@@ -2,6 +2,7 @@
 ghost use Rattle.std.specs.Prelude.{◌≡◌, ◌≢◌, ◌⊎◌, ◌↔◌, All, IfOk, IsErrOf, IsTrue, IsUtf8, codes};
 ghost use Rattle.ts_name.specs.Paths.{IsName};
 
+use crate::bytes::Bytes;
 use crate::faults::NameFault;
 use std::alloc::Global;
 use std::marker::Model;
@@ -9,9 +10,9 @@ use std::str;
 
 /// The name of a file or a directory: UTF-8 of 1 to 255 bytes without `/` and the zero byte, and none of `.`, `..` and
 /// `.twosync`.
-#[derive(Debug, Drop)]
+#[derive(Debug)]
 pub struct Name {
-    bytes: Vec<u8>,
+    pub(crate) bytes: Bytes,
 }
 
 impl Model for Name {
@@ -23,9 +24,16 @@ impl Model for Name {
 
     ghost coded = { coded_list coded_ℕ };
 
-    ghost view = { λ n. n.bytes.items };
+    ghost view = { λ n. n.bytes };
 
-    ghost invariant = { λ n. IsName n.bytes.items };
+    ghost invariant = { λ n. IsName n.bytes };
+}
+
+impl Drop for Name {
+    fn drop(self) {
+        let Name { bytes } = self;
+        drop(bytes);
+    }
 }
 
 impl Name {
@@ -37,9 +45,8 @@ impl Name {
         if !is_name(bytes) {
             return Err(NameFault::BadName);
         }
-        Ok(Name {
-            bytes: Vec::from_slice(alloc, bytes)?,
-        })
+        let shared = Bytes::share(alloc, Vec::from_slice(alloc, bytes)?)?;
+        Ok(Name { bytes: shared })
     }
 
     /// The name's bytes.
