@@ -12,7 +12,8 @@ use std::time::{Duration, Instant};
 use ts_check::{CheckFault, Checked, check};
 use ts_hold::Holds;
 use ts_model::items::Items;
-use ts_model::plan::{Action, Entry, Kind, Plan, Reason};
+use ts_model::packed::PackedAction;
+use ts_model::plan::{Entry, Kind, Plan, Reason};
 use ts_model::predecessors::Predecessors;
 use ts_name::Path;
 use ts_print::PrintReader;
@@ -51,7 +52,7 @@ struct Draft {
     first: PrintReader,
     second: PrintReader,
     entries: Vec<Entry>,
-    actions: Vec<Action>,
+    actions: Vec<PackedAction>,
 }
 
 /// Written out, so that a proof of what drops one stays short.
@@ -80,9 +81,9 @@ impl Draft {
         }
     }
 
-    fn act(&mut self, kind: Kind, preds: Predecessors) -> Result<u32> {
+    fn act(&mut self, alloc: Global, kind: Kind, preds: Predecessors) -> Result<u32> {
         let number = u32::try_from(self.actions.len()).context("counting actions")?;
-        self.actions.push(Action { kind, preds })?;
+        self.actions.push(PackedAction::new(alloc, kind, preds)?)?;
         Ok(number)
     }
 
@@ -103,7 +104,7 @@ impl Draft {
         if let Some(mark) = above {
             preds.push(alloc, mark)?;
         }
-        self.act(Kind::Mark { entry }, preds)
+        self.act(alloc, Kind::Mark { entry }, preds)
     }
 
     /// A file that only the first replica has, with its pieces, its commit and its mark.
@@ -120,17 +121,17 @@ impl Draft {
                 length: PIECE.min(size.wrapping_sub(offset)),
                 path: Path::parse_text(alloc, path.as_bytes())?,
             };
-            let piece = self.act(kind, Predecessors::none())?;
+            let piece = self.act(alloc, kind, Predecessors::none())?;
             pieces.push(piece)?;
         }
         let pieces = Predecessors::of(alloc, pieces)?;
-        let commit = self.act(Kind::Commit { entry }, pieces)?;
+        let commit = self.act(alloc, Kind::Commit { entry }, pieces)?;
         let mut preds = Predecessors::none();
         if let Some(mark) = above {
             preds.push(alloc, mark)?;
         }
         preds.push(alloc, commit)?;
-        self.act(Kind::Mark { entry }, preds)?;
+        self.act(alloc, Kind::Mark { entry }, preds)?;
         Ok(())
     }
 

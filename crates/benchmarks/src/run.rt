@@ -16,7 +16,8 @@ use ts_check::{Checked, check};
 use ts_exec::{ActionResult, Keeper, commit_count, run, run_keeping};
 use ts_folder::MemFolder;
 use ts_hold::Holds;
-use ts_model::plan::{Kind, Plan};
+use ts_model::packed::KindRef;
+use ts_model::plan::Plan;
 use ts_plan_build::resume;
 use ts_site::MemSite;
 use ts_tree::{SubTree, Tree, TreeReader};
@@ -95,7 +96,7 @@ fn replica(alloc: Global, files: u32) -> Result<Tree> {
 fn sites(alloc: Global, plan: &Plan) -> Result<Vec<Box<MemSite>>> {
     let mut sites = Vec::new(alloc);
     for action in plan.actions.as_slice() {
-        if let Kind::Commit { .. } = action.kind {
+        if let KindRef::Commit { .. } = action.kind() {
             let site = MemSite::new(SubTree::absent(alloc));
             sites.push(Box::new(alloc, site)?)?;
         }

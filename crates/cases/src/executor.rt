@@ -23,7 +23,7 @@ use std::thread::Threads;
 use ts_check::Checked;
 use ts_exec::{ActionResult, Gate, OpenGate, Outcome, commit_count, run};
 use ts_folder::{Failing, FaultyFolder, MemFolder, Trouble};
-use ts_model::plan::Kind;
+use ts_model::packed::KindRef;
 use ts_site::FaultySite;
 use ts_tree::{SubTree, Tree};
 
@@ -41,7 +41,7 @@ fn draw(
 ) -> Result<Vec<bool>> {
     let mut fails = Vec::new(alloc);
     for action in checked.plan().actions.as_slice() {
-        let is_mark = matches!(action.kind, Kind::Mark { entry: _ });
+        let is_mark = matches!(action.kind(), KindRef::Mark { entry: _ });
         let drawn = rarity > 0 && random.next_word() % rarity.max(1) == 0;
         fails.push(drawn && !is_mark)?;
     }
@@ -57,7 +57,7 @@ fn folder(
 ) -> Result<FaultyFolder> {
     let mut reads = Vec::new(alloc);
     for (action, fails) in checked.plan().actions.as_slice().iter().zip(fails) {
-        if let Kind::Piece { path, .. } = &action.kind {
+        if let KindRef::Piece { path, .. } = action.kind() {
             if *fails {
                 reads.push(Failing {
                     path: path.copy(alloc)?,
@@ -74,7 +74,7 @@ fn folder(
 fn sites(alloc: Global, checked: &Checked<'_>, fails: &[bool]) -> Result<Vec<FaultySite>> {
     let mut sites = Vec::new(alloc);
     for (action, fails) in checked.plan().actions.as_slice().iter().zip(fails) {
-        if let Kind::Commit { entry: _ } = action.kind {
+        if let KindRef::Commit { entry: _ } = action.kind() {
             let mut first = Vec::new(alloc);
             first.push(*fails)?;
             sites.push(FaultySite::new(SubTree::absent(alloc), first))?;
@@ -100,7 +100,7 @@ fn compare(
     for i in 0..checked.action_count() {
         let result = outcome.result(i);
         ensure!(wanted.get(i as usize) == Some(&result), "another result");
-        if let Kind::Commit { entry: _ } = checked.plan().actions.as_slice()[i as usize].kind {
+        if let KindRef::Commit { entry: _ } = checked.plan().actions.as_slice()[i as usize].kind() {
             let site = outcome.take_site(i).context("finding a site")?;
             let has_file = site.into_content().rows().len() == 1;
             ensure!(
@@ -198,7 +198,7 @@ where
 fn first_pieces(checked: &Checked<'_>) -> Result<(u32, u32)> {
     let mut found = None;
     for i in 0..checked.action_count() {
-        if let Kind::Piece { .. } = &checked.plan().actions.as_slice()[i as usize].kind {
+        if let KindRef::Piece { .. } = checked.plan().actions.as_slice()[i as usize].kind() {
             match found {
                 None => found = Some(i),
                 Some(first) => return Ok((first, i)),

@@ -5,7 +5,8 @@ ghost use Rattle.ts_model.specs.Texts.{IsPlan};
 use crate::shared::{Drip, dripping, has_taken, path, plan_of, repeated, sink_of};
 use std::alloc::Global;
 use ts_model::items::Items;
-use ts_model::plan::{Action, Entry, Kind, Plan, Reason};
+use ts_model::packed::{KindRef, PackedAction};
+use ts_model::plan::{Entry, Kind, Plan, Reason};
 use ts_model::predecessors::Predecessors;
 use ts_name::Path;
 use ts_plan::{PlanFault, PlanLine, PlanReader, decode, encode, fits};
@@ -249,7 +250,9 @@ fn made_plan(alloc: Global, path: Path, kind: Kind, pred_count: usize) -> Option
         preds.push(alloc, 0).ok()?;
     }
     let mut actions = Vec::new(alloc);
-    actions.push(Action { kind, preds }).ok()?;
+    actions
+        .push(PackedAction::new(alloc, kind, preds).ok()?)
+        .ok()?;
     Some(Plan {
         entries: Items::new(entries),
         actions: Items::new(actions),
@@ -328,8 +331,8 @@ fn reads_single_lines(rt: HostRuntime) {
 fn has_one_piece(plan: &Plan) -> bool {
     match plan.actions.as_slice() {
         [action] => matches!(
-            action.kind,
-            Kind::Piece {
+            action.kind(),
+            KindRef::Piece {
                 entry: 1,
                 offset: 2,
                 length: 3,

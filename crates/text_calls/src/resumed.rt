@@ -1,7 +1,8 @@
 //! Plans for what is there now.
 use crate::shared::{World, scene_of};
 use std::alloc::Global;
-use ts_model::plan::{Kind, Plan, Reason};
+use ts_model::packed::KindRef;
+use ts_model::plan::{Plan, Reason};
 use ts_plan_build::{BuildFault, resume};
 use ts_text::push_decimal;
 
@@ -53,22 +54,22 @@ fn push_number(out: &mut Vec<u8>, word: &[u8], number: u64) -> Option<()> {
     push_decimal(out, number).ok()
 }
 
-fn push_kind(out: &mut Vec<u8>, kind: &Kind) -> Option<()> {
+fn push_kind(out: &mut Vec<u8>, kind: KindRef<'_>) -> Option<()> {
     match kind {
-        Kind::Piece {
+        KindRef::Piece {
             entry,
             offset,
             length,
             path,
         } => {
-            push_number(out, b"piece ", u64::from(*entry))?;
-            push_number(out, b" ", *offset)?;
-            push_number(out, b" ", u64::from(*length))?;
+            push_number(out, b"piece ", u64::from(entry))?;
+            push_number(out, b" ", offset)?;
+            push_number(out, b" ", length)?;
             out.push(b' ').ok()?;
             path.write_text(out).ok()
         }
-        Kind::Commit { entry } => push_number(out, b"commit ", u64::from(*entry)),
-        Kind::Mark { entry } => push_number(out, b"mark ", u64::from(*entry)),
+        KindRef::Commit { entry } => push_number(out, b"commit ", u64::from(entry)),
+        KindRef::Mark { entry } => push_number(out, b"mark ", u64::from(entry)),
     }
 }
 
@@ -88,8 +89,8 @@ fn lines_of(alloc: Global, plan: &Plan) -> Option<Vec<u8>> {
         out.push(b'\n').ok()?;
     }
     for action in plan.actions.as_slice() {
-        push_kind(&mut out, &action.kind)?;
-        push_preds(&mut out, action.preds.as_slice())?;
+        push_kind(&mut out, action.kind())?;
+        push_preds(&mut out, action.preds())?;
     }
     Some(out)
 }

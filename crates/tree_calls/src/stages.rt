@@ -11,7 +11,8 @@ use ts_disk::{
 };
 use ts_folder::DiskFolder;
 use ts_hold::Holds;
-use ts_model::plan::{Kind, Plan, Side};
+use ts_model::packed::KindRef;
+use ts_model::plan::{Plan, Side};
 use ts_plan::decode;
 use ts_print::Print;
 use ts_scan::scan;
@@ -91,20 +92,20 @@ fn stores(
     bytes: &[u8],
 ) -> Option<Result<Piece, StageFault>> {
     let action = plan.actions.as_slice().get(number as usize)?;
-    let Kind::Piece {
+    let KindRef::Piece {
         entry,
         offset,
         length,
         path,
-    } = &action.kind
+    } = action.kind()
     else {
         return None;
     };
-    let copied = plan.entries.as_slice().get(*entry as usize)?;
-    let (_, rest) = bytes.split_at_checked(*offset as usize)?;
-    let (part, _) = rest.split_at_checked(*length as usize)?;
+    let copied = plan.entries.as_slice().get(entry as usize)?;
+    let (_, rest) = bytes.split_at_checked(offset as usize)?;
+    let (part, _) = rest.split_at_checked(length as usize)?;
     let part = Vec::from_slice(alloc, part).ok()?;
-    Some(stage.store(alloc, number, *entry, copied, path, *offset, part))
+    Some(stage.store(alloc, number, entry, copied, path, offset, part))
 }
 
 /// Puts a piece of the plan at the end of its file.
@@ -112,14 +113,14 @@ fn puts(alloc: Global, staged: &mut Staged, plan: &Plan, number: u32, piece: Pie
     let Some(action) = plan.actions.as_slice().get(number as usize) else {
         return false;
     };
-    let Kind::Piece { offset, path, .. } = &action.kind else {
+    let KindRef::Piece { offset, path, .. } = action.kind() else {
         return false;
     };
     let Ok(piece) = Box::new(alloc, piece) else {
         return false;
     };
-    match staged.has_so_far(alloc, path, *offset) {
-        Ok(true) => staged.put(alloc, path, *offset, piece).is_ok(),
+    match staged.has_so_far(alloc, path, offset) {
+        Ok(true) => staged.put(alloc, path, offset, piece).is_ok(),
         Ok(false) | Err(_) => false,
     }
 }

@@ -12,7 +12,8 @@ use crate::calls::DONE;
 use crate::marks::mark_of;
 use std::alloc::{AllocError, Global};
 use ts_check::Checked;
-use ts_model::plan::{Action, Entry, Kind, Plan};
+use ts_model::packed::{KindRef, PackedAction};
+use ts_model::plan::{Entry, Plan};
 use ts_model::row::Stamp;
 use ts_print::{Print, PrintFault};
 use ts_site::Site;
@@ -75,13 +76,13 @@ impl<S: Site> Closed<S> {
     }
 
     /// The entry of an action that is a mark and is done.
-    fn done_mark(&self, i: usize, action: &Action) -> Option<u32>
+    fn done_mark(&self, i: usize, action: &PackedAction) -> Option<u32>
         requires { i < slots_len self.now.row.words }
         ensures some { IfSome result (λ e. (action.now.kind ≡ Mark e) × IsDone (slice_index (slots_items self.now.row.words) i)) }
         ensures none { IfNone result ((e : ℕ) → action.now.kind ≡ Mark e → ¬ IsDone (slice_index (slots_items self.now.row.words) i)) }
     {
-        match action.kind {
-            Kind::Mark { entry } if self.row.word(i) & DONE != 0 => Some(entry),
+        match action.kind() {
+            KindRef::Mark { entry } if self.row.word(i) & DONE != 0 => Some(entry),
             _ => None,
         }
     }

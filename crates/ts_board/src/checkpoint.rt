@@ -12,7 +12,7 @@ use crate::board::{Board, Pass};
 use crate::calls::DONE;
 use std::alloc::{AllocError, Global};
 use ts_check::Checked;
-use ts_model::plan::{Action, Kind};
+use ts_model::packed::{KindRef, PackedAction};
 use ts_print::Print;
 use ts_site::Site;
 
@@ -73,7 +73,7 @@ impl<S: Site> Board<S> {
     }
 
     /// The entry of an action that is a mark and is seen done.
-    fn seen_mark(&self, pass: &mut Pass<S>, i: u32, action: &Action) -> Option<u32>
+    fn seen_mark(&self, pass: &mut Pass<S>, i: u32, action: &PackedAction) -> Option<u32>
         requires pass { IsPassOf S.content self.now pass.old }
         requires action { i < length (plan_of self.now).actions }
         ensures pass { IsPassOf S.content self.now pass.new × IsSamePart pass.old pass.new }
@@ -82,8 +82,8 @@ impl<S: Site> Board<S> {
         ensures some { IfSome result (λ e. (action.now.kind ≡ Mark e) × IsDone (word_after (plan_of self.now) (seen pass.new) i)) }
         ensures none { IfNone result ((e : ℕ) → action.now.kind ≡ Mark e → ¬ IsDone (word_after (plan_of self.now) (seen pass.new) i)) }
     {
-        match action.kind {
-            Kind::Mark { entry } if self.look(pass, i) & DONE != 0 => Some(entry),
+        match action.kind() {
+            KindRef::Mark { entry } if self.look(pass, i) & DONE != 0 => Some(entry),
             _ => None,
         }
     }

@@ -55,7 +55,7 @@ fn first_words(alloc: Global, plan: &Plan) -> Result<Vec<u64>, AllocError>
         return Ok(words);
     }
     for action in actions {
-        words.push(action.preds.as_slice().len() as u64)?;
+        words.push(action.preds().len() as u64)?;
     }
     Ok(words)
 }

@@ -8,19 +8,20 @@ ghost use Rattle.ts_board.specs.Terms.{placed, sites_in};
 use crate::law::Slot;
 use std::alloc::Global;
 use std::vec::IntoIter;
-use ts_model::plan::{Action, Kind, Plan};
+use ts_model::packed::{KindRef, PackedAction};
+use ts_model::plan::Plan;
 
 /// The slot of an action at the start: that of a commit has the next site.
-fn slot_for<S: Drop>(action: &Action, sites: &mut IntoIter<S>) -> Slot<S>
+fn slot_for<S: Drop>(action: &PackedAction, sites: &mut IntoIter<S>) -> Slot<S>
     ensures { (more : List Action) → placed (action.now ∷ more) (into_iter_items sites.old) ≡ result ∷ placed more (into_iter_items sites.new) }
 {
-    match &action.kind {
-        Kind::Commit { .. } => match sites.next() {
+    match action.kind() {
+        KindRef::Commit { .. } => match sites.next() {
             Some(site) => Slot::Place(site),
             None => Slot::Empty,
         },
-        Kind::Piece { .. } => Slot::Empty,
-        Kind::Mark { .. } => Slot::Empty,
+        KindRef::Piece { .. } => Slot::Empty,
+        KindRef::Mark { .. } => Slot::Empty,
     }
 }
 

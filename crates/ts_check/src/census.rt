@@ -6,7 +6,8 @@ ghost use Rattle.ts_check.specs.Places.{IsFirst, IsIndex, IsUnmet, IsWanted, Not
 ghost use Rattle.ts_model.specs.Plans.{entry_limit, action_limit};
 
 use std::alloc::{AllocError, Global};
-use ts_model::plan::{Entry, Kind, Plan, Reason};
+use ts_model::packed::{KindRef, PackedAction};
+use ts_model::plan::{Entry, Plan, Reason};
 
 /// What an entry may have one of.
 #[derive(Clone, Copy)]
@@ -20,13 +21,13 @@ pub const NO_ACTION: u32 = u32::MAX;
 
 impl Role {
     /// The entry that an action of this role is for.
-    pub fn entry_of(self, kind: &Kind) -> Option<u32>
-        ensures some { IfSome result (λ e. kind.now ≡ kind_of self e) }
-        ensures none { IfNone result ((e : ℕ) → kind.now ≢ kind_of self e) }
+    pub fn entry_of(self, action: &PackedAction) -> Option<u32>
+        ensures some { IfSome result (λ e. action.now.kind ≡ kind_of self e) }
+        ensures none { IfNone result ((e : ℕ) → action.now.kind ≢ kind_of self e) }
     {
-        match (self, kind) {
-            (Role::Commits, Kind::Commit { entry }) => Some(*entry),
-            (Role::Marks, Kind::Mark { entry }) => Some(*entry),
+        match (self, action.kind()) {
+            (Role::Commits, KindRef::Commit { entry }) => Some(entry),
+            (Role::Marks, KindRef::Mark { entry }) => Some(entry),
             _ => None,
         }
     }
@@ -60,7 +61,7 @@ fn fill(plan: &Plan, role: Role, numbers: &mut Vec<u32>) -> Option<usize>
 {
     let entries = plan.entries.as_slice();
     for (i, action) in plan.actions.as_slice().iter().enumerate() {
-        if let Some(entry) = role.entry_of(&action.kind) {
+        if let Some(entry) = role.entry_of(action) {
             let e = entry as usize;
             if !is_unmet(entries, role, numbers, e) {
                 return Some(i);

@@ -145,7 +145,7 @@ impl<'a> Checked<'a> {
         if i >= actions.len() {
             return &[];
         }
-        actions[i].preds.as_slice()
+        actions[i].preds()
     }
 
     /// The actions that wait for an action, in ascending order.

@@ -6,7 +6,8 @@ ghost use Rattle.ts_model.specs.Plans.{Copies, IsCopied, KindIs};
 ghost use Rattle.ts_model.specs.declared.plan.Entry.{Entry};
 ghost use Rattle.ts_model.specs.declared.plan.Kind.TheVariants.{Commit};
 
-use ts_model::plan::{Kind, Plan, Side};
+use ts_model::packed::KindRef;
+use ts_model::plan::{Plan, Side};
 
 /// The entry of a commit; none for another action.
 pub fn commit_entry(plan: &Plan, c: u32) -> Option<u32>
@@ -18,8 +19,8 @@ pub fn commit_entry(plan: &Plan, c: u32) -> Option<u32>
     if i >= actions.len() {
         return None;
     }
-    match &actions[i].kind {
-        Kind::Commit { entry } => Some(*entry),
+    match actions[i].kind() {
+        KindRef::Commit { entry } => Some(entry),
         _ => None,
     }
 }
@@ -34,8 +35,8 @@ pub fn piece_entry(plan: &Plan, k: u32) -> Option<u32>
     if i >= actions.len() {
         return None;
     }
-    match &actions[i].kind {
-        Kind::Piece { entry, .. } => Some(*entry),
+    match actions[i].kind() {
+        KindRef::Piece { entry, .. } => Some(entry),
         _ => None,
     }
 }

@@ -7,15 +7,16 @@ ghost use Rattle.ts_model.specs.Sync.{Snapshot};
 ghost use Rattle.ts_model.specs.declared.plan.PlanRule.TheVariants.{Limits};
 ghost use Rattle.std.specs.Prelude.{IsTrue, ◌↔◌};
 
-use ts_model::plan::{ACTION_LIMIT, Action, ENTRY_LIMIT, PRED_LIMIT, Plan};
+use ts_model::packed::PackedAction;
+use ts_model::plan::{ACTION_LIMIT, ENTRY_LIMIT, PRED_LIMIT, Plan};
 
 /// Whether the actions have no more predecessors than the limit, all together.
-fn has_few_preds(actions: &[Action]) -> bool
+fn has_few_preds(actions: &[PackedAction]) -> bool
     ensures { IsTrue result ↔ (sum_by (λ a. length a.preds) actions.now ≤ pred_limit) }
 {
     let mut total: usize = 0;
     for action in actions {
-        let count = action.preds.as_slice().len();
+        let count = action.preds().len();
         if count > PRED_LIMIT - total {
             return false;
         }

@@ -14,7 +14,8 @@ use crate::order::row_of;
 use crate::standing::{Place, Staged, staged, stands_at};
 use std::alloc::{AllocError, Global};
 use std::thread::Threads;
-use ts_model::plan::{Kind, PIECE_SIZE, Plan, Side};
+use ts_model::packed::KindRef;
+use ts_model::plan::{PIECE_SIZE, Plan, Side};
 use ts_model::row::{Content, Row, Stamp};
 use ts_name::Path;
 
@@ -130,12 +131,12 @@ fn is_unlawful(plan: &Plan, first: &[Row<Stamp>], second: &[Row<Stamp>], i: usiz
     let Some(action) = actions.get(i) else {
         return false;
     };
-    let Kind::Piece {
+    let KindRef::Piece {
         entry,
         offset,
         length,
         path,
-    } = &action.kind
+    } = action.kind()
     else {
         return false;
     };
@@ -145,9 +146,9 @@ fn is_unlawful(plan: &Plan, first: &[Row<Stamp>], second: &[Row<Stamp>], i: usiz
         first,
         second,
         near,
-        *entry as usize,
-        *offset,
-        *length,
+        entry as usize,
+        offset,
+        length,
         path,
     )
 }

@@ -14,7 +14,8 @@ use std::alloc::{AllocError, Global};
 use std::cmp::Ordering;
 use std::collections::BTreeMap;
 use std::thread::Threads;
-use ts_model::plan::{Kind, Plan};
+use ts_model::packed::{KindRef, PackedAction};
+use ts_model::plan::Plan;
 use ts_model::row::{Row, Stamp};
 
 /// An entry, a row of its source, and an offset.
@@ -29,25 +30,25 @@ fn place_of(
     first: &[Row<Stamp>],
     second: &[Row<Stamp>],
     near: Near,
-    kind: &Kind,
+    action: &PackedAction,
 ) -> Option<Place>
     requires first { IsListing first.now }
     requires second { IsListing second.now }
-    ensures some { IfSome result (λ place. IsPlaceOf first.now second.now plan.now kind.now place) }
-    ensures none { IfNone result ((place : Place) → ¬ IsPlaceOf first.now second.now plan.now kind.now place) }
+    ensures some { IfSome result (λ place. IsPlaceOf first.now second.now plan.now action.now.kind place) }
+    ensures none { IfNone result ((place : Place) → ¬ IsPlaceOf first.now second.now plan.now action.now.kind place) }
 {
-    let Kind::Piece {
+    let KindRef::Piece {
         entry,
         offset,
         path,
         ..
-    } = kind
+    } = action.kind()
     else {
         return None;
     };
-    let (side, rows) = source_of(plan, first, second, *entry as usize)?;
+    let (side, rows) = source_of(plan, first, second, entry as usize)?;
     let row = row_of(rows, near.at(side), path)?;
-    Some((*entry, (row, *offset)))
+    Some((entry, (row, offset)))
 }
 
 /// The place of action `i` beside its number, if it is a piece.
@@ -67,7 +68,7 @@ fn placed(
         return None;
     };
     let near = Near::new(first, second, i, actions.len());
-    let Some(place) = place_of(plan, first, second, near, &action.kind) else {
+    let Some(place) = place_of(plan, first, second, near, action) else {
         return None;
     };
     Some((place, i as u32))
@@ -129,7 +130,7 @@ fn by_map(
     let mut map = BTreeMap::new(alloc);
     for (i, action) in actions.iter().enumerate() {
         let near = Near::new(first, second, i, actions.len());
-        if let Some(place) = place_of(plan, first, second, near, &action.kind) {
+        if let Some(place) = place_of(plan, first, second, near, action) {
             if map.insert(place, i as u32)?.is_some() {
                 return Ok(Err(i as u64));
             }

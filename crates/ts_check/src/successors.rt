@@ -7,7 +7,8 @@ ghost use Rattle.ts_model.specs.Plans.{action_limit, pred_limit};
 
 use crate::lists::Lists;
 use std::alloc::{AllocError, Global};
-use ts_model::plan::{Action, Plan};
+use ts_model::packed::PackedAction;
+use ts_model::plan::Plan;
 
 /// Puts each of these predecessors of an action behind the pairs, beside the action.
 fn push_waits(pairs: &mut Vec<(u32, u32)>, preds: &[u32], action: u32) -> Result<(), AllocError>
@@ -20,22 +21,22 @@ fn push_waits(pairs: &mut Vec<(u32, u32)>, preds: &[u32], action: u32) -> Result
 }
 
 /// How many predecessors there are. It only says how much room is made.
-fn pred_count(actions: &[Action]) -> usize {
+fn pred_count(actions: &[PackedAction]) -> usize {
     let mut count = 0usize;
     for action in actions {
-        count = count.saturating_add(action.preds.as_slice().len());
+        count = count.saturating_add(action.preds().len());
     }
     count
 }
 
 /// Each predecessor beside the action that waits for it.
-fn wait_pairs(alloc: Global, actions: &[Action]) -> Result<Vec<(u32, u32)>, AllocError>
+fn wait_pairs(alloc: Global, actions: &[PackedAction]) -> Result<Vec<(u32, u32)>, AllocError>
     requires { length actions.now ≤ action_limit }
     ensures { IfOk result (λ pairs. pairs.items ≡ waits_from 0 actions.now) }
 {
     let mut pairs = Vec::with_capacity(alloc, pred_count(actions))?;
     for (i, action) in actions.iter().enumerate() {
-        push_waits(&mut pairs, action.preds.as_slice(), i as u32)?;
+        push_waits(&mut pairs, action.preds(), i as u32)?;
     }
     Ok(pairs)
 }

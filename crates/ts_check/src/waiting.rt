@@ -13,7 +13,8 @@ use crate::census::NO_ACTION;
 use crate::finding::first_where;
 use crate::lists::Lists;
 use std::thread::Threads;
-use ts_model::plan::{Kind, Plan};
+use ts_model::packed::KindRef;
+use ts_model::plan::Plan;
 
 /// Whether the numbers strictly ascend and are below `n`.
 fn ascends_below(numbers: &[u32], n: usize) -> bool
@@ -35,7 +36,7 @@ fn has_bad_preds(plan: &Plan, i: usize) -> bool
     ensures { IsTrue result ↔ HasBadPreds plan.now i }
 {
     match plan.actions.as_slice().get(i) {
-        Some(action) => !ascends_below(action.preds.as_slice(), i),
+        Some(action) => !ascends_below(action.preds(), i),
         None => false,
     }
 }
@@ -60,7 +61,7 @@ pub fn waits(plan: &Plan, i: usize, j: u32) -> bool
     ensures { IsTrue result ↔ Waits plan.now i j }
 {
     let actions = plan.actions.as_slice();
-    i < actions.len() && actions[i].preds.as_slice().binary_search(&j).is_ok()
+    i < actions.len() && actions[i].preds().binary_search(&j).is_ok()
 }
 
 /// Whether action `i` doesn't wait for each of these.
@@ -85,10 +86,10 @@ fn lacks_piece(plan: &Plan, pieces: &Lists, i: usize) -> bool
     let Some(action) = plan.actions.as_slice().get(i) else {
         return false;
     };
-    let Kind::Commit { entry } = &action.kind else {
+    let KindRef::Commit { entry } = action.kind() else {
         return false;
     };
-    lacks_some(plan, i, pieces.list(*entry as usize))
+    lacks_some(plan, i, pieces.list(entry as usize))
 }
 
 /// The first commit that doesn't wait for some piece of its entry.
@@ -122,8 +123,8 @@ fn mark_entry(plan: &Plan, i: usize) -> Option<u32>
     ensures none { IfNone result ((e : ℕ) → ¬ KindIs plan.now i (Mark e)) }
 {
     let action = plan.actions.as_slice().get(i)?;
-    match &action.kind {
-        Kind::Mark { entry } => Some(*entry),
+    match action.kind() {
+        KindRef::Mark { entry } => Some(entry),
         _ => None,
     }
 }

@@ -22,7 +22,8 @@ use std::sync::atomic::{AtomicU32, Ordering};
 use ts_cause::{Cause, cause_of};
 use ts_check::Checked;
 use ts_model::items::Items;
-use ts_model::plan::{Entry, Kind, Plan, Side};
+use ts_model::packed::KindRef;
+use ts_model::plan::{Entry, Plan, Side};
 use ts_name::Path;
 use ts_stage::{Piece, ReadBack, Reading, Stage, StageFault};
 
@@ -355,9 +356,9 @@ fn count_pieces(
 /// Where the bytes of a piece begin in its file.
 fn offset_of(plan: &Plan, piece: u32) -> u64 {
     match plan.actions.as_slice().get(piece as usize) {
-        Some(action) => match &action.kind {
-            Kind::Piece { offset, .. } => *offset,
-            Kind::Commit { .. } | Kind::Mark { .. } => 0,
+        Some(action) => match action.kind() {
+            KindRef::Piece { offset, .. } => offset,
+            KindRef::Commit { .. } | KindRef::Mark { .. } => 0,
         },
         None => 0,
     }

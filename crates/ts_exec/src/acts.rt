@@ -21,7 +21,7 @@ use crate::stop::Stop;
 use std::alloc::{AllocError, Global};
 use ts_board::{Held, Pass};
 use ts_folder::Folder;
-use ts_model::plan::Kind;
+use ts_model::packed::KindRef;
 use ts_name::Path;
 use ts_site::Site;
 use ts_stage::{Piece, Stage, Staged};
@@ -50,14 +50,14 @@ where
         ensures fault { IfErr result (MayFail (setting_of S.Site F.Folder G.Stop P.Stage self.now) (seen pass.new) held.old.action) }
     {
         match self.kind(held.action()) {
-            Kind::Piece {
+            KindRef::Piece {
                 entry,
                 offset,
                 length,
                 path,
-            } => self.stage(held, *entry, *offset, *length, path),
-            Kind::Commit { entry: _ } => self.commit(pass, held),
-            Kind::Mark { entry: _ } => {
+            } => self.stage(held, entry, offset, length, path),
+            KindRef::Commit { entry: _ } => self.commit(pass, held),
+            KindRef::Mark { entry: _ } => {
                 held.mark();
                 Ok(())
             }
@@ -169,10 +169,10 @@ where
         ensures put { OnOk result (IsPut self.now.checked.now.plan k piece.value staged.old staged.new) }
         ensures fault { IfErr result (λ e. e ≡ ActFault.OutOfMemory) }
     {
-        let Kind::Piece { path, offset, .. } = self.kind(k) else {
+        let KindRef::Piece { path, offset, .. } = self.kind(k) else {
             return Ok(());
         };
-        append(self.alloc, staged, path, *offset, piece)
+        append(self.alloc, staged, path, offset, piece)
     }
 }
 

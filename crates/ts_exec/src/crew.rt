@@ -7,7 +7,8 @@ use crate::outcome::ActionResult;
 use crossbeam_deque::{Steal, Stealer, Worker};
 use std::alloc::{AllocError, Global};
 use ts_check::Checked;
-use ts_model::plan::{Action, Kind, PIECE_SIZE};
+use ts_model::packed::{KindRef, PackedAction};
+use ts_model::plan::PIECE_SIZE;
 
 /// How many hints a queue has room for at first.
 const FIRST_HINTS: usize = 64;
@@ -183,15 +184,10 @@ fn end_of_block(checked: &Checked<'_>, first: u32) -> u32 {
 }
 
 /// How much of a block an action is, by what it reads.
-fn weight(action: Option<&Action>) -> u64 {
-    match action {
-        Some(
-            Action {
-                kind: Kind::Piece { length, .. },
-                ..
-            },
-        ) => LEAST_WEIGHT.max(*length),
-        _ => LEAST_WEIGHT,
+fn weight(action: Option<&PackedAction>) -> u64 {
+    match action.map(|action| action.kind()) {
+        Some(KindRef::Piece { length, .. }) => LEAST_WEIGHT.max(length),
+        Some(KindRef::Commit { .. } | KindRef::Mark { .. }) | None => LEAST_WEIGHT,
     }
 }
 

@@ -14,7 +14,8 @@ use std::alloc::{AllocError, Global};
 use ts_board::Closed;
 use ts_board::calls::{DONE, FAILED};
 use ts_check::Checked;
-use ts_model::plan::{Kind, Plan};
+use ts_model::packed::KindRef;
+use ts_model::plan::Plan;
 use ts_print::Print;
 use ts_site::Site;
 
@@ -103,7 +104,7 @@ pub fn commit_count(plan: &Plan) -> usize
 {
     let mut count = 0;
     for action in plan.actions.as_slice() {
-        if let Kind::Commit { entry: _ } = action.kind {
+        if let KindRef::Commit { entry: _ } = action.kind() {
             count += 1;
         }
     }

@@ -3,12 +3,14 @@ ghost use Rattle.std.specs.Prelude.{◌≡◌, ◌<◌, length};
 ghost use Rattle.ts_exec.specs.Failures.{IsCopied, IsOfSource};
 ghost use Rattle.ts_board.specs.Calls.{plan_of};
 ghost use Rattle.ts_check.specs.Checkup.{snapshot_of};
+ghost use Rattle.ts_model.specs.Packed.{kind_lent};
 ghost use Rattle.ts_model.specs.Plans.{EntryIs, KindIs, Valid};
 
 use std::alloc::Global;
 use ts_board::Board;
 use ts_check::Checked;
-use ts_model::plan::{Entry, Kind, Side};
+use ts_model::packed::KindRef;
+use ts_model::plan::{Entry, Side};
 use ts_site::Site;
 
 /// What all workers share: the checked plan, its board, the folders that pieces are read from, the stage that keeps what they
@@ -30,11 +32,11 @@ pub struct Shared<'a, 'b, S: Site, F, G, P> {
 
 impl<'a, 'b, S: Site, F, G, P> Shared<'a, 'b, S, F, G, P> {
     /// What an action does.
-    pub fn kind(&self, i: u32) -> &'a Kind
+    pub fn kind(&self, i: u32) -> KindRef<'a>
         requires { i < length self.now.checked.now.plan.actions }
-        ensures { KindIs self.now.checked.now.plan i result.now }
+        ensures { KindIs self.now.checked.now.plan i (kind_lent result) }
     {
-        &self.checked.plan().actions.as_slice()[i as usize].kind
+        self.checked.plan().actions.as_slice()[i as usize].kind()
     }
 
     /// A copied entry.

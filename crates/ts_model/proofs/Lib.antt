@@ -6,3 +6,4 @@ pub mod Rows
 pub mod Told
 pub mod Listings
 pub mod Deciding
+pub mod Lent

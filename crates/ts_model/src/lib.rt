@@ -4,6 +4,7 @@
 pub mod hold;
 pub mod items;
 pub mod lists;
+pub mod packed;
 pub mod plan;
 pub mod predecessors;
 pub mod row;

@@ -1,8 +1,10 @@
 ghost use Rattle.std.specs.Prelude.{◌≡◌};
+ghost use Rattle.ts_model.specs.Packed.{kind_lent};
 ghost use Rattle.ts_model.specs.Plans.{is_from, other, rule_number, source};
 ghost use Rattle.ts_model.specs.Sync.{is_skipped, treatment};
 
 use crate::items::Items;
+use crate::packed::{KindRef, PackedAction};
 use crate::predecessors::Predecessors;
 use ts_name::Path;
 
@@ -149,6 +151,29 @@ pub enum Kind {
     },
 }
 
+impl Kind {
+    /// The same, lent.
+    pub fn lend(&self) -> KindRef<'_>
+        ensures { kind_lent result ≡ self.entry.now }
+    {
+        match self {
+            Kind::Piece {
+                entry,
+                offset,
+                length,
+                path,
+            } => KindRef::Piece {
+                entry: *entry,
+                offset: *offset,
+                length: *length,
+                path,
+            },
+            Kind::Commit { entry } => KindRef::Commit { entry: *entry },
+            Kind::Mark { entry } => KindRef::Mark { entry: *entry },
+        }
+    }
+}
+
 /// An action, and the numbers of the actions that it waits for.
 pub struct Action {
     pub kind: Kind,
@@ -166,7 +191,7 @@ impl Drop for Action {
 /// What is to be done about which paths, and in which order.
 pub struct Plan {
     pub entries: Items<Entry>,
-    pub actions: Items<Action>,
+    pub actions: Items<PackedAction>,
 }
 
 impl Drop for Plan {

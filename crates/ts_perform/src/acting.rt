@@ -24,7 +24,8 @@ use ts_check::Checked;
 use ts_command::Pair;
 use ts_disk::{DiskFault, Replica};
 use ts_exec::{ActionResult, Outcome};
-use ts_model::plan::{Action, Entry, Kind, Plan, Reason, Side};
+use ts_model::packed::{KindRef, PackedAction};
+use ts_model::plan::{Entry, Plan, Reason, Side};
 use ts_name::Path;
 use ts_special::Specials;
 
@@ -94,7 +95,7 @@ where
     let to_second = rt.way(rt.alloc(), pair.second, pair.first)?;
     let mut sites = Vec::new(rt.alloc());
     for action in plan.actions.as_slice() {
-        if let Kind::Commit { entry } = action.kind {
+        if let KindRef::Commit { entry } = action.kind() {
             let place = &entries[entry as usize];
             let way = way_of::<R>(&to_first, &to_second, place.reason);
             sites.push(rt.site(rt.alloc(), way, &place.path, entry)?)?;
@@ -190,7 +191,7 @@ pub(crate) fn paths_put<'a>(
 /// The path of the entry that an action has put in place in the replica on this side, if it is a commit that was done there.
 fn path_put<'a>(
     entries: &'a [Entry],
-    action: &Action,
+    action: &PackedAction,
     ended: ActionResult,
     side: Side,
 ) -> Option<&'a Path>
@@ -199,7 +200,7 @@ fn path_put<'a>(
     let ActionResult::Done = ended else {
         return None;
     };
-    let Kind::Commit { entry } = action.kind else {
+    let KindRef::Commit { entry } = action.kind() else {
         return None;
     };
     let entry = entries.get(entry as usize)?;

@@ -13,7 +13,8 @@ use std::alloc::AllocError;
 use ts_cause::Cause;
 use ts_check::Checked;
 use ts_exec::{ActFault, ActionResult, Outcome};
-use ts_model::plan::{Entry, Kind};
+use ts_model::packed::KindRef;
+use ts_model::plan::Entry;
 use ts_name::Path;
 use ts_scan::{Refusal, ScanFault};
 
@@ -63,15 +64,15 @@ fn cause_of_action<R: Machine>(
         return Cause::Unknown;
     };
     let plan = checked.plan();
-    match plan.actions.as_slice()[i as usize].kind {
-        Kind::Commit { .. } => match outcome.take_site(i) {
+    match plan.actions.as_slice()[i as usize].kind() {
+        KindRef::Commit { .. } => match outcome.take_site(i) {
             Some(site) => task.rt.site_cause(&site),
             None => Cause::Unknown,
         },
-        Kind::Piece {
+        KindRef::Piece {
             entry,
             offset,
-            ref path,
+            path,
             ..
         } => match task.rt.stage_cause(stage, entry) {
             Cause::Unknown => match plan.entries.as_slice().get(entry as usize) {
@@ -80,7 +81,7 @@ fn cause_of_action<R: Machine>(
             },
             cause => cause,
         },
-        Kind::Mark { .. } => Cause::Unknown,
+        KindRef::Mark { .. } => Cause::Unknown,
     }
 }
 

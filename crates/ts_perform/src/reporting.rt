@@ -17,7 +17,8 @@ use ts_command::Command;
 use ts_disk::Notice;
 use ts_exec::{ActionResult, ActionResults};
 use ts_explain::{Skipped, push_fault, push_sentence, write_explained};
-use ts_model::plan::{Action, Kind, Plan};
+use ts_model::packed::{KindRef, PackedAction};
+use ts_model::plan::Plan;
 use ts_name::Path;
 use ts_report::{ReportFault, Results, Totals};
 use ts_text::{Sink, TextFault};
@@ -187,7 +188,7 @@ fn report_failure<E: Sink>(
     alloc: Global,
     explain: bool,
     plan: &Plan,
-    action: &Action,
+    action: &PackedAction,
     ended: ActionResult,
     cause: Cause,
     err: &mut E,
@@ -197,18 +198,19 @@ fn report_failure<E: Sink>(
     match ended {
         ActionResult::Done | ActionResult::Blocked(_) | ActionResult::Left => Ok(()),
         ActionResult::Failed(fault) => {
-            let path = path_of(plan, &action.kind);
+            let path = path_of(plan, action);
             write_failure(alloc, explain, fault, cause, path, err)
         }
     }
 }
 
 /// The path of the entry that an action is for.
-fn path_of<'a>(plan: &'a Plan, kind: &Kind) -> Option<&'a Path>
-    ensures { option_copied result ≡ path_for plan.now.entries kind.now }
+fn path_of<'a>(plan: &'a Plan, action: &PackedAction) -> Option<&'a Path>
+    ensures { option_copied result ≡ path_for plan.now.entries action.now.kind }
 {
-    let (Kind::Piece { entry, .. } | Kind::Commit { entry } | Kind::Mark { entry }) = kind;
-    match plan.entries.as_slice().get(*entry as usize) {
+    let (KindRef::Piece { entry, .. } | KindRef::Commit { entry } | KindRef::Mark { entry }) =
+        action.kind();
+    match plan.entries.as_slice().get(entry as usize) {
         Some(entry) => Some(&entry.path),
         None => None,
     }

@@ -22,7 +22,8 @@ use ts_disk::{
     save_plan,
 };
 use ts_exec::ActionResult;
-use ts_model::plan::{Kind, Plan, Side};
+use ts_model::packed::KindRef;
+use ts_model::plan::{Plan, Side};
 use ts_name::Path;
 use ts_text::Sink;
 
@@ -372,7 +373,7 @@ impl<R: Machine> Task<'_, R> {
     ) -> Result<(), DiskFault> {
         let Task { rt, pair, .. } = self;
         for (action, result) in plan.actions.as_slice().iter().zip(results) {
-            if let Kind::Commit { entry } = action.kind
+            if let KindRef::Commit { entry } = action.kind()
                 && let ActionResult::Failed(_) = result
                 && let Some(entry) = plan.entries.as_slice().get(entry as usize)
                 && let Some(from) = entry.reason.source()

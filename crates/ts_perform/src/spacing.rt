@@ -3,7 +3,8 @@ ghost use Rattle.std.specs.Prelude.{◌≡◌, ◌≤◌};
 ghost use Rattle.ts_perform.specs.Spacing.{IsBetween, IsSpacing, bytes_of, size_of};
 
 use ts_check::Checked;
-use ts_model::plan::{Action, Kind, Plan};
+use ts_model::packed::{KindRef, PackedAction};
+use ts_model::plan::Plan;
 
 /// How many bytes all workers copy from one checkpoint to the next: 256 MiB.
 const COPIED: u64 = 268_435_456;
@@ -51,11 +52,11 @@ pub(crate) fn plan_bytes(plan: &Plan) -> u64
 }
 
 /// How many bytes an action copies.
-fn size_of(action: &Action) -> u64
+fn size_of(action: &PackedAction) -> u64
     ensures { result ≡ size_of action.now }
 {
-    match &action.kind {
-        Kind::Piece { length, .. } => *length,
-        Kind::Commit { .. } | Kind::Mark { .. } => 0,
+    match action.kind() {
+        KindRef::Piece { length, .. } => length,
+        KindRef::Commit { .. } | KindRef::Mark { .. } => 0,
     }
 }

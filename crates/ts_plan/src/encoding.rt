@@ -5,7 +5,8 @@ ghost use Rattle.ts_plan.specs.Sends.{Sends, entry_chunk, pred_chunk, action_chu
 
 use crate::fault::PlanFault;
 use std::alloc::{AllocError, Global};
-use ts_model::plan::{Action, Entry, Kind, Plan, Reason};
+use ts_model::packed::{KindRef, PackedAction};
+use ts_model::plan::{Entry, Plan, Reason};
 use ts_text::{Sink, push_decimal, push_word, write_line};
 
 /// The word by which a plan and a report name a reason.
@@ -34,33 +35,33 @@ fn fill_entry(line: &mut Vec<u8>, entry: &Entry) -> Result<(), AllocError>
 }
 
 /// Puts an action's first line in place of what `line` has.
-fn fill_kind(line: &mut Vec<u8>, kind: &Kind) -> Result<(), AllocError>
-    ensures { OnOk result (line.new.items ≡ kind_line kind.now) }
+fn fill_kind(line: &mut Vec<u8>, action: &PackedAction) -> Result<(), AllocError>
+    ensures { OnOk result (line.new.items ≡ kind_line action.now.kind) }
 {
     line.clear();
-    match kind {
-        Kind::Piece {
+    match action.kind() {
+        KindRef::Piece {
             entry,
             offset,
             length,
             path,
         } => {
             line.extend_from_slice(b"piece ")?;
-            push_decimal(line, u64::from(*entry))?;
+            push_decimal(line, u64::from(entry))?;
             line.push(b' ')?;
-            push_decimal(line, *offset)?;
+            push_decimal(line, offset)?;
             line.push(b' ')?;
-            push_decimal(line, *length)?;
+            push_decimal(line, length)?;
             line.push(b' ')?;
             path.write_text(line)
         }
-        Kind::Commit { entry } => {
+        KindRef::Commit { entry } => {
             line.extend_from_slice(b"commit ")?;
-            push_decimal(line, u64::from(*entry))
+            push_decimal(line, u64::from(entry))
         }
-        Kind::Mark { entry } => {
+        KindRef::Mark { entry } => {
             line.extend_from_slice(b"mark ")?;
-            push_decimal(line, u64::from(*entry))
+            push_decimal(line, u64::from(entry))
         }
     }
 }
@@ -104,10 +105,14 @@ fn send_entry<W: Sink>(sink: &mut W, line: &mut Vec<u8>, entry: &Entry) -> Resul
     send(sink, line)
 }
 
-fn send_kind<W: Sink>(sink: &mut W, line: &mut Vec<u8>, kind: &Kind) -> Result<(), PlanFault>
-    ensures { Sends (W.holds sink.old) (W.holds sink.new) (W.failures sink.old) (W.failures sink.new) (kind_line kind.now ++ 10 ∷ []) result }
+fn send_kind<W: Sink>(
+    sink: &mut W,
+    line: &mut Vec<u8>,
+    action: &PackedAction,
+) -> Result<(), PlanFault>
+    ensures { Sends (W.holds sink.old) (W.holds sink.new) (W.failures sink.old) (W.failures sink.new) (kind_line action.now.kind ++ 10 ∷ []) result }
 {
-    if fill_kind(line, kind).is_err() {
+    if fill_kind(line, action).is_err() {
         return Err(PlanFault::OutOfMemory);
     }
     send(sink, line)
@@ -162,19 +167,23 @@ fn send_preds<W: Sink>(sink: &mut W, line: &mut Vec<u8>, preds: &[u32]) -> Resul
     Ok(())
 }
 
-fn send_action<W: Sink>(sink: &mut W, line: &mut Vec<u8>, action: &Action) -> Result<(), PlanFault>
+fn send_action<W: Sink>(
+    sink: &mut W,
+    line: &mut Vec<u8>,
+    action: &PackedAction,
+) -> Result<(), PlanFault>
     ensures { Sends (W.holds sink.old) (W.holds sink.new) (W.failures sink.old) (W.failures sink.new) (action_chunk action.now) result }
 {
-    if let Err(fault) = send_kind(sink, line, &action.kind) {
+    if let Err(fault) = send_kind(sink, line, action) {
         return Err(fault);
     }
-    send_preds(sink, line, action.preds.as_slice())
+    send_preds(sink, line, action.preds())
 }
 
 fn send_actions<W: Sink>(
     sink: &mut W,
     line: &mut Vec<u8>,
-    actions: &[Action],
+    actions: &[PackedAction],
 ) -> Result<(), PlanFault>
     ensures { Sends (W.holds sink.old) (W.holds sink.new) (W.failures sink.old) (W.failures sink.new) (flat_map action_chunk actions.now) result }
 {

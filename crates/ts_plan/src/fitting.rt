@@ -4,7 +4,8 @@ ghost use Rattle.std.specs.Prelude.{IsTrue, ◌≡◌, ◌↔◌, ◌<◌, ◌^�
 ghost use Rattle.ts_model.specs.Texts.{IsPlan, KindFits, PathFits};
 ghost use Rattle.ts_plan.specs.Fitting.{AreActions};
 
-use ts_model::plan::{ACTION_LIMIT, Action, ENTRY_LIMIT, Entry, Kind, PRED_LIMIT, Plan};
+use ts_model::packed::{KindRef, PackedAction};
+use ts_model::plan::{ACTION_LIMIT, ENTRY_LIMIT, Entry, PRED_LIMIT, Plan};
 use ts_name::Path;
 
 /// Whether a path can stand in a plan's text: any can but the root.
@@ -22,22 +23,22 @@ fn entries_fit(entries: &[Entry]) -> bool
 }
 
 /// Whether an action can stand in a plan's text, but for its predecessors: any can but a piece of the root.
-fn kind_fits(kind: &Kind) -> bool
-    ensures { IsTrue result ↔ KindFits kind.now }
+fn kind_fits(action: &PackedAction) -> bool
+    ensures { IsTrue result ↔ KindFits action.now.kind }
 {
-    match kind {
-        Kind::Piece {
+    match action.kind() {
+        KindRef::Piece {
             entry,
             offset,
             length,
             path,
         } => {
             // The types of the numbers bound them.
-            let _numbers = (*entry, *offset, *length);
+            let _numbers = (entry, offset, length);
             path_fits(path)
         }
-        Kind::Commit { entry } | Kind::Mark { entry } => {
-            let _number = *entry;
+        KindRef::Commit { entry } | KindRef::Mark { entry } => {
+            let _number = entry;
             true
         }
     }
@@ -52,13 +53,13 @@ fn pred_count(preds: &[u32]) -> usize
 }
 
 /// Whether each action can stand in a plan's text, and all of them together have no more predecessors than a plan may have.
-fn actions_fit(actions: &[Action]) -> bool
+fn actions_fit(actions: &[PackedAction]) -> bool
     ensures { IsTrue result ↔ AreActions actions.now }
 {
     let mut total: usize = 0;
     for action in actions {
-        let count = pred_count(action.preds.as_slice());
-        if count > PRED_LIMIT - total || !kind_fits(&action.kind) {
+        let count = pred_count(action.preds());
+        if count > PRED_LIMIT - total || !kind_fits(action) {
             return false;
         }
         total += count;

@@ -13,7 +13,8 @@ use crate::progress::Part;
 use std::alloc::Global;
 use std::marker::Model;
 use ts_model::items::Items;
-use ts_model::plan::{ACTION_LIMIT, Action, ENTRY_LIMIT, Entry, Kind, PRED_LIMIT, Plan};
+use ts_model::packed::PackedAction;
+use ts_model::plan::{ACTION_LIMIT, ENTRY_LIMIT, Entry, Kind, PRED_LIMIT, Plan};
 use ts_model::predecessors::Predecessors;
 
 /// Reads the lines of a plan's text, one after another.
@@ -21,9 +22,9 @@ pub struct PlanReader {
     alloc: Global,
     part: Part,
     entries: Vec<Entry>,
-    actions: Vec<Action>,
+    actions: Vec<PackedAction>,
     // the action whose predecessors are being read
-    last: Option<Action>,
+    last: Option<PackedAction>,
     pred_count: usize,
 }
 
@@ -153,10 +154,7 @@ impl PlanReader {
         if self.action_count() >= ACTION_LIMIT {
             return Err(PlanFault::PastLimit);
         }
-        let opened = Action {
-            kind,
-            preds: Predecessors::none(),
-        };
+        let opened = PackedAction::new(self.alloc, kind, Predecessors::none())?;
         self.actions.reserve(1)?;
         if let Some(done) = self.last.replace(opened) {
             self.actions.push(done)?;
@@ -176,7 +174,7 @@ impl PlanReader {
         }
         match self.last.take() {
             Some(mut action) => {
-                let pushed = action.preds.push(self.alloc, number);
+                let pushed = action.push_pred(self.alloc, number);
                 self.last = Some(action);
                 pushed?;
                 self.pred_count += 1;

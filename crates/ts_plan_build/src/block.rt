@@ -5,7 +5,8 @@ ghost use Rattle.ts_plan_build.specs.Planned.{row_count, entry_actions};
 
 use crate::fault::BuildFault;
 use std::alloc::{AllocError, Global};
-use ts_model::plan::{ACTION_LIMIT, Action, Entry, Kind, PIECE_SIZE, Side, Treatment};
+use ts_model::packed::PackedAction;
+use ts_model::plan::{ACTION_LIMIT, Entry, Kind, PIECE_SIZE, Side, Treatment};
 use ts_model::predecessors::Predecessors;
 use ts_model::row::{Content, Row, Stamp};
 use ts_name::Path;
@@ -15,7 +16,7 @@ use ts_print::Print;
 /// nearest new directory above its path.
 pub(crate) fn add_entry(
     alloc: Global,
-    actions: &mut Vec<Action>,
+    actions: &mut Vec<PackedAction>,
     number: u32,
     entry: &Entry,
     above: Option<u32>,
@@ -44,7 +45,7 @@ pub(crate) fn add_entry(
 /// Adds the actions of an entry that is copied, of the rows at its path and below it.
 fn add_copy(
     alloc: Global,
-    actions: &mut Vec<Action>,
+    actions: &mut Vec<PackedAction>,
     entry: u32,
     rows: &[Row<Stamp>],
     above: Option<u32>,
@@ -62,14 +63,14 @@ fn add_copy(
     }
     let to = actions.len() as u32;
     let pieces = Predecessors::of(alloc, numbers(alloc, from, to)?)?;
-    push(actions, Kind::Commit { entry }, pieces)?;
+    push(alloc, actions, Kind::Commit { entry }, pieces)?;
     add_mark(alloc, actions, entry, above, Some(to))
 }
 
 /// Adds the pieces of a file.
 fn add_file(
     alloc: Global,
-    actions: &mut Vec<Action>,
+    actions: &mut Vec<PackedAction>,
     entry: u32,
     path: &Path,
     size: u64,
@@ -89,7 +90,7 @@ fn add_file(
             length: PIECE_SIZE.min(size - offset),
             path,
         };
-        push(actions, kind, Predecessors::none())?;
+        push(alloc, actions, kind, Predecessors::none())?;
     }
     Ok(())
 }
@@ -108,7 +109,7 @@ fn count_pieces(size: u64) -> u64
 /// Adds the mark of an entry, which waits for these two.
 fn add_mark(
     alloc: Global,
-    actions: &mut Vec<Action>,
+    actions: &mut Vec<PackedAction>,
     entry: u32,
     above: Option<u32>,
     commit: Option<u32>,
@@ -125,11 +126,16 @@ fn add_mark(
     if let Some(commit) = commit {
         preds.push(alloc, commit)?;
     }
-    push(actions, Kind::Mark { entry }, preds)
+    push(alloc, actions, Kind::Mark { entry }, preds)
 }
 
 /// Adds an action, where there is room for one more.
-fn push(actions: &mut Vec<Action>, kind: Kind, preds: Predecessors) -> Result<(), BuildFault>
+fn push(
+    alloc: Global,
+    actions: &mut Vec<PackedAction>,
+    kind: Kind,
+    preds: Predecessors,
+) -> Result<(), BuildFault>
     requires { length actions.old.items ≤ action_limit }
     ensures added { OnOk result (actions.new.items ≡ actions.old.items ++ record { kind = kind; preds = preds } ∷ []) }
     ensures limit { OnOk result (length actions.new.items ≤ action_limit) }
@@ -138,7 +144,7 @@ fn push(actions: &mut Vec<Action>, kind: Kind, preds: Predecessors) -> Result<()
     if actions.len() >= ACTION_LIMIT {
         return Err(BuildFault::PastLimit);
     }
-    actions.push(Action { kind, preds })?;
+    actions.push(PackedAction::new(alloc, kind, preds)?)?;
     Ok(())
 }
 

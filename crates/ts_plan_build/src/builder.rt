@@ -12,7 +12,8 @@ use crate::block::add_entry;
 use crate::fault::BuildFault;
 use std::alloc::{AllocError, Global};
 use ts_model::items::Items;
-use ts_model::plan::{ACTION_LIMIT, Action, ENTRY_LIMIT, Entry, Plan, Reason, Side};
+use ts_model::packed::PackedAction;
+use ts_model::plan::{ACTION_LIMIT, ENTRY_LIMIT, Entry, Plan, Reason, Side};
 use ts_name::Path;
 use ts_print::Print;
 
@@ -66,7 +67,7 @@ fn actions_of(
     first: &Print,
     second: &Print,
     entries: &[Entry],
-) -> Result<Vec<Action>, BuildFault>
+) -> Result<Vec<PackedAction>, BuildFault>
     requires limit { length entries.now ≤ entry_limit }
     requires ascending { AreOrdered entries.now }
     ensures built { IfOk result (λ actions. IsBuilt first.now second.now entries.now actions.items (length entries.now)) }

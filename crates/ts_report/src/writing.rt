@@ -11,7 +11,8 @@ use crate::fate::Fate;
 use crate::fault::ReportFault;
 use crate::results::{Ending, Results};
 use std::alloc::Global;
-use ts_model::plan::{Action, Entry, Kind, Plan};
+use ts_model::packed::{KindRef, PackedAction};
+use ts_model::plan::{Entry, Plan};
 use ts_plan::reason_word;
 use ts_text::field::{push_decimal, push_word};
 use ts_text::write::write_line;
@@ -88,7 +89,7 @@ pub fn write_fates<W: Sink>(
 fn find_fates<E: Results>(
     alloc: Global,
     entries: &[Entry],
-    actions: &[Action],
+    actions: &[PackedAction],
     results: &E,
 ) -> Result<Vec<Fate>, ReportFault>
     requires limit { length actions.now ≤ action_limit }
@@ -99,32 +100,27 @@ fn find_fates<E: Results>(
     let mut fates = first_fates(alloc, entries)?;
     for (i, action) in actions.iter().enumerate() {
         let ending = results.ending(i as u32);
-        settle(
-            &mut fates,
-            own_entry(&action.kind),
-            marks(&action.kind),
-            ending,
-        );
+        settle(&mut fates, own_entry(action), marks(action), ending);
     }
     Ok(fates)
 }
 
 /// The entry that an action is for.
-fn own_entry(kind: &Kind) -> u32
-    ensures { result ≡ entry_of kind.now }
+fn own_entry(action: &PackedAction) -> u32
+    ensures { result ≡ entry_of action.now.kind }
 {
-    match kind {
-        Kind::Piece { entry, .. } | Kind::Commit { entry } | Kind::Mark { entry } => *entry,
+    match action.kind() {
+        KindRef::Piece { entry, .. } | KindRef::Commit { entry } | KindRef::Mark { entry } => entry,
     }
 }
 
 /// Whether an action is a mark.
-fn marks(kind: &Kind) -> bool
-    ensures { result ≡ is_mark kind.now }
+fn marks(action: &PackedAction) -> bool
+    ensures { result ≡ is_mark action.now.kind }
 {
-    match kind {
-        Kind::Piece { .. } | Kind::Commit { .. } => false,
-        Kind::Mark { .. } => true,
+    match action.kind() {
+        KindRef::Piece { .. } | KindRef::Commit { .. } => false,
+        KindRef::Mark { .. } => true,
     }
 }
 

@@ -9,7 +9,8 @@ ghost use Rattle.ts_through.specs.Parts.{AreLaid, ArePlaced, KeepsOthers, paths_
 
 use std::alloc::{AllocError, Global};
 use std::mem;
-use ts_model::plan::{Entry, Kind, Plan, Side};
+use ts_model::packed::KindRef;
+use ts_model::plan::{Entry, Plan, Side};
 use ts_name::Path;
 use ts_site::MemSite;
 use ts_tree::{Frame, SubTree, Tree};
@@ -95,7 +96,7 @@ pub(crate) fn sites(
 {
     let mut sites = Vec::new(alloc);
     for action in plan.actions.as_slice() {
-        if let Kind::Commit { entry } = action.kind {
+        if let KindRef::Commit { entry } = action.kind() {
             let part = mem::replace(&mut parts[entry as usize], SubTree::absent(alloc));
             sites.push(MemSite::new(part))?;
         }

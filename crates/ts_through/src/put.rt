@@ -11,7 +11,7 @@ ghost use Rattle.ts_through.specs.Parts.{AreBlockedByEarlier, AreTaken, NoneIsLe
 use std::alloc::AllocError;
 use ts_check::Checked;
 use ts_exec::{ActFault, ActionResult, Outcome};
-use ts_model::plan::Kind;
+use ts_model::packed::KindRef;
 use ts_site::MemSite;
 use ts_tree::SubTree;
 
@@ -54,7 +54,7 @@ pub(crate) fn take_parts(
     let _count = checked.action_count();
     let actions = checked.plan().actions.as_slice();
     for (index, action) in actions.iter().enumerate() {
-        if let Kind::Commit { entry } = action.kind {
+        if let KindRef::Commit { entry } = action.kind() {
             if let Some(site) = outcome.take_site(index as u32) {
                 parts[entry as usize] = site.into_content();
             }

@@ -16,7 +16,7 @@ use crate::board::task::{Freed, Seen, Turn};
 use std::alloc::Global;
 use ts_board::{Board, Held, Pass};
 use ts_check::Checked;
-use ts_model::plan::Kind;
+use ts_model::packed::KindRef;
 use ts_site::{Site, SiteFault};
 use ts_stage::{Piece, Staged};
 
@@ -125,7 +125,7 @@ impl<'a, 'b, S: Site> Desk<'a, 'b, S> {
         let Some(action) = actions.get(k as usize) else {
             return;
         };
-        if let Kind::Piece { path, .. } = &action.kind {
+        if let KindRef::Piece { path, .. } = action.kind() {
             if let Ok(true) = staged.has_so_far(self.alloc, path, 0) {
                 let _ = staged.put(self.alloc, path, 0, piece);
             }

@@ -6,7 +6,8 @@ ghost use Rattle.ts_model.specs.declared.plan.Kind.TheVariants as kind;
 use anyhow::Result;
 use std::alloc::{AllocError, Global};
 use ts_model::items::Items;
-use ts_model::plan::{Action, Entry, Kind, Plan, Reason};
+use ts_model::packed::PackedAction;
+use ts_model::plan::{Entry, Kind, Plan, Reason};
 use ts_model::predecessors::Predecessors;
 use ts_name::Path;
 use ts_print::{Print, PrintReader, encode};
@@ -49,28 +50,24 @@ fn piece(entry: u32, path: Path) -> Kind
     }
 }
 
+/// An action that does this and waits for these.
+fn action(alloc: Global, kind: Kind, waits: &[u32]) -> Result<PackedAction, AllocError>
+    ensures { IfOk result (λ made. made ≡ record { kind = kind; preds = waits.now }) }
+{
+    let waits = Vec::from_slice(alloc, waits)?;
+    let preds = Predecessors::of(alloc, waits)?;
+    PackedAction::new(alloc, kind, preds)
+}
+
 /// The actions that copy one new file of one byte: a piece, a commit and a mark.
 #[tactic(auto, unfolding(crate::specs::Worked::worked))]
-fn worked_actions(alloc: Global, path: Path) -> Result<Vec<Action>, AllocError>
+fn worked_actions(alloc: Global, path: Path) -> Result<Vec<PackedAction>, AllocError>
     ensures { IfOk result (λ actions. actions.items ≡ worked path) }
 {
-    let kind = piece(0, path);
-    let commit_waits = Predecessors::of(alloc, vec![in alloc; 0]?)?;
-    let mark_waits = Predecessors::of(alloc, vec![in alloc; 1]?)?;
-    Ok(vec![in alloc;
-        Action {
-            kind,
-            preds: Predecessors::none()
-        },
-        Action {
-            kind: Kind::Commit { entry: 0 },
-            preds: commit_waits
-        },
-        Action {
-            kind: Kind::Mark { entry: 0 },
-            preds: mark_waits
-        },
-    ]?)
+    let stage = action(alloc, piece(0, path), &[])?;
+    let commit = action(alloc, Kind::Commit { entry: 0 }, &[0])?;
+    let mark = action(alloc, Kind::Mark { entry: 0 }, &[1])?;
+    Ok(vec![in alloc; stage, commit, mark]?)
 }
 
 /// The plan that copies one new file of one byte from the first replica.
@@ -87,20 +84,12 @@ pub fn worked_plan(alloc: Global) -> Result<Plan>
 
 /// The actions that delete a file: a commit and a mark.
 #[tactic(auto, unfolding(crate::specs::Worked::removal))]
-fn removal_actions(alloc: Global) -> Result<Vec<Action>, AllocError>
+fn removal_actions(alloc: Global) -> Result<Vec<PackedAction>, AllocError>
     ensures { IfOk result (λ actions. actions.items ≡ removal) }
 {
-    let mark_waits = Predecessors::of(alloc, vec![in alloc; 0]?)?;
-    Ok(vec![in alloc;
-        Action {
-            kind: Kind::Commit { entry: 0 },
-            preds: Predecessors::none()
-        },
-        Action {
-            kind: Kind::Mark { entry: 0 },
-            preds: mark_waits
-        },
-    ]?)
+    let commit = action(alloc, Kind::Commit { entry: 0 }, &[])?;
+    let mark = action(alloc, Kind::Mark { entry: 0 }, &[0])?;
+    Ok(vec![in alloc; commit, mark]?)
 }
 
 /// The plan that deletes a file, as in the first replica.
@@ -117,44 +106,26 @@ pub fn removal_plan(alloc: Global) -> Result<Plan>
 
 /// The actions that make a new directory known, and copy a file of one byte in it in either direction.
 #[tactic(auto, unfolding(crate::specs::Worked::nested))]
-fn nested_actions(alloc: Global, p: Path, q: Path) -> Result<Vec<Action>, AllocError>
+fn nested_actions(alloc: Global, p: Path, q: Path) -> Result<Vec<PackedAction>, AllocError>
     ensures { IfOk result (λ actions. actions.items ≡ nested p q) }
 {
     let first = piece(1, p);
     let second = piece(2, q);
-    let first_commit_waits = Predecessors::of(alloc, vec![in alloc; 1]?)?;
-    let first_mark_waits = Predecessors::of(alloc, vec![in alloc; 0, 2]?)?;
-    let second_commit_waits = Predecessors::of(alloc, vec![in alloc; 4]?)?;
-    let second_mark_waits = Predecessors::of(alloc, vec![in alloc; 0, 5]?)?;
+    let above = action(alloc, Kind::Mark { entry: 0 }, &[])?;
+    let first = action(alloc, first, &[])?;
+    let first_commit = action(alloc, Kind::Commit { entry: 1 }, &[1])?;
+    let first_mark = action(alloc, Kind::Mark { entry: 1 }, &[0, 2])?;
+    let second = action(alloc, second, &[])?;
+    let second_commit = action(alloc, Kind::Commit { entry: 2 }, &[4])?;
+    let second_mark = action(alloc, Kind::Mark { entry: 2 }, &[0, 5])?;
     Ok(vec![in alloc;
-        Action {
-            kind: Kind::Mark { entry: 0 },
-            preds: Predecessors::none()
-        },
-        Action {
-            kind: first,
-            preds: Predecessors::none()
-        },
-        Action {
-            kind: Kind::Commit { entry: 1 },
-            preds: first_commit_waits
-        },
-        Action {
-            kind: Kind::Mark { entry: 1 },
-            preds: first_mark_waits
-        },
-        Action {
-            kind: second,
-            preds: Predecessors::none()
-        },
-        Action {
-            kind: Kind::Commit { entry: 2 },
-            preds: second_commit_waits
-        },
-        Action {
-            kind: Kind::Mark { entry: 2 },
-            preds: second_mark_waits
-        },
+        above,
+        first,
+        first_commit,
+        first_mark,
+        second,
+        second_commit,
+        second_mark,
     ]?)
 }
 

@@ -6,7 +6,8 @@ use anyhow::{Context, Result};
 use std::alloc::Global;
 use ts_hold::Holds;
 use ts_model::items::Items;
-use ts_model::plan::{Action, Entry, Kind, Plan};
+use ts_model::packed::PackedAction;
+use ts_model::plan::{Entry, Kind, Plan};
 use ts_model::predecessors::Predecessors;
 use ts_name::Path;
 use ts_print::{Print, PrintReader};
@@ -102,15 +103,14 @@ fn kind_of(alloc: Global, step: &Step) -> Result<Kind> {
     })
 }
 
-fn action_of(alloc: Global, step: &Step) -> Result<Action> {
+fn action_of(alloc: Global, step: &Step) -> Result<PackedAction> {
     let mut preds = Vec::with_capacity(alloc, step.preds.len())?;
     for pred in &step.preds {
         preds.push(u32::try_from(*pred).context("numbering actions")?)?;
     }
-    Ok(Action {
-        kind: kind_of(alloc, step)?,
-        preds: Predecessors::of(alloc, preds)?,
-    })
+    let kind = kind_of(alloc, step)?;
+    let preds = Predecessors::of(alloc, preds)?;
+    Ok(PackedAction::new(alloc, kind, preds)?)
 }
 
 /// The plan that is meant.

@@ -4,7 +4,7 @@ use anyhow::Result;
 use std::alloc::Global;
 use ts_check::Checked;
 use ts_exec::{ActFault, ActionResult};
-use ts_model::plan::Kind;
+use ts_model::packed::KindRef;
 
 /// What each action is to come to, in order, where the pieces and commits that are flagged fail by their device. An action
 /// is blocked by the least of those it waits for that isn't done.
@@ -32,7 +32,7 @@ pub fn expected(alloc: Global, checked: &Checked<'_>, fails: &[bool]) -> Result<
 pub fn done_marks(checked: &Checked<'_>, results: &[ActionResult]) -> usize {
     let mut count: usize = 0;
     for (action, result) in checked.plan().actions.as_slice().iter().zip(results) {
-        if let Kind::Mark { entry: _ } = action.kind {
+        if let KindRef::Mark { entry: _ } = action.kind() {
             if *result == ActionResult::Done {
                 count = count.saturating_add(1);
             }

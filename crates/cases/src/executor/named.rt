@@ -7,7 +7,8 @@ use ts_check::{Checked, check};
 use ts_exec::{ActionResult, OpenGate, commit_count, run};
 use ts_folder::{Failing, FaultyFolder, MemFolder, Trouble};
 use ts_hold::Holds;
-use ts_model::plan::{Kind, Plan};
+use ts_model::packed::KindRef;
+use ts_model::plan::Plan;
 use ts_name::Path;
 use ts_plan_build::resume;
 use ts_print::Print;
@@ -218,7 +219,7 @@ fn folder(alloc: Global, lines: &[&str], unread: &str) -> Option<FaultyFolder> {
 fn sites(alloc: Global, case: &Case, plan: &Plan) -> Option<Vec<FaultySite>> {
     let mut sites = Vec::new(alloc);
     for (i, action) in plan.actions.as_slice().iter().enumerate() {
-        if let Kind::Commit { entry: _ } = action.kind {
+        if let KindRef::Commit { entry: _ } = action.kind() {
             let site = site(alloc, case, i as u64 == u64::from(case.breaks))?;
             sites.push(site).ok()?;
         }

@@ -12,7 +12,8 @@ use ts_check::{Checked, check};
 use ts_exec::{ActionResult, OpenGate, Outcome, commit_count, run_keeping, run_until};
 use ts_folder::MemFolder;
 use ts_hold::Holds;
-use ts_model::plan::{ACTION_LIMIT, Entry, Kind, Plan, Side};
+use ts_model::packed::KindRef;
+use ts_model::plan::{ACTION_LIMIT, Entry, Plan, Side};
 use ts_name::Path;
 use ts_plan_build::resume;
 use ts_print::Print;
@@ -237,7 +238,7 @@ impl Pair {
     fn sites(&mut self, alloc: Global, plan: &Plan, breaks: u64) -> Result<Vec<FaultySite>> {
         let mut sites = Vec::new(alloc);
         for (i, action) in plan.actions.as_slice().iter().enumerate() {
-            if let Kind::Commit { entry } = action.kind {
+            if let KindRef::Commit { entry } = action.kind() {
                 let entry = entry_at(plan, entry)?;
                 let content = self
                     .replica(target_of(entry)?)
@@ -271,7 +272,7 @@ impl Pair {
         let mut sink = Counted::new(Vec::new(alloc));
         write(alloc, plan, &ended, &mut sink)?;
         for i in 0..checked.action_count() {
-            if let Kind::Commit { entry } = plan.actions.as_slice()[i as usize].kind {
+            if let KindRef::Commit { entry } = plan.actions.as_slice()[i as usize].kind() {
                 let entry = entry_at(plan, entry)?;
                 let site = closed.take_site(i).context("finding a site")?;
                 let tree = self.replica(target_of(entry)?);

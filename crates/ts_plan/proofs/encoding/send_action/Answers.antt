@@ -19,6 +19,6 @@ returns g c =
     let a = g.W.Sink.failures c.args.sink.now in
     let b = g.W.Sink.failures c.send_kind.new.sink in
     let d = g.W.Sink.failures c.send_preds.new.sink in
-    let preds = subst (λ l. Sends {A = Unit {0}} mid new b d (flat_map pred_chunk l) c.send_preds.result) c.as_slice.ensures c.send_preds.ensures in
+    let preds = subst (λ l. Sends {A = Unit {0}} mid new b d (flat_map pred_chunk l) c.send_preds.result) c.preds.ensures c.send_preds.ensures in
     subst (λ z. Sends {A = Unit {0}} old new a d z c.send_preds.result) (sym (action_sent action))
     (sent_after old mid new a b d (kind_line action.kind ++ 10 ∷ []) (flat_map pred_chunk action.preds) c.send_preds.result c.in_default.ensures.0 c.in_default.ensures.1 preds)

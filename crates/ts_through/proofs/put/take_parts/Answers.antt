@@ -1,4 +1,6 @@
 use Rattle.std.proofs.Common.{◌≡◌, ◌+◌, Some, length, refl, set, slice_get, sym, ap, ◌∙◌, subst, arith, rules}
+use Rattle.ts_model.specs.Packed.{kind_lent}
+use Rattle.ts_model.proofs.Lent.{lent_no_commit}
 use Rattle.std.specs.Prelude.{slice_index_or}
 use Rattle.std.specs.Mem.Slots.{slots_items}
 use Rattle.std.proofs.lemmas.Option.{none-some, slice_get-get_or}
@@ -18,7 +20,7 @@ index_mut-requires c =
     let items = c.as_slice-actions.result.now in let n = c.loop-index.index in let action = c.index-actions-index.result in
     let at : slice_get items n ≡ Some action = slice_get-get_or items n action c.loop-index-test.true ∙ ap Some (sym c.index-actions-index.is) in
     let there : slice_get c.args.checked.now.plan.actions n ≡ Some action = subst (λ xs. slice_get xs n ≡ Some action) c.loop-index.invariant.same at in
-    let kind : action.kind ≡ Commit c.in-Commit.entry = search rules in
+    let kind : action.kind ≡ Commit c.in-Commit.entry = sym c.kind.ensures ∙ ap kind_lent c.in-Commit.is in
     let within = c.requires.within n c.in-Commit.entry (action, there, kind) in let count = c.loop-index.invariant.count in omega arith
 
 pub loop-index-preserved : goal.loop-index-preserved
@@ -32,9 +34,9 @@ loop-index-preserved c =
     let at : slice_get c.as_slice-actions.result.now n ≡ Some action = slice_get-get_or c.as_slice-actions.result.now n action c.loop-index-test.true ∙ ap Some (sym c.index-actions-index.is) in
     let kind : KindIs k.plan n action.kind = (action, subst (λ xs. slice_get xs n ≡ Some action) c.loop-index.invariant.same at, refl) in
     let here : site_in (slice_index_or now n Empty) ≡ site_in (slice_index_or slots n Empty) = ap site_in (c.loop-index.invariant.kept n (omega arith)) in
-    elim c.match-action.branch [
+    elim c.match-kind.branch [
       | in-Commit+in-Some w ↦
-          let is : KindIs k.plan n (Commit w.in-Commit.entry) = subst (λ (z : Kind). KindIs k.plan n z) w.in-Commit.is kind in
+          let is : KindIs k.plan n (Commit w.in-Commit.entry) = subst (λ (z : Kind). KindIs k.plan n z) (sym c.kind.ensures ∙ ap kind_lent w.in-Commit.is) kind in
           let within = c.requires.within n w.in-Commit.entry is in
           let count = c.loop-index.invariant.count in
           record {
@@ -66,7 +68,7 @@ loop-index-preserved c =
         kept = λ j less. ap (λ z. slice_index_or (slots_items z.closed.row.slots) j Empty) w.outcome-is ∙ c.loop-index.invariant.kept j (omega arith);
         taken = subst (λ z. AreTakenBelow (n + 1) k.plan slots z) (sym (ap (λ z. z.items) w.parts-is))
             (taken_past (snapshot_of k) k.plan c.plan.ensures.valid slots n parts c.loop-index.invariant.taken
-            (λ e rows is held. w.in_default.not-Commit e (same_kind k.plan n action.kind (Commit e) kind is)));
+            (λ e rows is held. lent_no_commit c.kind.result w.in_default.not-Commit e (c.kind.ensures ∙ same_kind k.plan n action.kind (Commit e) kind is)));
       }
     ]
 

@@ -1,4 +1,5 @@
 use Rattle.std.proofs.Common.{◌≡◌, ℕ, sym, ap, ◌∙◌, subst}
+use Rattle.ts_model.specs.Packed.{kind_lent}
 use Rattle.ts_model.specs.Plans.{KindIs}
 use Rattle.ts_model.specs.Runs.{Run, IsPending, IsPieceOf}
 use Rattle.ts_model.specs.declared.plan.Kind.{Kind}
@@ -18,8 +19,8 @@ returns-in-Piece-clause-ok g c =
     let j = c.args.self.now in let content = g.S.Site.content in let t = terms_of g.S.Site.content j.board.now in
     let a = c.args.held.now.action in let own = mine c.args.pass.now in let now = c.stage.new.held in let plan = j.checked.now.plan in
     let same : now.action ≡ a = c.stage.ensures.action in
-    let p : Kind = Piece c.in-Piece.entry c.in-Piece.offset c.in-Piece.length c.in-Piece.path in
-    let kind : KindIs plan a p = subst (λ (z : ℕ). KindIs plan z p) c.action.ensures (subst (λ (z : Kind). KindIs plan c.action.result z) c.in-Piece.is c.kind.ensures) in
+    let p : Kind = Piece c.in-Piece.entry c.in-Piece.offset c.in-Piece.length c.in-Piece.path.now in
+    let kind : KindIs plan a p = subst (λ (z : ℕ). KindIs plan z p) c.action.ensures (subst (λ (z : Kind). KindIs plan c.action.result z) (ap kind_lent c.in-Piece.is) c.kind.ensures) in
     on_ok_map c.stage.result (IsActed content t now) (HasActed content t own now) c.stage.ensures.ok
     (λ did. (
       did.0,
@@ -43,7 +44,7 @@ returns-in-Mark-clause-ok g c =
     let a = c.args.held.now.action in let own = mine c.args.pass.now in let now = c.mark.new.self in let plan = j.checked.now.plan in
     let same : now.action ≡ a = c.mark.ensures.action in
     let p : Kind = Mark c.in-Mark.entry in
-    let kind : KindIs plan a p = subst (λ (z : ℕ). KindIs plan z p) c.action.ensures (subst (λ (z : Kind). KindIs plan c.action.result z) c.in-Mark.is c.kind.ensures) in (
+    let kind : KindIs plan a p = subst (λ (z : ℕ). KindIs plan z p) c.action.ensures (subst (λ (z : Kind). KindIs plan c.action.result z) (ap kind_lent c.in-Mark.is) c.kind.ensures) in (
       c.mark.ensures.acted,
       (
         subst (λ (z : ℕ). IsPending own z) (sym same) c.requires.held,
@@ -57,15 +58,15 @@ pub returns-in-Piece-clause-told : goal.returns-in-Piece-clause-told
 returns-in-Piece-clause-told g c =
     let j = c.args.self.now in let plan = j.checked.now.plan in let w = work_of c.stage.new.held in
     let x : Setting = setting_of g.S.Site g.F.Folder g.G.Stop g.P.Stage j in
-    let p : Kind = Piece c.in-Piece.entry c.in-Piece.offset c.in-Piece.length c.in-Piece.path in
-    let kind : KindIs plan c.args.held.now.action p = subst (λ (z : ℕ). KindIs plan z p) c.action.ensures (subst (λ (z : Kind). KindIs plan c.action.result z) c.in-Piece.is c.kind.ensures) in
+    let p : Kind = Piece c.in-Piece.entry c.in-Piece.offset c.in-Piece.length c.in-Piece.path.now in
+    let kind : KindIs plan c.args.held.now.action p = subst (λ (z : ℕ). KindIs plan z p) c.action.ensures (subst (λ (z : Kind). KindIs plan c.action.result z) (ap kind_lent c.in-Piece.is) c.kind.ensures) in
     on_ok_map c.stage.result (HasRead x p w) (IsToldWork x (seen c.args.pass.now) c.args.held.now.action w) c.stage.ensures.read (λ h. (p, kind, h))
 
 pub returns-in-Mark-clause-told : goal.returns-in-Mark-clause-told
 returns-in-Mark-clause-told g c =
     let plan = c.args.self.now.checked.now.plan in
     let p : Kind = Mark c.in-Mark.entry in
-    let kind : KindIs plan c.args.held.now.action p = subst (λ (z : ℕ). KindIs plan z p) c.action.ensures (subst (λ (z : Kind). KindIs plan c.action.result z) c.in-Mark.is c.kind.ensures) in (p, kind, tt)
+    let kind : KindIs plan c.args.held.now.action p = subst (λ (z : ℕ). KindIs plan z p) c.action.ensures (subst (λ (z : Kind). KindIs plan c.action.result z) (ap kind_lent c.in-Mark.is) c.kind.ensures) in (p, kind, tt)
 
 pub returns-in-Piece-clause-fault : goal.returns-in-Piece-clause-fault
 returns-in-Piece-clause-fault g c =

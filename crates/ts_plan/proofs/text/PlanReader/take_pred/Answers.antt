@@ -1,4 +1,4 @@
-use Rattle.std.proofs.Common.{◌≤◌, not, length, sum_by, refl, sym, ap, ◌∙◌, arith}
+use Rattle.std.proofs.Common.{◌≤◌, ◌++◌, ◌∷◌, [], not, length, sum_by, refl, sym, ap, ◌∙◌, arith}
 use Rattle.ts_model.specs.declared.plan.Action.{Action}
 use Rattle.ts_plan.specs.Progress.{all_actions}
 use Rattle.ts_plan.specs.Readers.{progress}
@@ -17,5 +17,5 @@ invariant_of-self-in-Some c =
     let taken = c.in-Some.action in
     let last = sym c.take.ensures.value ∙ c.in-Some.is in
     let body = ap (λ v. v.part) c.self.view_is ∙ c.requires.body in
-    pred_progress (progress c.self.inside) taken c.push-pushed.new.self c.args.number c.self.inside.pred_count
-    c.self.invariant.0 body last c.in_ok-pushed-in-Some.ensures.ok (omega arith) c.self.invariant.1 (omega (arith, c.if-self-ge-PRED_LIMIT.false))
+    rw c.in_ok-pushed-in-Some.ensures.ok (pred_progress (progress c.self.inside) taken (taken.preds ++ c.args.number ∷ []) c.args.number c.self.inside.pred_count
+    c.self.invariant.0 body last refl (omega arith) c.self.invariant.1 (omega (arith, c.if-self-ge-PRED_LIMIT.false)))
