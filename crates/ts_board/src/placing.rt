@@ -11,6 +11,24 @@ use std::vec::IntoIter;
 use ts_model::packed::{KindRef, PackedAction};
 use ts_model::plan::Plan;
 
+/// A list of so many slots takes 128 KiB, and so comes from the system and goes back there.
+const MANY_SLOTS: usize = 8_192;
+
+/// For how many slots there is room, where there are many: they take more than 32 MiB. When a list of that size is freed, a C library
+/// doesn't take it as a sign that as much may be kept (`ts_model::lists`). Room that no slot uses takes no memory.
+const MUCH_ROOM: usize = 2_200_000;
+
+/// For how many slots there is room in a list of so many.
+fn room_for(slots: usize) -> usize
+    ensures { slots ≤ result }
+{
+    if slots < MANY_SLOTS {
+        slots
+    } else {
+        slots.max(MUCH_ROOM)
+    }
+}
+
 /// The slot of an action at the start: that of a commit has the next site.
 fn slot_for<S: Drop>(action: &PackedAction, sites: &mut IntoIter<S>) -> Slot<S>
     ensures { (more : List Action) → placed (action.now ∷ more) (into_iter_items sites.old) ≡ result ∷ placed more (into_iter_items sites.new) }
@@ -35,7 +53,7 @@ pub fn slots_with<S: Drop>(
     ensures back { IfErr result (λ back. back.items ≡ sites.items) }
 {
     let actions = plan.actions.as_slice();
-    let Ok(mut slots) = Vec::with_capacity(alloc, actions.len()) else {
+    let Ok(mut slots) = Vec::with_capacity(alloc, room_for(actions.len())) else {
         return Err(sites);
     };
     let mut rest = sites.into_iter();

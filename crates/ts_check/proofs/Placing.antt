@@ -1,10 +1,11 @@
 -- The places of pieces in a map, and the first piece that stands again.
-use Rattle.std.proofs.Common.{◌≡◌, ◌⊎◌, cond, ℕ, zero, suc, List, [], ◌∷◌, Contains, ap₂, ◌+◌, ◌<◌, ◌≤◌, Bool, true, false, length, Option, Some, None, is_some, slice_get, sym, refl, ap, ◌∙◌, subst, inl, inr, arith}
+use Rattle.std.proofs.Common.{◌≡◌, ◌⊎◌, cond, ℕ, zero, suc, List, [], ◌∷◌, Contains, ap₂, ◌+◌, ◌-◌, ◌++◌, ◌<◌, ◌≤◌, Bool, true, false, length, length-append, Option, Some, None, is_some, slice_get, sym, refl, ap, ◌∙◌, subst, inl, inr, arith}
 use Rattle.std.specs.Ordering.{is_eq}
 use Rattle.rayon.specs.Numbers.{nat_range}
 use Rattle.std.specs.BTreeMap.{BTreeMap, get, Updates, IsEmpty}
 use Rattle.std.specs.List.{AllZip, filter_map, range_with_len}
-use Rattle.std.proofs.lemmas.Bool.{cases_eq, false≢true}
+use Rattle.std.proofs.lemmas.Bool.{cases_eq, cases_lt, false≢true}
+use Rattle.std.proofs.lemmas.List.Elements.{Contains-append_cases, Contains-append_left, Contains-append_right}
 use Rattle.std.proofs.lemmas.Map.Views.{Contains-from_lookup}
 use Rattle.std.proofs.lemmas.Option.{none-some, same_Some, slice_get_within}
 use Rattle.ts_name.specs.Paths.{Path}
@@ -21,7 +22,7 @@ use Rattle.ts_check.proofs.Scans.{same_kind}
 use Rattle.ts_check.proofs.Succeeding.{contains_cons, contains_tail, contains_none}
 use Rattle.ts_check.proofs.Rowed.{file_row, one_row}
 use Rattle.ts_check.proofs.Staging.{IsPieceOf-from, one_source, source_lists, same_piece}
-use Rattle.ts_check.specs.Pieces.{on_side, IsSourceOf, IsPieceIn, IsRowOf, IsUnlawful, IsAgain, NotEachOnce, IsPlaceOf, IsPlacing, IsStagedMap, IsMapOfAll, ArePlaces, AreInOrder, Place, place_cmp, staged_at}
+use Rattle.ts_check.specs.Pieces.{on_side, IsSourceOf, IsPieceIn, IsRowOf, IsUnlawful, IsAgain, NotEachOnce, IsPlaceOf, IsPlacing, IsStagedMap, IsMapOfAll, ArePlaces, ArePlacesBetween, AreInOrder, Place, place_cmp, staged_at}
 use Rattle.ts_name.specs.Laws.{is_eq_Equal}
 
 -- what a map has at a place after another was put in
@@ -295,12 +296,48 @@ module _ (xs ys : Listing Stamp) (plan : Plan) where
   few_from a (suc n) (None ∷ os) zip = let h = few_from (a + 1) n os zip.1 in omega arith
   few_from a (suc n) (Some x ∷ os) zip = let h = few_from (a + 1) n os zip.1 in omega arith
 
-  pub are_places : (start end : ℕ) (ns : List ℕ) (os : List (Option (Place × ℕ))) (staged : List (Place × ℕ)) → (start ≡ 0) × (end ≡ length plan.actions) → ns ≡ nat_range start end → AllZip (IsPlacing xs ys plan) ns os → staged ≡ filter_map (λ o. o) os → ArePlaces xs ys plan staged
-  are_places start end ns os staged ends range zip is =
-      let whole : ns ≡ range_with_len 0 (length plan.actions) = range ∙ ap₂ range_with_len ends.0 (let low = ends.0 in let high = ends.1 in omega arith) in
-      let moved : AllZip (IsPlacing xs ys plan) (range_with_len 0 (length plan.actions)) os = subst (λ z. AllZip (IsPlacing xs ys plan) z os) whole zip in
+  pub are_places_between : (from to start end : ℕ) (ns : List ℕ) (os : List (Option (Place × ℕ))) (staged : List (Place × ℕ)) → from ≤ to → (start ≡ from) × (end ≡ to) → ns ≡ nat_range start end → AllZip (IsPlacing xs ys plan) ns os → staged ≡ filter_map (λ o. o) os → ArePlacesBetween xs ys plan from to staged
+  are_places_between from to start end ns os staged between ends range zip is =
+      let whole : ns ≡ range_with_len from (to - from) = range ∙ ap₂ range_with_len ends.0 (let low = ends.0 in let high = ends.1 in omega arith) in
+      let moved : AllZip (IsPlacing xs ys plan) (range_with_len from (to - from)) os = subst (λ z. AllZip (IsPlacing xs ys plan) z os) whole zip in
       record {
-        each = λ z i h. each_from (range_with_len 0 (length plan.actions)) os moved z i (subst (λ w. Contains w (z, i)) is h);
-        few = subst (λ (w : List (Place × ℕ)). length w ≤ length plan.actions) (sym is) (few_from 0 (length plan.actions) os moved);
-        all = λ i less. subst (λ w. Stands w i) (sym is) (all_from 0 (length plan.actions) os moved i (omega arith) (omega arith));
+        each = λ z i h. each_from (range_with_len from (to - from)) os moved z i (subst (λ w. Contains w (z, i)) is h);
+        few = subst (λ (w : List (Place × ℕ)). from + length w ≤ to) (sym is) (let h = few_from from (to - from) os moved in omega arith);
+        all = λ i low high. subst (λ w. Stands w i) (sym is) (all_from from (to - from) os moved i low (omega arith));
       }
+
+  -- before the first action
+  pub no_places : ArePlacesBetween xs ys plan 0 0 []
+  no_places = record {
+    each = λ z i h. absurd (contains_none (z, i) h);
+    few = omega arith;
+    all = λ i low high. absurd (omega arith);
+  }
+
+  -- the places among some actions, and among those that come next
+  pub more_places : (a b c : ℕ) (some more : List (Place × ℕ)) → ArePlacesBetween xs ys plan a b some → ArePlacesBetween xs ys plan b c more → ArePlacesBetween xs ys plan a c (some ++ more)
+  more_places a b c some more had next = record {
+    each = λ z i h. elim (Contains-append_cases some more (z, i) h) [
+      | inl early ↦ had.each z i early
+      | inr late ↦ next.each z i late
+    ];
+    few = let whole = length-append some more in let front = had.few in let back = next.few in omega arith;
+    all = λ i low high. elim (cases_lt i b) [
+      | inl early ↦ elim (had.all i low early) [
+        | inl h ↦ inl (h.0, Contains-append_left some more (h.0, i) h.1)
+        | inr none ↦ inr none
+      ]
+      | inr late ↦ elim (next.all i late high) [
+        | inl h ↦ inl (h.0, Contains-append_right some more (h.0, i) h.1)
+        | inr none ↦ inr none
+      ]
+    ];
+  }
+
+  -- among all of them
+  pub all_places : (n : ℕ) (staged : List (Place × ℕ)) → n ≡ length plan.actions → ArePlacesBetween xs ys plan 0 n staged → ArePlaces xs ys plan staged
+  all_places n staged count found = record {
+    each = found.each;
+    few = let h = found.few in omega arith;
+    all = λ i less. found.all i (omega arith) (omega arith);
+  }

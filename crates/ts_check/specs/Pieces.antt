@@ -76,6 +76,12 @@ pub record ArePlaces (xs ys : Listing Stamp) (plan : Plan) (staged : List (Place
   pub few : length staged ≤ length plan.actions
   pub all : (i : ℕ) → i < length plan.actions → ((place : Place) × Contains staged (place, i)) ⊎ ((kind : Kind) (place : Place) → KindIs plan i kind → ¬ IsPlaceOf xs ys plan kind place)
 
+-- the same of the actions from one number on and before another
+pub record ArePlacesBetween (xs ys : Listing Stamp) (plan : Plan) (from to : ℕ) (staged : List (Place × ℕ)) : Type 0 where
+  pub each : (place : Place) (i : ℕ) → Contains staged (place, i) → (kind : Kind) × KindIs plan i kind × IsPlaceOf xs ys plan kind place
+  pub few : from + length staged ≤ to
+  pub all : (i : ℕ) → from ≤ i → i < to → ((place : Place) × Contains staged (place, i)) ⊎ ((kind : Kind) (place : Place) → KindIs plan i kind → ¬ IsPlaceOf xs ys plan kind place)
+
 -- what stands at each place: the number of its piece among the first n actions
 pub record IsStagedMap (xs ys : Listing Stamp) (plan : Plan) (n : ℕ) (staged : List (Place × ℕ)) : Type 0 where
   pub found : (place : Place) (i : ℕ) → staged_at staged place ≡ Some i → (i < n) × ((kind : Kind) × KindIs plan i kind × IsPlaceOf xs ys plan kind place)

@@ -2,7 +2,7 @@
 
 ghost use Rattle.std.specs.BTreeMap.{IsOrdered};
 ghost use Rattle.std.specs.Prelude.{◌≡◌, ◌≤◌, ◌<◌, ◌↔◌, ℕ, length, is_some, IsTrue, IfSome, IfNone, IfOk, IfErr, Some};
-ghost use Rattle.ts_check.specs.Pieces.{ArePlaces, AreInOrder, IsListOfAll, IsMapOfAll, IsPlaceOf, IsPlacing, IsUnlawful, NotEachOnce, Place, place_cmp, staged_at};
+ghost use Rattle.ts_check.specs.Pieces.{ArePlaces, ArePlacesBetween, AreInOrder, IsListOfAll, IsMapOfAll, IsPlaceOf, IsPlacing, IsUnlawful, NotEachOnce, Place, place_cmp, staged_at};
 ghost use Rattle.ts_check.specs.Places.{IsFirst, Never};
 ghost use Rattle.ts_model.specs.Plans.{action_limit};
 ghost use Rattle.ts_model.specs.Trees.{IsListing};
@@ -74,7 +74,38 @@ fn placed(
     Some((place, i as u32))
 }
 
-/// The place of each piece, in the order of the actions. Several threads look for them.
+/// How many actions are looked at in one go.
+const BLOCK: usize = 65_536;
+
+/// The place of each piece among the actions from one number on and before another, in their order. Several threads look for them.
+fn places_between(
+    rt: &(impl Threads + Sync),
+    alloc: Global,
+    plan: &Plan,
+    first: &[Row<Stamp>],
+    second: &[Row<Stamp>],
+    from: usize,
+    to: usize,
+) -> Result<Staged, AllocError>
+    requires first { IsListing first.now }
+    requires second { IsListing second.now }
+    requires few { length plan.now.actions ≤ action_limit }
+    requires between { from ≤ to }
+    ensures { IfOk result (λ staged. ArePlacesBetween first.now second.now plan.now from to staged.items) }
+{
+    (from..to)
+        .into_par_iter()
+        .filter_map(
+            |i: usize| -> Option<(Place, u32)>
+                requires { IsListing first.now × IsListing second.now × (length plan.now.actions ≤ action_limit) }
+                ensures { IsPlacing first.entry.now second.entry.now plan.entry.now i result }
+            { placed(plan, first, second, i) },
+        )
+        .collect(rt, alloc)
+}
+
+/// The place of each piece, in the order of the actions. The threads look at one block of them after another, so that no long list
+/// of theirs is freed: a C library would keep the memory of lists as long from then on (`ts_model::lists`).
 fn places(
     rt: &(impl Threads + Sync),
     alloc: Global,
@@ -88,15 +119,15 @@ fn places(
     ensures { IfOk result (λ staged. ArePlaces first.now second.now plan.now staged.items) }
 {
     let count = plan.actions.as_slice().len();
-    (0..count)
-        .into_par_iter()
-        .filter_map(
-            |i: usize| -> Option<(Place, u32)>
-                requires { IsListing first.now × IsListing second.now × (length plan.now.actions ≤ action_limit) }
-                ensures { IsPlacing first.entry.now second.entry.now plan.entry.now i result }
-            { placed(plan, first, second, i) },
-        )
-        .collect(rt, alloc)
+    let mut staged = Vec::with_capacity(alloc, count)?;
+    let mut from = 0;
+    while from < count {
+        let to = from + BLOCK.min(count - from);
+        let mut more = places_between(rt, alloc, plan, first, second, from, to)?;
+        staged.append(&mut more)?;
+        from = to;
+    }
+    Ok(staged)
 }
 
 /// Whether each place comes before the next.

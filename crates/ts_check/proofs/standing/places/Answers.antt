@@ -1,11 +1,16 @@
-use Rattle.std.proofs.Common.{length, ap, ◌∙◌}
-use Rattle.rayon.proofs.ListFacts.{IfOk-then}
-use Rattle.ts_check.proofs.Placing.{are_places}
+use Rattle.std.proofs.Common.{◌+◌, arith, rules, length, ap}
+use Rattle.ts_check.proofs.Placing.{all_places, more_places}
 use Rattle.ts_check.proofs.standing.places.Goals as goal
+
+pub loop-from-preserved : goal.loop-from-preserved
+loop-from-preserved g c =
+    let first = c.args.first.now in let second = c.args.second.now in let plan = c.args.plan.now in let from = c.loop-from.from in
+    record {
+      found = rw c.in_ok-append.ensures.items (more_places first second plan 0 from (from + c.min.result) c.loop-from.staged.items c.in_ok-more.more.items c.loop-from.invariant.found c.in_ok-more.ensures);
+      within = search rules;
+    }
 
 pub returns : goal.returns
 returns g c =
-    let ends = c.into_par_iter.ensures in
-    IfOk-then c.collect.result _ _ c.collect.ensures (λ v h.
-    let chain = rw (c.filter_map.ensures.base, c.filter_map.ensures.f) at h.1 in
-    are_places c.args.first.now c.args.second.now c.args.plan.now _ _ chain.0 chain.1 v.items (ends.0, ends.1 ∙ ap length c.as_slice-count.ensures) chain.2 chain.3 (h.2 ∙ chain.4))
+    let test = c.loop-from-test.false in let within = c.loop-from.invariant.within in
+    all_places c.args.first.now c.args.second.now c.args.plan.now c.loop-from.from c.loop-from.staged.items (let same = ap length c.as_slice-count.ensures in omega arith) c.loop-from.invariant.found
