@@ -1,9 +1,12 @@
-"""How much memory a first sync holds: it doesn't grow with the bytes that are copied, only with the number of paths.
+"""How much memory a sync holds: it doesn't grow with the bytes that are copied, only with the number of paths.
 
 Each set is synced into an empty folder by 1, 4 and 64 workers. The program may hold 64 MiB, and 300 bytes for each path; then both
 folders have to be alike, and nothing of the run may be left beside the lock's folder. It works in the folder that it is run in.
 
-usage: tests/memory.py PROGRAM
+With `--large` it takes another set: nearly as many files in one new directory as a plan can have. After each first sync comes one
+with nothing to do. That takes 9 GiB of room, and isn't part of the gate.
+
+usage: tests/memory.py PROGRAM [--large]
 """
 
 import filecmp
@@ -15,6 +18,7 @@ import sys
 from runs import hold, write_counts
 
 PROGRAM = sys.argv[1]
+IS_LARGE = sys.argv[2:] == ["--large"]
 MIB = 1 << 20
 BASE = 64 * MIB
 EACH = 300
@@ -49,10 +53,17 @@ def many_files(root):
 
 
 def files_at_the_top(root):
-    """So many that the bound isn't kept where each path has a buffer of its own."""
-    for number in range(250_000):
-        write(f"{root}/{number:06}", 128, number)
-    return 250_000
+    """Nearly as many as a plan can have: the bound isn't kept where each action takes 56 bytes."""
+    for number in range(349_000):
+        write(f"{root}/{number:06}", 100, number)
+    return 349_000
+
+
+def files_in_one_directory(root):
+    """Nearly as many as a plan can have."""
+    for number in range(1_040_000):
+        write(f"{root}/new/{number:07}", 100, number)
+    return 1_040_001
 
 
 # The sets by their names.
@@ -60,7 +71,10 @@ SETS = {
     "one file": one_file,
     "one new directory": one_directory,
     "20,000 files in new directories": many_files,
-    "250,000 files at the top": files_at_the_top,
+    "349,000 files at the top": files_at_the_top,
+}
+LARGE_SETS = {
+    "1,040,000 files in one new directory": files_in_one_directory,
 }
 
 
@@ -81,8 +95,17 @@ def alike(first, second):
     return not other and not failed and all(alike(f"{first}/{it}", f"{second}/{it}") for it in seen.common_dirs)
 
 
+def sync(case, paths, workers):
+    """Syncs the two folders, and looks at what was held."""
+    words = ["sync", "first", "second", "archive", "--workers", str(workers), "--quiet"]
+    status, bytes_held = held(words)
+    hold(case, f"status {status}" if status else None)
+    print(f"{case}: {bytes_held / MIB:.1f} of {(BASE + EACH * paths) / MIB:.1f} MiB", flush=True)
+    hold(case, f"{bytes_held / MIB:.1f} MiB were held" if bytes_held > BASE + EACH * paths else None)
+
+
 def main():
-    for name, make in SETS.items():
+    for name, make in (LARGE_SETS if IS_LARGE else SETS).items():
         shutil.rmtree("first", ignore_errors=True)
         os.mkdir("first")
         paths = make("first")
@@ -92,13 +115,13 @@ def main():
             if os.path.exists("archive"):
                 os.remove("archive")
             shutil.rmtree("first/.twosync", ignore_errors=True)
-            status, bytes_held = held(["sync", "first", "second", "archive", "--workers", str(workers), "--quiet"])
             case = f"{name} by {workers}"
-            hold(case, f"status {status}" if status else None)
-            hold(case, f"{bytes_held / MIB:.1f} MiB were held" if bytes_held > BASE + EACH * paths else None)
+            sync(case, paths, workers)
             hold(case, None if alike("first", "second") else "the folders differ")
             left = [it for side in ("first", "second") for it in os.listdir(f"{side}/.twosync")]
             hold(case, f"{left} is left" if left else None)
+            if IS_LARGE:
+                sync(f"{case}, with nothing to do", paths, workers)
     write_counts()
 
 

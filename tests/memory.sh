@@ -1,5 +1,5 @@
 #!/usr/bin/env bash
-# How much memory a first sync holds, whatever the size of what it copies and for every number of workers (tests/memory.py).
+# How much memory a sync holds, whatever the size of what it copies and for every number of workers (tests/memory.py).
 # usage: tests/memory.sh [PROGRAM]
 set -u
 cd "$(dirname "$0")/.." || exit 1
