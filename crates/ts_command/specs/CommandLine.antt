@@ -1,6 +1,7 @@
 -- How the command line is described to clap.
-use Rattle.std.specs.Prelude.{◌≡◌, List, [], ◌∷◌, Some, true, false, codes, pos}
-use Rattle.clap.specs.Words.{App, Rule, Shape, Text, new_rule}
+use Rattle.std.specs.Prelude.{◌≡◌, List, [], ◌∷◌, Some, true, false, codes, pos, IfOk, Result}
+use Rattle.std.specs.declared.alloc.AllocError.{AllocError}
+use Rattle.clap.specs.Words.{App, Rule, Shape, Text, app_of, new_rule}
 use Rattle.clap.specs.Simple.{new_shape}
 use Rattle.clap.specs.declared.builder.command.Command.{Command}
 use Rattle.clap.specs.declared.builder.command.Command.TheViews.{out-Command}
@@ -11,23 +12,21 @@ use Rattle.clap.specs.declared.builder.value_parser.ValueParser.TheVariants as p
 abbrev pub place_rule : Text → Rule
 place_rule id = record (new_rule id) { required = true; parser = Some parser.NonEmptyString }
 
+-- an option: it takes one value, of which more may be said
+abbrev pub option_rule : Text → Rule
+option_rule id = record (new_rule id) { long = Some id; value_names = 1 }
+
 abbrev pub workers_rule : Rule
-workers_rule = record (new_rule (codes "workers")) {
-  long = Some (codes "workers");
-  value_names = 1;
+workers_rule = record (option_rule (codes "workers")) {
   parser = Some (parser.Signed (pos 1) (pos 64));
   defaults = codes "4" ∷ [];
 }
 
 abbrev pub checkpoint_rule : Rule
-checkpoint_rule = record (new_rule (codes "checkpoint")) {
-  long = Some (codes "checkpoint");
-  value_names = 1;
-  parser = Some (parser.Signed (pos 1) (pos 1048576));
-}
+checkpoint_rule = record (option_rule (codes "checkpoint")) { parser = Some (parser.Signed (pos 1) (pos 1048576)) }
 
 abbrev pub holds_rule : Rule
-holds_rule = record (new_rule (codes "holds")) { long = Some (codes "holds"); value_names = 1; parser = Some parser.NonEmptyString }
+holds_rule = record (option_rule (codes "holds")) { parser = Some parser.NonEmptyString }
 
 -- a flag: it takes no value
 abbrev pub flag_rule : Text → Rule
@@ -49,9 +48,17 @@ quiet_rule = flag_rule (codes "quiet")
 abbrev pub IsLocal : Command → Type 0
 IsLocal c = (out-Command c).has_globals ≡ false
 
+-- what was made is this command line, unless memory ran out
+abbrev pub Describes : Result Command AllocError → App → Type 0
+Describes made app = IfOk made (λ c. app_of c ≡ app)
+
 -- a command and what it takes
 abbrev pub taking : Text → List Rule → Shape
 taking name rules = record (new_shape name) { rules = rules }
+
+-- the same, as a command line of its own
+abbrev pub alone : Text → List Rule → App
+alone name rules = record { top = taking name rules; subs = [] }
 
 abbrev pub pair_rules : List Rule
 pair_rules = place_rule (codes "FIRST") ∷ place_rule (codes "SECOND") ∷ place_rule (codes "ARCHIVE") ∷ holds_rule ∷ hold_special_rule ∷ workers_rule
@@ -84,7 +91,7 @@ scan_shape = taking (codes "scan") (place_rule (codes "DIR") ∷ workers_rule �
 abbrev pub show_shape : Shape
 show_shape = taking (codes "show") (place_rule (codes "ARCHIVE") ∷ explain_rule ∷ [])
 
--- the command line before its subcommands, with those that work on no pair, with those that make or check a plan, and with `preview`, too
+-- the command line before its subcommands, and with those that change nothing
 abbrev pub line_head : App
 line_head = record {
   top = record (new_shape (codes "twosync")) {
@@ -95,20 +102,8 @@ line_head = record {
   subs = [];
 }
 
-abbrev pub single_line : App
-single_line = record {
-  top = record line_head.top { is_leaf = false };
-  subs = trial_shape ∷ scan_shape ∷ show_shape ∷ [];
-}
-
-abbrev pub planning_line : App
-planning_line = record {
-  top = record line_head.top { is_leaf = false };
-  subs = trial_shape ∷ scan_shape ∷ show_shape ∷ taking (codes "plan") pair_rules ∷ taking (codes "check") planned_pair_rules ∷ [];
-}
-
-abbrev pub previewing_line : App
-previewing_line = record {
+abbrev pub looking_line : App
+looking_line = record {
   top = record line_head.top { is_leaf = false };
   subs = trial_shape ∷ scan_shape ∷ show_shape ∷ taking (codes "plan") pair_rules ∷ taking (codes "check") planned_pair_rules
       ∷ taking (codes "preview") previewed_pair_rules ∷ [];

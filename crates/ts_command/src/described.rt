@@ -1,14 +1,18 @@
 //! The command line as clap reads it, with its help.
 ghost use Rattle.std.specs.Prelude.{◌≡◌, [], false, codes, IfOk};
 ghost use Rattle.clap.specs.Words.{app_of, rule_of};
-ghost use Rattle.ts_command.specs.CommandLine.{IsLocal, checkpoint_rule, command_line, explain_rule, flag_rule, hold_special_rule, holds_rule};
-ghost use Rattle.ts_command.specs.CommandLine.{json_rule, line_head, pair_rules, place_rule, quiet_rule};
-ghost use Rattle.ts_command.specs.CommandLine.{planned_pair_rules, planning_line, previewed_pair_rules, previewing_line, run_rules};
-ghost use Rattle.ts_command.specs.CommandLine.{scan_shape, show_shape, single_line, sync_rules, taking, trial_shape, workers_rule};
+ghost use Rattle.ts_command.specs.CommandLine.{Describes, IsLocal, alone, checkpoint_rule, command_line, explain_rule, flag_rule, hold_special_rule, holds_rule};
+ghost use Rattle.ts_command.specs.CommandLine.{json_rule, looking_line, option_rule, pair_rules, place_rule, planned_pair_rules};
+ghost use Rattle.ts_command.specs.CommandLine.{previewed_pair_rules, quiet_rule, run_rules, scan_shape, show_shape, sync_rules, trial_shape, workers_rule};
 
+use crate::draft::Draft;
 use clap::builder::ValueParser;
 use clap::{Arg, ArgAction, Command, value_parser};
 use std::alloc::{AllocError, Global};
+
+/// What stands above the list of commands.
+const ABOUT: &str =
+    "Keeps two folders alike, by plans that are checked before they are carried out";
 
 /// What stands below the list of commands.
 const EXAMPLE: &str = "\
@@ -67,17 +71,25 @@ fn place<'a>(alloc: Global, name: &'a str, help: &'a str) -> Arg<'a>
         .help(help)
 }
 
+/// An option, whose value has a name in the help.
+fn option<'a>(alloc: Global, name: &'a str, value: &'a str, help: &'a str) -> Arg<'a>
+    ensures rule { rule_of result ≡ option_rule name.now }
+    ensures local { result.global ≡ false }
+{
+    Arg::new(alloc, name)
+        .long(name)
+        .value_name(value)
+        .help(help)
+}
+
 /// `--workers`.
 fn workers<'a>(alloc: Global) -> Arg<'a>
     ensures rule { rule_of result ≡ workers_rule }
     ensures local { result.global ≡ false }
 {
-    Arg::new(alloc, "workers")
-        .long("workers")
-        .value_name("N")
+    option(alloc, "workers", "N", "How many threads work, 1 to 64")
         .value_parser(value_parser!(u32).range(1..=64))
         .default_value("4")
-        .help("How many threads work, 1 to 64")
 }
 
 /// `--checkpoint`.
@@ -85,11 +97,8 @@ fn checkpoint<'a>(alloc: Global) -> Arg<'a>
     ensures rule { rule_of result ≡ checkpoint_rule }
     ensures local { result.global ≡ false }
 {
-    Arg::new(alloc, "checkpoint")
-        .long("checkpoint")
-        .value_name("N")
-        .value_parser(value_parser!(u32).range(1..=1048576))
-        .help("Writes the archive after each N actions of a thread, too, 1 to 1048576")
+    let help = "Writes the archive after each N actions of a thread, too, 1 to 1048576";
+    option(alloc, "checkpoint", "N", help).value_parser(value_parser!(u32).range(1..=1048576))
 }
 
 /// `--holds`.
@@ -97,11 +106,8 @@ fn holds<'a>(alloc: Global) -> Arg<'a>
     ensures rule { rule_of result ≡ holds_rule }
     ensures local { result.global ≡ false }
 {
-    Arg::new(alloc, "holds")
-        .long("holds")
-        .value_name("FILE")
-        .value_parser(ValueParser::NonEmptyString)
-        .help("Rules, one a line: `path /a/b` or `name *.o`. What they name stays untouched")
+    let help = "Rules, one a line: `path /a/b` or `name *.o`. What they name stays untouched";
+    option(alloc, "holds", "FILE", help).value_parser(ValueParser::NonEmptyString)
 }
 
 /// A flag: a word that takes no value.
@@ -151,25 +157,18 @@ fn quiet<'a>(alloc: Global) -> Arg<'a>
 
 /// The subcommand of this name, with FIRST, SECOND, ARCHIVE, `--holds`, `--hold-special`, `--workers`, `--explain` and
 /// `--quiet`, and an example of it.
-fn on_pair<'a>(
-    alloc: Global,
-    name: &'a str,
-    about: &'a str,
-    example: &'a str,
-) -> Result<Command<'a>, AllocError>
-    ensures shape { IfOk result (λ c. app_of c ≡ record { top = taking name.now pair_rules; subs = [] }) }
-    ensures local { IfOk result IsLocal }
+fn on_pair<'a>(alloc: Global, name: &'a str, about: &'a str, example: &'a str) -> Draft<'a>
+    ensures shape { Describes result.command (alone name.now pair_rules) }
+    ensures local { IfOk result.command IsLocal }
 {
-    Command::new(alloc, name)
-        .about(about)
-        .after_help(example)
-        .arg(place(alloc, "FIRST", "A folder"))?
-        .arg(place(alloc, "SECOND", "The other folder"))?
-        .arg(place(alloc, "ARCHIVE", "What both had in common"))?
-        .arg(holds(alloc))?
-        .arg(hold_special(alloc))?
-        .arg(workers(alloc))?
-        .arg(explain(alloc))?
+    Draft::new(alloc, name, about, example)
+        .arg(place(alloc, "FIRST", "A folder"))
+        .arg(place(alloc, "SECOND", "The other folder"))
+        .arg(place(alloc, "ARCHIVE", "What both had in common"))
+        .arg(holds(alloc))
+        .arg(hold_special(alloc))
+        .arg(workers(alloc))
+        .arg(explain(alloc))
         .arg(quiet(alloc))
 }
 
@@ -179,126 +178,106 @@ fn on_pair_with_plan<'a>(
     name: &'a str,
     about: &'a str,
     example: &'a str,
-) -> Result<Command<'a>, AllocError>
-    ensures shape { IfOk result (λ c. app_of c ≡ record { top = taking name.now planned_pair_rules; subs = [] }) }
-    ensures local { IfOk result IsLocal }
+) -> Draft<'a>
+    ensures shape { Describes result.command (alone name.now planned_pair_rules) }
+    ensures local { IfOk result.command IsLocal }
 {
-    on_pair(alloc, name, about, example)?.arg(place(alloc, "PLAN", "A plan, as `plan` prints it"))
+    on_pair(alloc, name, about, example).arg(place(alloc, "PLAN", "A plan, as `plan` prints it"))
 }
 
-/// The same, with `--json`.
-fn on_previewed_pair<'a>(
-    alloc: Global,
-    name: &'a str,
-    about: &'a str,
-    example: &'a str,
-) -> Result<Command<'a>, AllocError>
-    ensures shape { IfOk result (λ c. app_of c ≡ record { top = taking name.now previewed_pair_rules; subs = [] }) }
-    ensures local { IfOk result IsLocal }
+/// The subcommand that shows what `sync` would do.
+fn preview<'a>(alloc: Global) -> Draft<'a>
+    ensures shape { Describes result.command (alone (codes "preview") previewed_pair_rules) }
+    ensures local { IfOk result.command IsLocal }
 {
-    on_pair(alloc, name, about, example)?.arg(json(alloc))
+    let about = "Shows what `sync` would do, and changes nothing";
+    on_pair(alloc, "preview", about, PREVIEW_EXAMPLE).arg(json(alloc))
 }
 
 /// The subcommand that answers a bundle.
-fn trial<'a>(alloc: Global) -> Result<Command<'a>, AllocError>
-    ensures shape { IfOk result (λ c. app_of c ≡ record { top = trial_shape; subs = [] }) }
-    ensures local { IfOk result IsLocal }
+fn trial<'a>(alloc: Global) -> Draft<'a>
+    ensures shape { Describes result.command (record { top = trial_shape; subs = [] }) }
+    ensures local { IfOk result.command IsLocal }
 {
-    Command::new(alloc, "trial")
-        .about("Answers a bundle of archive, folders, rules and plan on standard input")
-        .after_help("Example:\n  twosync trial < bundle")
-        .arg(workers(alloc))?
+    let about = "Answers a bundle of archive, folders, rules and plan on standard input";
+    Draft::new(alloc, "trial", about, "Example:\n  twosync trial < bundle")
+        .arg(workers(alloc))
         .arg(explain(alloc))
 }
 
 /// The subcommand that prints what a folder has.
-fn scan<'a>(alloc: Global) -> Result<Command<'a>, AllocError>
-    ensures shape { IfOk result (λ c. app_of c ≡ record { top = scan_shape; subs = [] }) }
-    ensures local { IfOk result IsLocal }
+fn scan<'a>(alloc: Global) -> Draft<'a>
+    ensures shape { Describes result.command (record { top = scan_shape; subs = [] }) }
+    ensures local { IfOk result.command IsLocal }
 {
-    Command::new(alloc, "scan")
-        .about("Prints the archive of a folder as it is now")
-        .after_help("Example:\n  twosync scan ~/notes > notes.archive")
-        .arg(place(alloc, "DIR", "A folder"))?
-        .arg(workers(alloc))?
-        .arg(explain(alloc))?
-        .arg(quiet(alloc))
+    let about = "Prints the archive of a folder as it is now";
+    Draft::new(
+        alloc,
+        "scan",
+        about,
+        "Example:\n  twosync scan ~/notes > notes.archive",
+    )
+    .arg(place(alloc, "DIR", "A folder"))
+    .arg(workers(alloc))
+    .arg(explain(alloc))
+    .arg(quiet(alloc))
 }
 
 /// The subcommand that prints what an archive has.
-fn show<'a>(alloc: Global) -> Result<Command<'a>, AllocError>
-    ensures shape { IfOk result (λ c. app_of c ≡ record { top = show_shape; subs = [] }) }
-    ensures local { IfOk result IsLocal }
+fn show<'a>(alloc: Global) -> Draft<'a>
+    ensures shape { Describes result.command (record { top = show_shape; subs = [] }) }
+    ensures local { IfOk result.command IsLocal }
 {
-    Command::new(alloc, "show")
-        .about("Prints what an archive has, a path a line")
-        .after_help("Example:\n  twosync show ~/.notes.archive")
-        .arg(place(alloc, "ARCHIVE", "An archive"))?
-        .arg(explain(alloc))
+    let about = "Prints what an archive has, a path a line";
+    Draft::new(
+        alloc,
+        "show",
+        about,
+        "Example:\n  twosync show ~/.notes.archive",
+    )
+    .arg(place(alloc, "ARCHIVE", "An archive"))
+    .arg(explain(alloc))
 }
 
 /// The subcommand that carries out a plan.
-fn run<'a>(alloc: Global) -> Result<Command<'a>, AllocError>
-    ensures shape { IfOk result (λ c. app_of c ≡ record { top = taking (codes "run") run_rules; subs = [] }) }
-    ensures local { IfOk result IsLocal }
+fn run<'a>(alloc: Global) -> Draft<'a>
+    ensures shape { Describes result.command (alone (codes "run") run_rules) }
+    ensures local { IfOk result.command IsLocal }
 {
     let about = "Checks a plan, carries it out, and writes the archive";
-    on_pair_with_plan(alloc, "run", about, RUN_EXAMPLE)?.arg(checkpoint(alloc))
+    on_pair_with_plan(alloc, "run", about, RUN_EXAMPLE).arg(checkpoint(alloc))
 }
 
 /// The subcommand that makes a plan and carries it out.
-fn sync<'a>(alloc: Global) -> Result<Command<'a>, AllocError>
-    ensures shape { IfOk result (λ c. app_of c ≡ record { top = taking (codes "sync") sync_rules; subs = [] }) }
-    ensures local { IfOk result IsLocal }
+fn sync<'a>(alloc: Global) -> Draft<'a>
+    ensures shape { Describes result.command (alone (codes "sync") sync_rules) }
+    ensures local { IfOk result.command IsLocal }
 {
     let about = "Plans and runs: makes both folders alike";
-    on_pair(alloc, "sync", about, SYNC_EXAMPLE)?.arg(checkpoint(alloc))
+    on_pair(alloc, "sync", about, SYNC_EXAMPLE).arg(checkpoint(alloc))
 }
 
-/// The command line before its subcommands.
-fn head<'a>(alloc: Global) -> Command<'a>
-    ensures { app_of result ≡ line_head }
+/// The command line with the subcommands that change nothing.
+fn looking<'a>(alloc: Global) -> Draft<'a>
+    ensures { Describes result.command looking_line }
 {
-    Command::new(alloc, "twosync")
-        .about("Keeps two folders alike, by plans that are checked before they are carried out")
-        .version("0.1.0")
-        .after_help(EXAMPLE)
-        .subcommand_required(true)
-        .disable_help_subcommand(true)
-}
-
-/// The command line with the subcommands that work on no pair.
-fn with_single<'a>(alloc: Global) -> Result<Command<'a>, AllocError>
-    ensures { IfOk result (λ c. app_of c ≡ single_line) }
-{
-    let line = head(alloc).subcommand(trial(alloc)?)?;
-    let line = line.subcommand(scan(alloc)?)?;
-    line.subcommand(show(alloc)?)
-}
-
-/// The command line with those that make or check a plan, too.
-fn with_planning<'a>(alloc: Global) -> Result<Command<'a>, AllocError>
-    ensures { IfOk result (λ c. app_of c ≡ planning_line) }
-{
-    let about = "Prints what has to be done to make both folders alike";
-    let line = with_single(alloc)?.subcommand(on_pair(alloc, "plan", about, PLAN_EXAMPLE)?)?;
-    let about = "Says whether a plan is valid for what is there";
-    line.subcommand(on_pair_with_plan(alloc, "check", about, CHECK_EXAMPLE)?)
-}
-
-/// The command line with the one that shows what `sync` would do, too.
-fn with_preview<'a>(alloc: Global) -> Result<Command<'a>, AllocError>
-    ensures { IfOk result (λ c. app_of c ≡ previewing_line) }
-{
-    let about = "Shows what `sync` would do, and changes nothing";
-    let line = with_planning(alloc)?;
-    line.subcommand(on_previewed_pair(alloc, "preview", about, PREVIEW_EXAMPLE)?)
+    let plan = "Prints what has to be done to make both folders alike";
+    let check = "Says whether a plan is valid for what is there";
+    Draft::line(alloc, ABOUT, EXAMPLE)
+        .subcommand(trial(alloc))
+        .subcommand(scan(alloc))
+        .subcommand(show(alloc))
+        .subcommand(on_pair(alloc, "plan", plan, PLAN_EXAMPLE))
+        .subcommand(on_pair_with_plan(alloc, "check", check, CHECK_EXAMPLE))
+        .subcommand(preview(alloc))
 }
 
 /// The whole command line.
 pub(crate) fn described<'a>(alloc: Global) -> Result<Command<'a>, AllocError>
-    ensures { IfOk result (λ c. app_of c ≡ command_line) }
+    ensures { Describes result command_line }
 {
-    let line = with_preview(alloc)?.subcommand(run(alloc)?)?;
-    line.subcommand(sync(alloc)?)
+    looking(alloc)
+        .subcommand(run(alloc))
+        .subcommand(sync(alloc))
+        .command
 }

@@ -2,6 +2,7 @@
 #![tactic(auto)]
 
 pub mod described;
+mod draft;
 pub mod fault;
 pub mod job;
 pub mod reading;

@@ -1,15 +1,6 @@
-use Rattle.std.proofs.Common.{◌∙◌, ap}
-use Rattle.std.proofs.lemmas.Result.{IfOk-weaker}
-use Rattle.clap.specs.Simple.{app_of_fields}
-use Rattle.ts_command.proofs.Lines.{rule_step, local_step}
 use Rattle.ts_command.proofs.described.show.Goals as goal
 
 pub returns-clause-shape : goal.returns-clause-shape
 returns-clause-shape c =
-    let named = rule_step c.in_ok-arg.ensures c.place.ensures.local _ _ (ap app_of_fields c.after_help.ensures ∙ ap app_of_fields c.about.ensures ∙ c.new.ensures.app) c.place.ensures.rule in
-    IfOk-weaker c.arg-2.result _ _ (λ r adds. rule_step adds c.explain.ensures.local _ _ named c.explain.ensures.rule) c.arg-2.ensures
-
-pub returns-clause-local : goal.returns-clause-local
-returns-clause-local c =
-    let named = local_step c.in_ok-arg.ensures c.place.ensures.local (ap (λ f. f.has_globals) c.after_help.ensures ∙ ap (λ f. f.has_globals) c.about.ensures ∙ c.new.ensures.local) in
-    IfOk-weaker c.arg-2.result _ _ (λ r adds. local_step adds c.explain.ensures.local named) c.arg-2.ensures
+    let first = c.arg.ensures.shape _ _ c.place.ensures.rule c.new.ensures.shape in
+    c.arg-2.ensures.shape _ _ c.explain.ensures.rule first

@@ -1,7 +1,7 @@
 use Rattle.std.proofs.Common.{◌∙◌, ap, true}
 use Rattle.clap.specs.Words.{App}
 use Rattle.clap.specs.Simple.{app_of_fields}
-use Rattle.ts_command.proofs.described.head.Goals as goal
+use Rattle.ts_command.proofs.draft.Draft.line.Goals as goal
 
 -- the command line with its settings
 abbrev with_settings : App → App
@@ -9,7 +9,7 @@ with_settings a = record a { top = record a.top { has_version = true; subcommand
 
 pub returns : goal.returns
 returns c =
-    ap app_of_fields c.disable_help_subcommand.ensures
+    ap app_of_fields c.disable_help_subcommand-line.ensures
     ∙ ap (λ f. app_of_fields (record f { disable_help_subcommand = true })) c.subcommand_required.ensures
     ∙ ap (λ f. app_of_fields (record f { subcommand_required = true; disable_help_subcommand = true })) c.after_help.ensures
     ∙ ap (λ f. app_of_fields (record f { subcommand_required = true; disable_help_subcommand = true })) c.version.ensures
