@@ -1,14 +1,14 @@
 #!/usr/bin/env bash
 # Times `twosync sync` beside unison (with full content checks), rclone bisync and rsync, each on folders of its own: a first
 # sync of 20,000 files of 1 to 8 KiB into an empty folder, one with nothing to do, one after a single file changed, and one
-# after 1% of the files changed on each side; and the first two for 8 files of 128 MiB, and for the sets that show whether memory
-# grows with what is copied: one file of 1 GiB, 64 files of 16 MiB as one new directory and at the top, 2,048 files of 512 KiB
-# and 100,000 of 1 KiB as one new directory. rsync copies in one direction and looks at sizes and times alone, so it shows what
-# copying costs. Each number is the median of three runs, taken in turn;
+# after 1% of the files changed on each side; and the first two for as many files in one new directory, for 8 files of 128 MiB,
+# and for the sets that show whether memory grows with what is copied: one file of 1 GiB, 64 files of 16 MiB as one new
+# directory and at the top, 2,048 files of 512 KiB and 100,000 of 1 KiB as one new directory. rsync copies in one direction and
+# looks at sizes and times alone, so it shows what copying costs. Each number is the median of three runs, taken in turn;
 # beside it stands how often longer it is than twosync's; the last column is the most memory that one of its processes held.
 # A tool that isn't installed is left out, with a line that says so. After each run both folders are compared; only where
 # they differ that is said.
-# usage: [RUNS=N] [SMALL=FILES] [LARGE=FILES] [SETS='small large file directory top halves crowd'] tests/compare.sh [PROGRAM]
+# usage: [RUNS=N] [SMALL=FILES] [LARGE=FILES] [SETS='small flat large file directory top halves crowd'] tests/compare.sh [PROGRAM]
 set -u
 cd "$(dirname "$0")/.."
 . tests/program.sh
@@ -16,7 +16,7 @@ program=$(program_of twosync "${1:-}") || exit 1
 runs=${RUNS:-3}
 small=${SMALL:-20000}
 large=${LARGE:-8}
-sets=${SETS:-small large file directory top halves crowd}
+sets=${SETS:-small flat large file directory top halves crowd}
 top=$(mktemp -d)
 trap 'rm -rf "$top"' EXIT
 cd "$top" || exit 1
@@ -32,14 +32,15 @@ done
 may_tell_memory=1
 [ -x /usr/bin/time ] || { may_tell_memory=0; echo 'skipped: memory, since /usr/bin/time is missing'; }
 
-# The files of a directory have one size, and no two files are alike.
+# make_small COUNT FOLDER BETWEEN: files of which a hundred each have one size, and no two are alike: a hundred in a directory
+# where a slash stands between their two numbers, or all in one
 make_small() {
-  local count=$1 number size folder
+  local count=$1 number size
+  mkdir -p "$2"
   for number in $(seq 0 $(((count + 99) / 100 - 1))); do
-    folder=$2/$((number + 1000))
-    mkdir -p "$folder"
+    [ "$3" != / ] || mkdir "$2/$((number + 1000))"
     size=$((1024 + number * 36 % 7168))
-    tail -c +$((number + 1)) pattern | head -c $((size * 100)) | split -b "$size" -d -a 3 - "$folder/"
+    tail -c +$((number + 1)) pattern | head -c $((size * 100)) | split -b "$size" -d -a 3 - "$2/$((number + 1000))$3"
   done
 }
 make_large() {
@@ -143,7 +144,8 @@ openssl enc -aes-128-ctr -pass pass:compare -nosalt -pbkdf2 </dev/zero 2>/dev/nu
 # show SET: makes it, and times it
 show() {
   case $1 in
-    small) make_small "$small" set; table small "$small files of 1 to 8 KiB" ;;
+    small) make_small "$small" set /; table small "$small files of 1 to 8 KiB" ;;
+    flat) make_small "$small" set/new -; table flat "$small files of 1 to 8 KiB in one new directory" ;;
     large) make_large "$large" set; table large "$large files of 128 MiB" ;;
     file) make_equal set 1 67108864; for _ in $(seq 15); do cat pattern >>set/1; done; table file 'one file of 1 GiB' ;;
     directory) make_equal set/new 64 16777216; table directory '64 files of 16 MiB in one new directory' ;;
