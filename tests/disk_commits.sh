@@ -340,11 +340,13 @@ modes() {
     bad "$1: other modes in $2: $(grep '^[<>]' differences | head -n 6 | tr '\n' ' ')"
   fi
 }
-# a_tree PLACE: a tree of several modes, of which three have bits that aren't copied
+# a_tree PLACE: a tree of several modes, of which three have bits that aren't copied, and with a file of several pieces
 a_tree() {
   local name
   mkdir "$1" "$1/closed" "$1/closed/in" "$1/group" "$1/sticky" "$1/shared"
   for name in open own run read closed/in/own group/open suid; do printf a >"$1/$name"; done
+  head -c 2621440 /dev/zero >"$1/large"
+  chmod 640 "$1/large"
   chmod 644 "$1/open" "$1/group/open"
   chmod 600 "$1/own" "$1/closed/in/own"
   chmod 755 "$1/run"
@@ -365,6 +367,7 @@ closed/in 755
 closed/in/own 600
 group 750
 group/open 644
+large 640
 open 644
 own 600
 read 444
@@ -441,7 +444,7 @@ f444 444
 $(modes_of_tree one)
 tree 604"
     alike "$name: other kinds"
-    # what is on its way can be read by nobody else
+    # what is on its way can be read by nobody else: a file may have its source's bits by then, in folders that are shut
     fresh
     chmod 755 first second
     many "$from/f" 1000
@@ -454,7 +457,7 @@ tree 604"
     until_stopped
     got=$(find "$to/.twosync/stage-0" -type f | wc -l)
     holds_true "$name: stopped while it writes ($got files)" test -d "$to/.twosync/stage-0" -a "$got" -gt 0 -a "$got" -lt 1000
-    holds_true "$name: staged files are shut" test -z "$(find "$to/.twosync/stage-0" -type f ! -perm 600)"
+    holds_true "$name: the modes of staged files" test -z "$(find "$to/.twosync/stage-0" -type f ! -perm 600 ! -perm 644)"
     holds_true "$name: staged folders are shut" test -z "$(find "$to/.twosync/stage-0" -type d ! -perm 700)"
     own_mode "$name: while it writes"
     kill -CONT "$child" 2>/dev/null

@@ -1,7 +1,9 @@
 -- Where a run over a pair stores what its pieces read.
+--     root_of first second side             of two replicas' roots, that of the one on this side
 --     root_from first second from           of two replicas' roots, that of the replica that is copied into
 --     IsCopiedTo entry first second root    the replica with this root is the one that the entry is copied into
 --     IsStoredAt entry n root path place    the place of the file at this whole path, which entry n copies
+--     IsSourceOf entry first second path place    the file at this whole path, which the entry copies, is copied from this place
 --     cause_number cause                    the number by which a cause is kept
 --     failure_number failure                the number by which it is kept why an entry failed, where 0 is that it didn't
 use Rattle.std.specs.Prelude.{◌≡◌, ◌++◌, ◌+◌, ℕ, List, Some, codes, decimal}
@@ -14,6 +16,10 @@ use Rattle.ts_model.specs.declared.plan.Entry.{Entry}
 use Rattle.ts_model.specs.declared.plan.Side.{Side}
 use Rattle.ts_model.specs.declared.plan.Side.TheVariants.{First, Second}
 use Rattle.ts_name.specs.Paths.{Path, place_text}
+
+abbrev pub root_of : List ℕ → List ℕ → Side → List ℕ
+root_of first second First = first
+root_of first second Second = second
 
 -- what is copied from one replica goes into the other
 abbrev pub root_from : List ℕ → List ℕ → Side → List ℕ
@@ -31,6 +37,10 @@ IsCopiedTo entry first second root = (from : Side) × (source entry.reason ≡ S
 -- below its stage the file at this whole path stands as it does below the entry's path
 abbrev pub IsStoredAt : Entry → ℕ → List ℕ → Path → List ℕ → Type 0
 IsStoredAt entry number root path place = (rest : Path) × (path ≡ entry.path ++ rest) × (place ≡ stage_text root number ++ place_text rest)
+
+-- of two replicas with these roots it is the one that the entry is copied from, and the file stands at its path there
+abbrev pub IsSourceOf : Entry → List ℕ → List ℕ → Path → List ℕ → Type 0
+IsSourceOf entry first second path place = (from : Side) × (source entry.reason ≡ Some from) × (place ≡ root_of first second from ++ place_text path)
 
 abbrev pub cause_number : Cause → ℕ
 cause_number cause.Unknown = 0

@@ -1,8 +1,8 @@
 //! The stage of a run over a pair on a disk: pieces store what they read in the replica that it is copied into.
-ghost use Rattle.std.specs.Prelude.{◌≡◌, ◌++◌, ℕ, List, IfErr, IfNone, IfOk, IfSome, Some, codes, length};
+ghost use Rattle.std.specs.Prelude.{◌≡◌, ◌≢◌, ◌++◌, ℕ, List, IfErr, IfNone, IfOk, IfSome, Some, codes, length};
 ghost use Rattle.std.specs.String.{string_bytes};
 ghost use Rattle.ts_cause.specs.declared.cause.Cause.{Cause};
-ghost use Rattle.ts_disk.specs.Stages.{IsCopiedTo, IsStoredAt, cause_number, failure_number, root_from, stage_text};
+ghost use Rattle.ts_disk.specs.Stages.{IsCopiedTo, IsSourceOf, IsStoredAt, cause_number, failure_number, root_from, root_of, stage_text};
 ghost use Rattle.ts_disk.specs.declared.stage.Failure.{Failure};
 ghost use Rattle.ts_model.specs.Plans.{source};
 ghost use Rattle.ts_model.specs.declared.plan.Side.{Side};
@@ -11,13 +11,13 @@ ghost use Rattle.ts_name.specs.Paths.{IsAbove};
 use crate::aside::new_buffer;
 use crate::fault::DiskFault;
 use crate::leftover::remove_at;
-use crate::modes::PRIVATE_FILE;
+use crate::modes::{PRIVATE_FILE, permissions_at};
 use crate::place::{Standing, kind_at, make_missing_dir, make_own, own_place, stage_place};
 use std::alloc::{AllocError, Global};
-use std::fs::{File, Files, OpenOptions};
+use std::fs::{File, Files, OpenOptions, Permissions};
 use std::io;
 use std::io::ErrorKind;
-use std::os::unix::fs::{FileExt, OpenOptionsExt};
+use std::os::unix::fs::{FileExt, OpenOptionsExt, PermissionsExt};
 use std::sync::atomic::{AtomicU32, Ordering};
 use ts_cause::{Cause, cause_of};
 use ts_check::Checked;
@@ -192,6 +192,38 @@ impl<R: Drop> DiskStage<R> {
         Ok(Some(StagePlace { own, stage, file }))
     }
 
+    /// Where the file at this whole path is copied from, if it gets that one's permission bits as it is stored. None for the file
+    /// at the top of its entry: the commit gives it its bits, which may be those of the file that it replaces.
+    fn bits_place(
+        &self,
+        alloc: Global,
+        entry: &Entry,
+        path: &Path,
+    ) -> Result<Option<String>, AllocError>
+        ensures source { IfOk result (λ found. IfSome found (λ place.
+            IsSourceOf entry.now (string_bytes self.now.first) (string_bytes self.now.second) path.now (string_bytes place))) }
+        ensures top { IfOk result (λ found. IfSome found (λ _. path.now ≢ entry.now.path)) }
+        ensures none { IfOk result (λ found. IfNone found ((from : Side) → source entry.now.reason ≡ Some from → path.now ≡ entry.now.path)) }
+    {
+        if path == &entry.path {
+            return Ok(None);
+        }
+        let Some(from) = entry.reason.source() else {
+            return Ok(None);
+        };
+        Ok(Some(path.place_below(alloc, self.root_of(from))?))
+    }
+
+    /// The root of the replica on this side.
+    fn root_of(&self, side: Side) -> &str
+        ensures { result.now ≡ root_of (string_bytes self.now.first) (string_bytes self.now.second) side }
+    {
+        match side {
+            Side::First => self.first.as_str(),
+            Side::Second => self.second.as_str(),
+        }
+    }
+
     /// The root of the replica that is copied into, by the one that is copied from.
     fn root_from(&self, from: Side) -> &str
         ensures { result.now ≡ root_from (string_bytes self.now.first) (string_bytes self.now.second) from }
@@ -204,12 +236,14 @@ impl<R: Drop> DiskStage<R> {
 }
 
 impl<R: Files<File = File> + AllocGlobal + Clone + Drop> DiskStage<R> {
-    /// Writes the bytes of a piece to their place. Where they were the last of their file that were missing, it waits until the
-    /// file has reached the device, all that others wrote into it too, and answers what the file then has.
+    /// Writes the bytes of a piece to their place. Where they were the last of their file that were missing, it gives the file its
+    /// permission bits, waits until it has reached the device, all that others wrote into it too, and answers what it then has.
     fn write(
         &self,
         alloc: Global,
         action: u32,
+        entry: &Entry,
+        path: &Path,
         place: &StagePlace,
         offset: u64,
         bytes: &Items<u8>,
@@ -221,8 +255,23 @@ impl<R: Files<File = File> + AllocGlobal + Clone + Drop> DiskStage<R> {
             Turn::Last => read_back(&self.files, alloc, &file)?,
             Turn::Only => stamped(alloc, bytes)?,
         };
+        self.give_bits(alloc, entry, path, &file)?;
         file.sync_all()?;
         Ok(Some(whole))
+    }
+
+    /// Gives a file below the top of its entry the permission bits of the one that it is copied from. Where the file system keeps
+    /// no such bits, it does without.
+    fn give_bits(&self, alloc: Global, entry: &Entry, path: &Path, file: &File) -> io::Result<()> {
+        let Some(source) = self.bits_place(alloc, entry, path)? else {
+            return Ok(());
+        };
+        let found = permissions_at(&self.files, source.as_str(), Standing::File)?;
+        let mode = found.unwrap_or(PRIVATE_FILE);
+        if mode != PRIVATE_FILE {
+            let _ = file.set_permissions(Permissions::from_mode(mode));
+        }
+        Ok(())
     }
 
     /// Stores the bytes of a piece. After a failure the entry's stage is removed by each who comes upon it: so it goes after the
@@ -252,7 +301,7 @@ impl<R: Files<File = File> + AllocGlobal + Clone + Drop> DiskStage<R> {
             }
             Err(AllocError) => return self.give_up(number, Failure::OutOfMemory),
         };
-        let stored = match self.write(alloc, action, &place, offset, bytes) {
+        let stored = match self.write(alloc, action, entry, path, &place, offset, bytes) {
             Ok(whole) if self.failure(number).is_none() => return Ok(whole),
             Ok(_) => Ok(None),
             Err(e) => self.give_up(number, failure_by(&e)),

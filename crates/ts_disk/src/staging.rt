@@ -1,7 +1,7 @@
 //! New trees, written beside a replica until they are put in place.
-ghost use Rattle.std.specs.Prelude.{◌≡◌, ◌<◌, ◌++◌, [], IfOk, IfSome, IsNone, None};
+ghost use Rattle.std.specs.Prelude.{◌≡◌, ◌<◌, ◌++◌, ◌↔◌, [], IfOk, IfSome, IsNone, IsTrue, None};
 ghost use Rattle.std.specs.String.{string_bytes};
-ghost use Rattle.ts_disk.specs.Modes.{private_bits};
+ghost use Rattle.ts_disk.specs.Modes.{IsStoredBelowTop, private_bits};
 ghost use Rattle.ts_name.specs.Paths.{place_text};
 
 use crate::modes::{PRIVATE_DIR, PRIVATE_FILE, permissions_at};
@@ -70,8 +70,8 @@ impl Bits<'_> {
 }
 
 /// Writes a tree where nothing is, for the owner alone, waits until all has reached the device, and then gives each file and
-/// directory its permission bits. A directory at the top that its owner must not write to gets its bits by `close_top`, once it
-/// stands in its place.
+/// directory its permission bits, from the last to the first: a directory is closed only when all below it is done. A directory
+/// at the top that its owner must not write to gets its bits by `close_top`, once it stands in its place.
 pub(crate) fn write_tree<R: Files + AllocGlobal>(
     files: &R,
     tree: &[Row<Items<u8>>],
@@ -86,7 +86,10 @@ pub(crate) fn write_tree<R: Files + AllocGlobal>(
             Content::File(bytes) => write_file(files, place.as_str(), bytes.as_slice())?,
         }
     }
-    close_rows(files, tree, top, bits)
+    for row in tree.iter().rev() {
+        close_row(files, row, top, bits)?;
+    }
+    Ok(())
 }
 
 /// Does the same by what was staged, of which some files may be stored there already. All else that is missing is made.
@@ -107,7 +110,22 @@ pub(crate) fn complete_tree<R: Files + AllocGlobal>(
             },
         }
     }
-    close_rows(files, staged, top, bits)
+    for row in staged.iter().rev() {
+        if !has_bits(row) {
+            close_row(files, row, top, bits)?;
+        }
+    }
+    Ok(())
+}
+
+/// Whether a row has a file that was given its permission bits as it was stored: any stored one below the top.
+fn has_bits(row: &Row<StagedFile>) -> bool
+    ensures { IsTrue result ↔ IsStoredBelowTop row.now }
+{
+    match &row.content {
+        Content::File(file) => file.bytes().is_none() && !row.path.is_root(),
+        Content::Absent | Content::Dir => false,
+    }
 }
 
 /// Fails where no file of this size is at a place. What its pieces stored has reached the device.
@@ -116,20 +134,6 @@ fn look_for_stored<R: Files>(files: &R, place: &str, size: u64) -> io::Result<()
         Some(metadata) if metadata.is_file() && metadata.len() == size => Ok(()),
         _ => Err(io::Error::from(ErrorKind::NotFound)),
     }
-}
-
-/// Gives each file and directory its permission bits, from the last to the first: a directory is closed only when all below
-/// it is done.
-fn close_rows<R: Files + AllocGlobal, T>(
-    files: &R,
-    rows: &[Row<T>],
-    top: &str,
-    bits: &Bits<'_>,
-) -> io::Result<()> {
-    for row in rows.iter().rev() {
-        close_row(files, row, top, bits)?;
-    }
-    Ok(())
 }
 
 /// Gives one file or directory its permission bits. Where the file system keeps no such bits, it does without.
