@@ -11,14 +11,19 @@ import os
 import sys
 import tempfile
 import time
+from concurrent.futures import ThreadPoolExecutor
 
 TOP = os.path.dirname(os.path.dirname(os.path.abspath(__file__)))
 sys.path.insert(0, f"{TOP}/tests")
 
 from edits import load_rt
 
-# How many jobs a library of the longest chain has at least, where there are as many processors.
+# How long a chain of libraries is, beside the longest, for the others to wait for it.
+NEARLY = 0.95
+# How many jobs a library of such a chain has at least, where there are as many processors.
 JOBS = 4
+# How far the other libraries give way to it, as `nice` counts that.
+NICENESS = 10
 
 
 def build(crate, jobs, started):
@@ -40,39 +45,48 @@ def build(crate, jobs, started):
     return not status
 
 
-def longest_chain(waits, lines):
-    """Returns the crates that follow each other longest, by their lines. However many processors there are, a build takes as long.
+def giving_way(call):
+    """Makes a call in a thread of its own, whose processes take what others leave of the processors. Returns what it does."""
+    with ThreadPoolExecutor(1, initializer=os.nice, initargs=(NICENESS,)) as own:
+        return own.submit(call).result()
+
+
+def urgent(waits, lines):
+    """Returns the crates through which goes a chain, each waiting for the one before it, that is nearly as long as any, by lines.
+    However many processors there are, a build takes as long as the longest.
 
     Both arguments go by a crate's name: the crates that it waits for, and its lines. A crate comes after those that it waits for.
     """
-    behind = {}
+    ahead, behind = {}, {}
+    for name in waits:
+        ahead[name] = max((ahead[it] + lines[it] for it in waits[name]), default=0)
     for name in reversed([*waits]):
         behind[name] = lines[name] + max((behind[it] for it in behind if name in waits[it]), default=0)
-    chain, ready = [], [name for name in waits if not waits[name]]
-    while ready:
-        chain.append(max(ready, key=behind.get))
-        ready = [name for name in waits if chain[-1] in waits[name]]
-    return chain
+    return [name for name in waits if ahead[name] + behind[name] >= NEARLY * max(behind.values())]
 
 
 def tasks_of(rt, libraries):
     """Returns a task for each library that isn't built, lowest first, as rt.in_lanes takes them.
 
-    A library of the longest chain has several jobs from the start: rt gives a crate its jobs when it begins, and one that begins
-    beside others would keep a single one to its end, while all the chain waits for it. Further jobs share what the first has read,
-    and take no memory beyond what rt reckons for one: four jobs of ts_exec held 4 GB together, where it reckons 5.7.
+    A library of a longest chain has several jobs from the start, and the others give way to it: rt gives a crate its jobs when it
+    begins, and one that begins beside others would keep a single one to its end, while all the chain waits for it. Further jobs
+    share what the first has read, and take no memory beyond what rt reckons for one: four jobs of ts_exec held 4 GB together, where
+    it reckons 5.7.
     """
     missing = [it for it in libraries if not it.is_built()]
     names = {it.name for it in missing}
     waits = {crate.name: [it.name for it in crate.below() if it.name in names] for crate in missing}
     lines = {crate.name: crate.count(rb"\n") for crate in missing}
-    chain = longest_chain(waits, lines)
+    first = urgent(waits, lines)
     started, tasks = time.monotonic(), {}
     for crate in missing:
-        least = min(JOBS, rt.processors()) if crate.name in chain else 1
 
-        def call(given, jobs, it=crate, least=least):
-            return all(given[below, "proof"] for below in waits[it.name]) and build(it, max(jobs, least), started)
+        def call(given, jobs, it=crate):
+            if not all(given[below, "proof"] for below in waits[it.name]):
+                return False
+            if it.name in first:
+                return build(it, max(jobs, min(JOBS, rt.processors())), started)
+            return giving_way(lambda: build(it, jobs, started))
 
         tasks[crate.name, "proof"] = ([(it, "proof") for it in waits[crate.name]], lines[crate.name], rt.need(crate), call)
     return tasks
