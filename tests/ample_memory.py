@@ -54,9 +54,9 @@ library_calls/tables takes_rows_in_order: ts_table::Table::push
 library_calls/packing packs_what_grows: ts_table::Table::pack_last ts_print::Print::pack_last
 library_calls/packing packs_what_grows: ts_table::Table::reserve ts_print::Print::reserve
 library_calls/packing packed_paths_are_used_as_others: ts_name::Packing::add
-library_calls/folders lists_and_reads_in_memory: ts_folder::MemFolder::list ts_folder::Folder::read
-library_calls/folders fails_where_told: ts_folder::FaultyFolder::list
-library_calls/folders lists_and_reads_on_a_disk: ts_folder::DiskFolder::list
+library_calls/folders lists_and_reads_in_memory: ts_folder::MemFolder::list ts_folder::MemFolder::is_dir ts_folder::Folder::read
+library_calls/folders fails_where_told: ts_folder::FaultyFolder::list ts_folder::FaultyFolder::is_dir
+library_calls/folders lists_and_reads_on_a_disk: ts_folder::DiskFolder::list ts_folder::DiskFolder::is_dir
 library_calls/folders opens_and_fills_in_memory: ts_folder::MemFolder::open_file ts_folder::MemFolder::fill
 library_calls/folders opens_and_fills_where_nothing_fails: ts_folder::FaultyFolder::open_file ts_folder::FaultyFolder::fill
 library_calls/folders opens_and_fills_on_a_disk: ts_folder::DiskFolder::open_file ts_folder::DiskFolder::fill
@@ -110,10 +110,11 @@ explain.sh: looks 'a plan is left in the second folder': ts_explain::push_pendin
 special.sh: expect 'links in three folders' 1: ts_perform::HostRuntime::specials ts_special::search ts_special::union
 special.sh: expect 'links in three folders' 1: ts_special::HoldingFolder::new ts_special::HoldingFolder::list
 special.sh: expect 'links in three folders' 1: ts_special::HoldingFolder::open_file ts_special::HoldingFolder::fill
+special.sh: expect 'links in three folders' 1: ts_special::HoldingFolder::is_dir
 special.sh: expect 'names that are not UTF-8' 1: ts_special::stand_in
 special.sh: refused 'links in three folders, without the option' '10 /both': ts_special::Specials::none
 commands.sh: expect 'first sync' 0: ts_progress::CountingFolder::list ts_progress::CountingFolder::open_file
-commands.sh: expect 'first sync' 0: ts_progress::CountingFolder::fill
+commands.sh: expect 'first sync' 0: ts_progress::CountingFolder::fill ts_progress::CountingFolder::is_dir
 progress.sh: add_counts 'tests/progress.py ended early': ts_progress::Progress::new
 disk_edge.sh: refused 'an archive that is none, no .twosync' 6: ts_disk::Lock::withdraw ts_disk::ArchivePlace::release
 """

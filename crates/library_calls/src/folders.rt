@@ -21,11 +21,16 @@ fn small(alloc: Global) -> Option<MemFolder> {
     Some(MemFolder::new(tree))
 }
 
-/// The names, each after `/` where it is a directory, else after `:`.
+/// The names, each after `/` where it is a directory, after `:` where it is a file, and after `?` where that is unseen.
 fn drawn(alloc: Global, names: &[(Name, Kind)]) -> Option<Vec<u8>> {
     let mut all = Vec::new(alloc);
     for (name, kind) in names {
-        all.push(if *kind == Kind::Dir { b'/' } else { b':' }).ok()?;
+        let sign = match kind {
+            Kind::Dir => b'/',
+            Kind::File => b':',
+            Kind::Unseen => b'?',
+        };
+        all.push(sign).ok()?;
         all.extend_from_slice(name.as_bytes()).ok()?;
     }
     Some(all)
@@ -35,6 +40,14 @@ fn drawn(alloc: Global, names: &[(Name, Kind)]) -> Option<Vec<u8>> {
 fn listed<F: Folder>(alloc: Global, folder: &F, text: &str) -> Option<Result<Vec<u8>, u8>> {
     match folder.list(alloc, &path(alloc, text)?) {
         Ok(names) => Some(Ok(drawn(alloc, &names)?)),
+        Err(fault) => Some(Err(fault.number())),
+    }
+}
+
+/// Whether a directory is at a path, or the number of the fault.
+fn looked<F: Folder>(alloc: Global, folder: &F, text: &str) -> Option<Result<bool, u8>> {
+    match folder.is_dir(alloc, &path(alloc, text)?) {
+        Ok(is_dir) => Some(Ok(is_dir)),
         Err(fault) => Some(Err(fault.number())),
     }
 }
@@ -65,6 +78,9 @@ fn is_answer(got: Option<Result<Vec<u8>, u8>>, want: Result<&[u8], u8>) -> bool 
 /// A directory, and the names in it, drawn, or the number of the fault.
 type List = (&'static str, Result<&'static [u8], u8>);
 
+/// A path, and whether a directory is there, or the number of the fault.
+type Look = (&'static str, Result<bool, u8>);
+
 /// A file, an offset and a length, and the bytes there, or the number of the fault.
 type Reading = (&'static str, u64, u32, Result<&'static [u8], u8>);
 
@@ -72,6 +88,13 @@ type Reading = (&'static str, u64, u32, Result<&'static [u8], u8>);
 fn assert_lists<F: Folder>(rt: &impl Abort, alloc: Global, folder: &F, cases: &[List]) {
     for (text, want) in cases {
         assert!(rt; is_answer(listed(alloc, folder, *text), *want), "at {text}");
+    }
+}
+
+/// Looks at each path, and asserts what is answered.
+fn assert_looks<F: Folder>(rt: &impl Abort, alloc: Global, folder: &F, cases: &[Look]) {
+    for (text, want) in cases {
+        assert!(rt; looked(alloc, folder, *text) == Some(*want), "at {text}");
     }
 }
 
@@ -94,6 +117,16 @@ const SMALL_LISTS: &[List] = &[
     ("/x", Err(9)),
 ];
 
+/// What a look at its paths finds.
+const SMALL_LOOKS: &[Look] = &[
+    ("", Ok(true)),
+    ("/a", Ok(true)),
+    ("/a/b", Ok(false)),
+    ("/c", Ok(false)),
+    ("/c/d", Err(9)),
+    ("/x", Err(9)),
+];
+
 /// What its files read as.
 const SMALL_READS: &[Reading] = &[
     ("/a", 0, 1, Err(9)),
@@ -112,6 +145,7 @@ fn lists_and_reads_in_memory(rt: HostRuntime) {
         panic!(rt; "no folder");
     };
     assert_lists(&rt, alloc, &folder, SMALL_LISTS);
+    assert_looks(&rt, alloc, &folder, SMALL_LOOKS);
     assert_reads(&rt, alloc, &folder, SMALL_READS);
     assert!(rt; folder.rows().len() == 3);
 }
@@ -142,6 +176,7 @@ fn fails_where_told(rt: HostRuntime) {
         panic!(rt; "no folder");
     };
     assert_lists(&rt, alloc, &folder, FAULTY_LISTS);
+    assert_looks(&rt, alloc, &folder, SMALL_LOOKS);
     assert_reads(&rt, alloc, &folder, FAULTY_READS);
 }
 
@@ -206,11 +241,11 @@ fn large_bytes(alloc: Global) -> Option<Vec<u8>> {
 
 /// What the directories on the disk list.
 const DISK_LISTS: &[List] = &[
-    ("", Err(10)),
-    ("/d", Ok(b":a\n:a b:a%/e:\xc3\xa4")),
+    ("", Ok(b"?d?empty?large?linked?own?z")),
+    ("/d", Ok(b"?a\n?a b?a%?e?\xc3\xa4")),
     ("/d/e/f", Ok(b"")),
     ("/own", Err(10)),
-    ("/linked", Err(10)),
+    ("/linked", Ok(b"?to_d")),
     ("/linked/to_d", Err(10)),
     ("/linked/to_d/e", Err(10)),
     ("/empty", Err(9)),
@@ -220,6 +255,23 @@ const DISK_LISTS: &[List] = &[
 /// Lists what is on the disk.
 fn assert_lists_of_disk<F: Folder>(rt: &impl Abort, alloc: Global, folder: &F) {
     assert_lists(rt, alloc, folder, DISK_LISTS);
+}
+
+/// What a look at paths on the disk finds. A link at the path itself is not followed.
+const DISK_LOOKS: &[Look] = &[
+    ("/d", Ok(true)),
+    ("/d/e", Ok(true)),
+    ("/d/a%20b", Ok(false)),
+    ("/empty", Ok(false)),
+    ("/z", Err(10)),
+    ("/linked/to_d", Err(10)),
+    ("/empty/x", Err(9)),
+    ("/none", Err(9)),
+];
+
+/// Looks at what is on the disk.
+fn assert_looks_of_disk<F: Folder>(rt: &impl Abort, alloc: Global, folder: &F) {
+    assert_looks(rt, alloc, folder, DISK_LOOKS);
 }
 
 /// What the small files on the disk read as.
@@ -270,12 +322,13 @@ fn lists_and_reads_on_a_disk(rt: HostRuntime) {
         panic!(rt; "out of memory");
     };
     assert_lists_of_disk(&rt, alloc, &folder);
+    assert_looks_of_disk(&rt, alloc, &folder);
     assert!(rt; fs::remove_file(&rt, "folder_on_disk/z").is_ok());
     assert_lists(
         &rt,
         alloc,
         &folder,
-        &[("", Ok(b"/d:empty:large/linked/own"))],
+        &[("", Ok(b"?d?empty?large?linked?own"))],
     );
     assert_reads_of_disk(&rt, alloc, &folder);
     assert_reads_of_large(&rt, alloc, &folder, &large);

@@ -86,6 +86,10 @@ impl Folder for Endless {
         }
     }
 
+    fn is_dir(&self, _alloc: Global, _path: &Path) -> Result<bool, FolderFault> {
+        Ok(true)
+    }
+
     fn open_file(&self, _alloc: Global, _path: &Path) -> Result<(), FolderFault> {
         Err(FolderFault::NotThere)
     }
@@ -156,6 +160,10 @@ impl Folder for Gate {
             Ok(children) => Ok(children),
             Err(_) => Err(FolderFault::OutOfMemory),
         }
+    }
+
+    fn is_dir(&self, _alloc: Global, _path: &Path) -> Result<bool, FolderFault> {
+        Ok(true)
     }
 
     fn open_file(&self, _alloc: Global, _path: &Path) -> Result<(), FolderFault> {
@@ -381,6 +389,10 @@ impl Folder for Changing {
         }
     }
 
+    fn is_dir(&self, alloc: Global, path: &Path) -> Result<bool, FolderFault> {
+        self.after.is_dir(alloc, path)
+    }
+
     fn open_file(&self, alloc: Global, path: &Path) -> Result<Path, FolderFault> {
         self.after.open_file(alloc, path)
     }
@@ -448,6 +460,102 @@ fn looks_a_child_up_again(rt: HostRuntime) {
             panic!(rt; "no folder");
         };
         assert!(rt; refuses(&rt, alloc, &folder, 1, 9, &place));
+    }
+}
+
+/// A folder that leaves all kinds unseen in its listings, and has something at one path that is neither a directory nor a file.
+#[derive(Drop)]
+struct Unseeing {
+    folder: MemFolder,
+    special: Path,
+    /// How often it was asked whether a child is a directory.
+    looks: AtomicU64,
+}
+
+impl Folder for Unseeing {
+    ghost use Rattle.std.specs.Prelude.{None};
+
+    type File = Path;
+
+    ghost tells = { λ _. None };
+
+    ghost lets = { λ _ _ _ _. Unit {0} };
+
+    ghost is_open = { λ _ _ _. Unit {0} };
+
+    fn list(&self, alloc: Global, path: &Path) -> Result<Vec<(Name, Kind)>, FolderFault> {
+        match self.folder.list(alloc, path) {
+            Ok(mut children) => {
+                for child in &mut children {
+                    child.1 = Kind::Unseen;
+                }
+                Ok(children)
+            }
+            Err(fault) => Err(fault),
+        }
+    }
+
+    fn is_dir(&self, alloc: Global, path: &Path) -> Result<bool, FolderFault> {
+        self.looks.fetch_add(1, Ordering::SeqCst);
+        if *path == self.special {
+            return Err(FolderFault::Unreadable);
+        }
+        self.folder.is_dir(alloc, path)
+    }
+
+    fn open_file(&self, alloc: Global, path: &Path) -> Result<Path, FolderFault> {
+        self.folder.open_file(alloc, path)
+    }
+
+    fn fill(&self, file: &mut Path, offset: u64, buffer: &mut [u8]) -> Result<usize, FolderFault> {
+        match self.folder.fill(file, offset, buffer) {
+            Ok(count) => Ok(count),
+            Err(_) => Err(FolderFault::OutOfMemory),
+        }
+    }
+}
+
+#[test]
+fn looks_at_what_is_unseen(rt: HostRuntime) {
+    let alloc = rt.alloc();
+    for workers in [1, 2, 64] {
+        let (Some((folder, wanted)), Some(special)) = (nested_folder(alloc), path(alloc, "/none"))
+        else {
+            panic!(rt; "no folder");
+        };
+        let folder = Unseeing {
+            folder,
+            special,
+            looks: AtomicU64::new(0),
+        };
+        let Ok(print) = scan(&rt, alloc, &folder, workers) else {
+            panic!(rt; "no print by {workers}");
+        };
+        assert!(rt; print.sub_eq(&wanted, &Path::root(alloc)), "{workers}");
+        // each once
+        assert!(rt; folder.looks.load(Ordering::SeqCst) == wanted.rows().len() as u64, "{workers}");
+    }
+}
+
+#[test]
+fn reports_what_is_neither_at_its_directory(rt: HostRuntime) {
+    let alloc = rt.alloc();
+    for (special, directory) in [("/a", ""), ("/d/b", "/d"), ("/d/e/c", "/d/e")] {
+        let (Some(folder), Some(special), Some(directory)) = (
+            folder_of(alloc, b"f /a 1\nx 61\nd /d\nf /d/b 1\nx 62\nd /d/e\nf /d/e/c 1\nx 63\n"),
+            path(alloc, special),
+            path(alloc, directory),
+        ) else {
+            panic!(rt; "no folder");
+        };
+        let folder = Unseeing {
+            folder,
+            special,
+            looks: AtomicU64::new(0),
+        };
+        for workers in [1, 2, 64] {
+            assert!(rt; refuses(&rt, alloc, &folder, workers, 10, &directory), "{workers}");
+        }
     }
 }
 

@@ -1,5 +1,5 @@
 -- The children of a directory, of which rows say each or not.
-use Rattle.std.proofs.Common.{◌≡◌, ℕ, ◌+◌, ◌<◌, List, [], ◌∷◌, ◌++◌, length, get_or, take, IfSome, IsTrue, ◌↔◌, Bool, false, ◌∙◌, sym, ap, subst}
+use Rattle.std.proofs.Common.{◌≡◌, ℕ, ◌+◌, ◌<◌, List, [], ◌∷◌, ◌++◌, length, get_or, take, IfSome, IsTrue, ◌↔◌, Bool, false, ◌∙◌, refl, sym, ap, subst}
 use Rattle.std.specs.List.{AllByRecursion}
 use Rattle.std.proofs.lemmas.Bool.{false≢true}
 use Rattle.std.proofs.lemmas.List.{take_more}
@@ -12,6 +12,7 @@ use Rattle.ts_model.specs.declared.row.Content.{Content}
 use Rattle.ts_model.specs.declared.row.Content.TheVariants.{Absent, Dir, File}
 use Rattle.ts_model.specs.declared.row.Stamp.{Stamp}
 use Rattle.ts_folder.specs.Folders.{AreChildren}
+use Rattle.ts_folder.proofs.Children.{can_be}
 use Rattle.ts_folder.specs.declared.folder.Kind.{Kind}
 use Rattle.ts_folder.specs.declared.folder.Kind.TheVariants as kind
 use Rattle.ts_scan.specs.Scans.{Children, Told}
@@ -35,6 +36,7 @@ said_by_row rows p path name k x b e is found tested = (
 pub absent_is : (k : Kind) → IsTrue false ↔ IsOf Absent k
 absent_is kind.Dir = ((λ h. absurd (false≢true h)), (λ e. let f : ◌≡◌ {A = Content Stamp} Absent Dir = e in cc))
 absent_is kind.File = ((λ h. absurd (false≢true h)), (λ e. let f : ◌≡◌ {A = Content Stamp} Absent (File e.0) = e.1 in cc))
+absent_is kind.Unseen = ((λ h. absurd (false≢true h)), (λ there. absurd (there refl)))
 
 -- what holds of the first elements and of the next
 pub all_more : {A : Type 0} (P : A → Type 0) (xs : List A) (k : ℕ) (x : A) → k < length xs → x ≡ get_or xs k x → AllByRecursion P (take k xs) → P x → AllByRecursion P (take (k + 1) xs)
@@ -54,4 +56,4 @@ pub one_unsaid :
     → IfSome told IsTreeBody → IfSome told (λ tree. AreChildren (at tree) p children) → ¬ IsSaid rows p child → IfSome told (λ tree. ¬ HasOnly (at tree) rows p)
 one_unsaid told rows p children k child under is lawful are unsaid =
     both_some IsTreeBody (λ tree. AreChildren (at tree) p children) (λ tree. ¬ HasOnly (at tree) rows p) told
-    (λ tree body of only. let kind = (of.each child.0 child.1).0 (k, under, sym is) in unsaid (child_path tree p child body kind, only.1 child.0 child.1 kind)) lawful are
+    (λ tree body of only. let kind = (of.each child.0 child.1).0 (k, under, sym is) in unsaid (child_path tree p child body (can_be (at tree (p ++ child.0 ∷ [])) child.1 kind), only.1 child.0 child.1 kind)) lawful are

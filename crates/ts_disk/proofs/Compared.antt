@@ -208,6 +208,7 @@ part_covers t part rows p lent has above name k = go k
     go : (k : Kind) → HasKind (t (p ++ name ∷ [])) k → Says rows (p ++ name ∷ []) k
     go kind.Dir e = same ∙ ap stamped e
     go kind.File e = (stamp_of e.0, same ∙ ap stamped e.1)
+    go kind.Unseen e = absurd e
 
 -- the root has no other children
 pub part_of_root : (t : Tree) (part : Part) (rows : Listing Stamp) → AreLent part rows → part.top ≡ [] → t [] ≡ Dir → HasPart t part → HasOnly t rows []

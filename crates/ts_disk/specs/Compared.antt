@@ -3,7 +3,7 @@
 --     Has t rows row              the tree has what a row says, and in a directory nothing that no row says
 --     HasAll, LacksSome           the tree, where it is told, has what each row says; or it hasn't what each row says
 --     MayEnd troubles differs e   a look may end with this fault, where these troubles may come and this differs
-use Rattle.std.specs.Prelude.{◌≡◌, ◌⊎◌, [], ◌∷◌, ◌++◌, ◌↔◌, Bool, Result, IfOk, IfSome, IsTrue}
+use Rattle.std.specs.Prelude.{◌≡◌, ◌≢◌, ◌⊎◌, [], ◌∷◌, ◌++◌, ◌↔◌, Bool, Result, IfOk, IfSome, IsTrue}
 use Rattle.std.specs.List.{AllByRecursion}
 use Rattle.ts_name.specs.Paths.{Name, Path}
 use Rattle.ts_model.specs.Texts.{IsTreeBody}
@@ -45,6 +45,7 @@ AnswersFile told p stamp result = HasFile told p → IfOk result (TellsStamp tol
 abbrev pub IsOf : Content Stamp → Kind → Type 0
 IsOf x kind.Dir = x ≡ Dir
 IsOf x kind.File = (stamp : Stamp) × (x ≡ File stamp)
+IsOf x kind.Unseen = x ≢ Absent
 
 -- a row says that this is there, of this kind
 abbrev pub Says : Listing Stamp → Path → Kind → Type 0

@@ -177,7 +177,7 @@ fn compare_children<F: Folder>(
     Ok(())
 }
 
-/// Whether a child of a directory is one of the rows, with its kind.
+/// Whether a child of a directory is one of the rows, with its kind. One that is unseen is looked at where its row is compared.
 fn is_among(
     alloc: Global,
     parent: &Path,
@@ -200,14 +200,14 @@ fn is_among(
     Ok(is_of(&rows[place].content, kind))
 }
 
-/// Whether a row's content is of a kind.
+/// Whether a row's content is of a kind. What is unseen may be of either.
 fn is_of(content: &Content<Stamp>, kind: Kind) -> bool
     ensures { IsTrue result ↔ IsOf content.now kind }
 {
     match content {
         Content::Absent => false,
-        Content::Dir => kind == Kind::Dir,
-        Content::File(_) => kind == Kind::File,
+        Content::Dir => kind != Kind::File,
+        Content::File(_) => kind != Kind::Dir,
     }
 }
 

@@ -19,7 +19,7 @@ use Rattle.ts_name.proofs.Utf8.{all_parts}
 use Rattle.ts_name.proofs.Basics.{weaker}
 use Rattle.ts_table.proofs.Listings.{not_above_gives}
 use Rattle.ts_folder.specs.Children.{children, child_of, kind_of, named}
-use Rattle.ts_folder.specs.Folders.{AreChildren, HasKind, InOrder}
+use Rattle.ts_folder.specs.Folders.{AreChildren, CanBe, HasKind, InOrder}
 use Rattle.ts_folder.specs.declared.folder.Kind.{Kind}
 use Rattle.ts_folder.specs.declared.folder.Kind.TheVariants as kind
 use Rattle.ts_model.proofs.Rows.{listed_here, ascend_rest}
@@ -92,6 +92,7 @@ contains_cases x y xs (suc k, under, e) = inr (k, omega arith, e)
 not_absent : (k : Kind) → ¬ HasKind Absent k
 not_absent kind.Dir e = cc
 not_absent kind.File e = let f = e.1 in cc
+not_absent kind.Unseen e = e
 
 has_kind_of : (x : Content (List ℕ)) → x ≢ Absent → HasKind x (kind_of x)
 has_kind_of Absent there = absurd (there refl)
@@ -104,6 +105,19 @@ kind_is Dir kind.Dir h = refl
 kind_is Dir kind.File h = let f = h.1 in cc
 kind_is (File bytes) kind.Dir h = cc
 kind_is (File bytes) kind.File h = refl
+kind_is Dir kind.Unseen h = absurd h
+kind_is (File bytes) kind.Unseen h = absurd h
+
+-- what was seen to be of a kind is of it, and what is of one is there
+pub can_be : (x : Content (List ℕ)) (k : Kind) → HasKind x k → CanBe x k
+can_be x kind.Dir h = h
+can_be x kind.File h = h
+can_be x kind.Unseen h = absurd h
+
+pub kind_there : (x : Content (List ℕ)) (k : Kind) → CanBe x k → x ≢ Absent
+kind_there x kind.Dir h none = let f : ◌≡◌ {A = Content (List ℕ)} Dir Absent = sym h ∙ none in cc
+kind_there x kind.File h none = let f : ◌≡◌ {A = Content (List ℕ)} (File h.0) Absent = sym h.1 ∙ none in cc
+kind_there x kind.Unseen h none = h none
 
 -- a child of the rows is listed
 child_listed : (p : Path) (rows : Listing (List ℕ)) (name : Name) (k : Kind) → Ascend rows → AllByRecursion (λ row. row.content ≢ Absent) rows → Contains (children p rows) (name, k) → HasKind (listed rows (p ++ name ∷ [])) k

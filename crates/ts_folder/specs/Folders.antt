@@ -1,18 +1,20 @@
 -- What the calls of a folder answer.
 --     InOrder names              each name comes after the one before it
---     AreChildren t p names      the names in the directory p, each with its kind
+--     HasKind x k                what is there was seen to be of this kind
+--     CanBe x k                  what is there is of this kind, or is there at least where that is unseen
+--     AreChildren t p names      the names in the directory p, each with its kind, which was seen
 --     range bytes offset n       the bytes from the offset on, n of them, or fewer where they end before
 --     Reads x offset n bytes     these are so many bytes of the file x
 --     Fills x offset buffer n    the buffer begins with n bytes of the file x, as many as fit
 --     MayAnswer lets missing     which faults a call may answer
-use Rattle.std.specs.Prelude.{◌≡◌, ℕ, List, [], ◌∷◌, ◌++◌, ◌↔◌, length, take, drop, Contains}
+use Rattle.std.specs.Prelude.{◌≡◌, ◌≢◌, ℕ, List, [], ◌∷◌, ◌++◌, ◌↔◌, length, take, drop, Contains}
 use Rattle.std.specs.declared.cmp.Ordering.TheVariants.{Less}
 use Rattle.std.specs.Cmp.Lexicographic.{slice_cmp}
 use Rattle.std.specs.Ordering.{nat_cmp}
 use Rattle.ts_name.specs.Paths.{Name, Path}
 use Rattle.ts_model.specs.Trees.{Tree}
 use Rattle.ts_model.specs.declared.row.Content.{Content}
-use Rattle.ts_model.specs.declared.row.Content.TheVariants.{Dir, File}
+use Rattle.ts_model.specs.declared.row.Content.TheVariants.{Absent, Dir, File}
 use Rattle.ts_folder.specs.declared.fault.FolderFault.{FolderFault}
 use Rattle.ts_folder.specs.declared.fault.FolderFault.TheVariants as fault
 use Rattle.ts_folder.specs.declared.fault.Trouble.{Trouble}
@@ -26,6 +28,12 @@ IsFile x = (bytes : List ℕ) × (x ≡ File bytes)
 abbrev pub HasKind : Content (List ℕ) → Kind → Type 0
 HasKind x kind.Dir = x ≡ Dir
 HasKind x kind.File = IsFile x
+HasKind x kind.Unseen = ⊥
+
+abbrev pub CanBe : Content (List ℕ) → Kind → Type 0
+CanBe x kind.Dir = x ≡ Dir
+CanBe x kind.File = IsFile x
+CanBe x kind.Unseen = x ≢ Absent
 
 abbrev pub InOrder : List (Name × Kind) → Type 0
 InOrder [] = Unit {0}

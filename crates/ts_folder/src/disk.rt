@@ -61,6 +61,16 @@ impl<R: Files + AllocGlobal + Clone + Drop + Sync> Folder for DiskFolder<R> {
         }
     }
 
+    fn is_dir(&self, alloc: Global, path: &Path) -> Result<bool, FolderFault> {
+        let spelled = path.place_below(alloc, self.root.as_str())?;
+        match fs::symlink_metadata(&self.files, spelled.as_str()) {
+            Ok(metadata) => Ok(kind_of(&metadata.file_type())? == Kind::Dir),
+            // its path is longer than the system takes, which shows when it is opened
+            Err(e) if e.kind() == ErrorKind::InvalidFilename => Ok(false),
+            Err(e) => Err(listing_fault(&e)),
+        }
+    }
+
     fn open_file(&self, alloc: Global, path: &Path) -> Result<R::File, FolderFault> {
         let spelled = path.place_below(alloc, self.root.as_str())?;
         if kind_below(&self.files, spelled.as_str(), self.root.len())? == Kind::Dir {
@@ -113,7 +123,7 @@ fn look_before<R: Files>(files: &R, spelled: &str, end: usize) -> Result<(), Fol
     match spelled.split_at_checked(end) {
         Some((above, rest)) if rest.starts_with('/') => match kind_at(files, above)? {
             Kind::Dir => Ok(()),
-            Kind::File => Err(FolderFault::NotThere),
+            Kind::File | Kind::Unseen => Err(FolderFault::NotThere),
         },
         _ => Ok(()),
     }
@@ -155,8 +165,9 @@ fn listing_fault(e: &io::Error) -> FolderFault {
     }
 }
 
-/// The names in a directory with their kinds, as the system gives them. They share buffers, since a listing of many names stays
-/// until all that stands below has been scanned.
+/// The names in a directory as the system gives them, unseen: a look at each is left to whoever comes to it, so that several
+/// workers share the looks of one large directory. They share buffers, since a listing of many names stays until all that stands
+/// below has been scanned.
 fn read_names<R: Files + AllocGlobal + Clone + Drop>(
     alloc: Global,
     files: &R,
@@ -172,7 +183,7 @@ fn read_names<R: Files + AllocGlobal + Clone + Drop>(
         match entry {
             Ok(entry) => {
                 if !(is_root && entry.file_name() == OWN) {
-                    names.push(child_of(alloc, &entry)?)?;
+                    names.push((name_of(alloc, &entry)?, Kind::Unseen))?;
                     pack_last(alloc, &mut names)?;
                 }
             }
@@ -185,21 +196,12 @@ fn read_names<R: Files + AllocGlobal + Clone + Drop>(
     Ok(names)
 }
 
-/// The name and the kind of what stands in a directory.
-fn child_of<R: Files>(
-    alloc: Global,
-    entry: &DirEntry<R, Global>,
-) -> Result<(Name, Kind), FolderFault> {
-    let name = match Name::parse(alloc, entry.file_name().as_bytes()) {
-        Ok(name) => name,
-        Err(NameFault::OutOfMemory) => return Err(FolderFault::OutOfMemory),
-        Err(NameFault::BadName) => return Err(FolderFault::Unreadable),
-    };
-    match entry.file_type() {
-        Ok(file_type) => Ok((name, kind_of(&file_type)?)),
-        // its path is longer than the system takes, which shows when it is opened
-        Err(e) if e.kind() == ErrorKind::InvalidFilename => Ok((name, Kind::File)),
-        Err(e) => Err(listing_fault(&e)),
+/// The name of what stands in a directory.
+fn name_of<R: Files>(alloc: Global, entry: &DirEntry<R, Global>) -> Result<Name, FolderFault> {
+    match Name::parse(alloc, entry.file_name().as_bytes()) {
+        Ok(name) => Ok(name),
+        Err(NameFault::OutOfMemory) => Err(FolderFault::OutOfMemory),
+        Err(NameFault::BadName) => Err(FolderFault::Unreadable),
     }
 }
 

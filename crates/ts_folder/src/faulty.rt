@@ -84,6 +84,10 @@ impl Folder for FaultyFolder {
         }
     }
 
+    fn is_dir(&self, alloc: Global, path: &Path) -> Result<bool, FolderFault> {
+        self.folder.is_dir(alloc, path)
+    }
+
     fn open_file(&self, alloc: Global, path: &Path) -> Result<Path, FolderFault> {
         self.folder.open_file(alloc, path)
     }

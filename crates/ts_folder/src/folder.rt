@@ -1,11 +1,11 @@
 //! What a folder is.
-ghost use Rattle.std.specs.Prelude.{◌≡◌, ◌≢◌, ◌+◌, ◌-◌, ◌≤◌, ℕ, List, Option, length, take, drop, IfErr, IfOk, IfSome, vec_len};
+ghost use Rattle.std.specs.Prelude.{◌≡◌, ◌≢◌, ◌+◌, ◌-◌, ◌≤◌, ◌↔◌, ◌∷◌, ◌++◌, [], ℕ, List, Option, length, take, drop, IfErr, IfOk, IfSome, IsTrue, vec_len};
 ghost use Rattle.ts_folder.specs.Folders.{AreChildren, Fills, InOrder, IsFile, MayAnswer, Reads};
 ghost use Rattle.ts_folder.specs.declared.fault.Trouble.{Trouble};
 ghost use Rattle.ts_folder.specs.declared.folder.Call.{Call};
 ghost use Rattle.ts_model.specs.Texts.{IsTreeBody};
 ghost use Rattle.ts_model.specs.Trees.{at};
-ghost use Rattle.ts_model.specs.declared.row.Content.TheVariants.{Dir};
+ghost use Rattle.ts_model.specs.declared.row.Content.TheVariants.{Absent, Dir};
 ghost use Rattle.ts_model.specs.declared.row.Row.{Row};
 
 use crate::fault::FolderFault;
@@ -20,6 +20,8 @@ const FIRST_ROOM: usize = 1_048_576;
 pub enum Kind {
     Dir,
     File,
+    /// The folder hasn't looked: `is_dir` does. A folder that tells its tree has.
+    Unseen,
 }
 
 /// What is asked of a folder.
@@ -54,6 +56,14 @@ pub trait Folder: Sync {
         ensures told { IfSome (tells self.now) (λ rows. IfOk result (λ names. AreChildren (at rows) path.now names.items)) }
         ensures fault { IfErr result (MayAnswer (lets self.now Call.List path.now) (IfSome (tells self.now) (λ rows. at rows path.now ≢ Dir))) }
         ensures lawful { IfSome (tells self.now) IsTreeBody };
+
+    /// Whether a directory stands at the path of a child that a listing has left unseen, and not a file. Its faults are those of
+    /// that listing. Nothing is looked at above the child.
+    fn is_dir(&self, alloc: Global, path: &Path) -> Result<bool, FolderFault>
+        ensures told { IfSome (tells self.now) (λ rows. IfOk result (λ is. IsTrue is ↔ (at rows path.now ≡ Dir))) }
+        ensures there { IfSome (tells self.now) (λ rows. IfOk result (λ _. at rows path.now ≢ Absent)) }
+        ensures fault { (p : List (List ℕ)) (name : List ℕ) → path.now ≡ p ++ name ∷ []
+            → IfErr result (MayAnswer (lets self.now Call.List p) (IfSome (tells self.now) (λ rows. at rows path.now ≡ Absent))) };
 
     /// Opens the file at a path.
     fn open_file(&self, alloc: Global, path: &Path) -> Result<Self::File, FolderFault>

@@ -74,6 +74,14 @@ impl Folder for MemFolder {
         }
     }
 
+    fn is_dir(&self, _alloc: Global, path: &Path) -> Result<bool, FolderFault> {
+        match self.tree.get(path) {
+            Content::Dir => Ok(true),
+            Content::File(_) => Ok(false),
+            Content::Absent => Err(FolderFault::NotThere),
+        }
+    }
+
     fn open_file(&self, alloc: Global, path: &Path) -> Result<Path, FolderFault> {
         let _rows = self.tree.rows();
         match self.tree.get(path) {

@@ -27,6 +27,10 @@ impl<F: Folder + Sync, S: Screen + Clock + Sync> Folder for CountingFolder<'_, '
         self.folder.list(alloc, path)
     }
 
+    fn is_dir(&self, alloc: Global, path: &Path) -> Result<bool, FolderFault> {
+        self.folder.is_dir(alloc, path)
+    }
+
     fn open_file(&self, alloc: Global, path: &Path) -> Result<F::File, FolderFault> {
         let file = self.folder.open_file(alloc, path)?;
         self.meter.add_file();

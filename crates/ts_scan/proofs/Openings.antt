@@ -4,7 +4,7 @@ use Rattle.ts_name.specs.Paths.{Name, Path, IsPath}
 use Rattle.ts_model.specs.Trees.{Listing, at}
 use Rattle.ts_model.specs.declared.row.Content.TheVariants.{Dir}
 use Rattle.ts_model.specs.declared.row.Stamp.{Stamp}
-use Rattle.ts_folder.specs.Folders.{AreChildren, HasKind}
+use Rattle.ts_folder.specs.Folders.{AreChildren, CanBe}
 use Rattle.ts_folder.specs.declared.folder.Kind.{Kind}
 use Rattle.ts_scan.specs.Openings.{IsListed}
 use Rattle.ts_scan.specs.Scans.{Children, Told, ArePrinted, AreThere, Found, FoundIn, Adds}
@@ -13,18 +13,18 @@ use Rattle.ts_scan.proofs.Walks.{adds_below, are_there, map_some}
 
 -- ---- a child that is gone
 
-found_gone : (told : Told) (p : Path) (child : Name × Kind) → IfSome told (λ tree. ¬ HasKind (at tree (p ++ child.0 ∷ [])) child.1) → Found told p (child ∷ []) []
+found_gone : (told : Told) (p : Path) (child : Name × Kind) → IfSome told (λ tree. ¬ CanBe (at tree (p ++ child.0 ∷ [])) child.1) → Found told p (child ∷ []) []
 found_gone told p child gone = record {
   below = none_below p (child ∷ []);
-  print = map_some (λ tree. ¬ HasKind (at tree (p ++ child.0 ∷ [])) child.1) (λ tree. AreThere (at tree) p (child ∷ []) → ArePrinted (at tree) p (child ∷ []) []) told
+  print = map_some (λ tree. ¬ CanBe (at tree (p ++ child.0 ∷ [])) child.1) (λ tree. AreThere (at tree) p (child ∷ []) → ArePrinted (at tree) p (child ∷ []) []) told
       (λ tree none there. absurd (none there.0)) gone;
 }
 
 -- it adds nothing
 pub adds_gone :
-    (told : Told) (p path : Path) (child : Name × Kind) (old : Listing Stamp) → path ≡ p ++ child.0 ∷ [] → IfSome told (λ tree. ¬ HasKind (at tree path) child.1) → Adds old old (Found told p (child ∷ []))
+    (told : Told) (p path : Path) (child : Name × Kind) (old : Listing Stamp) → path ≡ p ++ child.0 ∷ [] → IfSome told (λ tree. ¬ CanBe (at tree path) child.1) → Adds old old (Found told p (child ∷ []))
 adds_gone told p path child old e gone =
-    ([], sym (append-nil old), found_gone told p child (subst (λ z. IfSome told (λ tree. ¬ HasKind (at tree z) child.1)) e gone))
+    ([], sym (append-nil old), found_gone told p child (subst (λ z. IfSome told (λ tree. ¬ CanBe (at tree z) child.1)) e gone))
 
 -- ---- a directory
 

@@ -14,7 +14,8 @@ use Rattle.ts_model.specs.declared.row.Content.{Content}
 use Rattle.ts_model.specs.declared.row.Content.TheVariants.{Absent, Dir, File}
 use Rattle.ts_model.specs.declared.row.Row.{Row}
 use Rattle.ts_model.specs.declared.row.Stamp.{Stamp}
-use Rattle.ts_folder.specs.Folders.{AreChildren, HasKind, IsFile, InOrder}
+use Rattle.ts_folder.specs.Folders.{AreChildren, CanBe, IsFile, InOrder}
+use Rattle.ts_folder.proofs.Children.{can_be, kind_there}
 use Rattle.ts_folder.specs.declared.folder.Kind.{Kind}
 use Rattle.ts_folder.specs.declared.folder.Kind.TheVariants as kind
 use Rattle.ts_scan.specs.Files.{HasStamp}
@@ -48,8 +49,8 @@ contained p (x ∷ children) (suc k) child h e = inr (contained p children k chi
 -- the children of a directory are there
 pub are_there : (t : Tree) (p : Path) (children : Children) → AreChildren t p children → AreThere t p children
 are_there t p children are =
-    recursion_from_All (λ (child : Name × Kind). HasKind (t (p ++ child.0 ∷ [])) child.1) children
-    (λ k d h. (are.each (get_or children k d).0 (get_or children k d).1).0 (k, h, at_index children k (get_or children k d) d h))
+    recursion_from_All (λ (child : Name × Kind). CanBe (t (p ++ child.0 ∷ [])) child.1) children
+    (λ k d h. can_be (t (p ++ (get_or children k d).0 ∷ [])) (get_or children k d).1 ((are.each (get_or children k d).0 (get_or children k d).1).0 (k, h, at_index children k (get_or children k d) d h)))
 
 -- and nothing else is
 pub has_only : (t : Tree) (p : Path) (children : Children) → AreChildren t p children → HasOnly t p children
@@ -59,11 +60,6 @@ has_only t p children are name there = go (t (p ++ name ∷ [])) refl
     go Absent e = absurd (there e)
     go Dir e = let h = (are.each name kind.Dir).1 e in contained p children h.0 (name, kind.Dir) h.1 h.2
     go (File bytes) e = let h = (are.each name kind.File).1 (bytes, e) in contained p children h.0 (name, kind.File) h.1 h.2
-
--- what has a kind is there
-pub kind_there : (x : Content (List ℕ)) (k : Kind) → HasKind x k → x ≢ Absent
-kind_there x kind.Dir h none = let f : ◌≡◌ {A = Content (List ℕ)} Dir Absent = sym h ∙ none in cc
-kind_there x kind.File h none = let f : ◌≡◌ {A = Content (List ℕ)} (File h.0) Absent = sym h.1 ∙ none in cc
 
 -- ---- a tree that is told
 
@@ -77,7 +73,7 @@ listed_path tree (n ∷ q) body some there =
     listed_holds IsPath tree (n ∷ q) (weaker (λ (row : Row (List ℕ)). IsPath row.path × (row.path ≢ []) × (row.content ≢ Absent)) (λ row. IsPath row.path) (λ row h. h.0) tree body.listing.rows_are) there
 
 -- a child that is there has a lawful path
-pub child_path : (tree : Listing (List ℕ)) (p : Path) (child : Name × Kind) → IsTreeBody tree → HasKind (at tree (p ++ child.0 ∷ [])) child.1 → IsPath (p ++ child.0 ∷ [])
+pub child_path : (tree : Listing (List ℕ)) (p : Path) (child : Name × Kind) → IsTreeBody tree → CanBe (at tree (p ++ child.0 ∷ [])) child.1 → IsPath (p ++ child.0 ∷ [])
 child_path tree p child body h = listed_path tree (p ++ child.0 ∷ []) body (snoc_not_empty p child.0) (kind_there (at tree (p ++ child.0 ∷ [])) child.1 h)
 
 -- a file's bytes can be counted
@@ -163,13 +159,13 @@ found_print told rows inner = three told inner.lawful inner.all inner.found.prin
 -- children that are there are so in each part
 pub there_left : (told : Told) (p : Path) (xs ys all : Children) → all ≡ xs ++ ys → IfSome told (λ tree. AreThere (at tree) p all) → IfSome told (λ tree. AreThere (at tree) p xs)
 there_left told p xs ys all e =
-    map_some _ _ told (λ tree there. (all_parts (λ (child : Name × Kind). HasKind (at tree (p ++ child.0 ∷ [])) child.1) xs ys (subst (AreThere (at tree) p) e there)).0)
+    map_some _ _ told (λ tree there. (all_parts (λ (child : Name × Kind). CanBe (at tree (p ++ child.0 ∷ [])) child.1) xs ys (subst (AreThere (at tree) p) e there)).0)
 
 pub there_right : (told : Told) (p : Path) (xs ys all : Children) → all ≡ xs ++ ys → IfSome told (λ tree. AreThere (at tree) p all) → IfSome told (λ tree. AreThere (at tree) p ys)
 there_right told p xs ys all e =
-    map_some _ _ told (λ tree there. (all_parts (λ (child : Name × Kind). HasKind (at tree (p ++ child.0 ∷ [])) child.1) xs ys (subst (AreThere (at tree) p) e there)).1)
+    map_some _ _ told (λ tree there. (all_parts (λ (child : Name × Kind). CanBe (at tree (p ++ child.0 ∷ [])) child.1) xs ys (subst (AreThere (at tree) p) e there)).1)
 
-pub there_first : (told : Told) (p : Path) (child : Name × Kind) (others rest : Children) → rest ≡ child ∷ others → IfSome told (λ tree. AreThere (at tree) p rest) → IfSome told (λ tree. HasKind (at tree (p ++ child.0 ∷ [])) child.1)
+pub there_first : (told : Told) (p : Path) (child : Name × Kind) (others rest : Children) → rest ≡ child ∷ others → IfSome told (λ tree. AreThere (at tree) p rest) → IfSome told (λ tree. CanBe (at tree (p ++ child.0 ∷ [])) child.1)
 there_first told p child others rest e = map_some _ _ told (λ tree there. (subst (AreThere (at tree) p) e there).0)
 
 -- rows of all children after those of the first ones

@@ -11,7 +11,7 @@ use Rattle.ts_model.specs.Texts.{IsTreeBody}
 use Rattle.ts_model.specs.Trees.{Tree, Listing, Ascend, at, listed, stamped}
 use Rattle.ts_model.specs.declared.row.Content.TheVariants.{Absent, Dir}
 use Rattle.ts_model.specs.declared.row.Stamp.{Stamp}
-use Rattle.ts_folder.specs.Folders.{AreChildren, HasKind}
+use Rattle.ts_folder.specs.Folders.{AreChildren, CanBe}
 use Rattle.ts_folder.specs.declared.folder.Kind.{Kind}
 
 abbrev pub Children : Type 0
@@ -35,7 +35,7 @@ ArePrinted t p children rows = (q : Path) → IsUnder p children q → listed ro
 
 -- the children are there, each of its kind
 abbrev pub AreThere : Tree → Path → Children → Type 0
-AreThere t p children = AllByRecursion (λ child. HasKind (t (p ++ child.0 ∷ [])) child.1) children
+AreThere t p children = AllByRecursion (λ child. CanBe (t (p ++ child.0 ∷ [])) child.1) children
 
 pub record Found (told : Told) (p : Path) (children : Children) (rows : Listing Stamp) : Type 0 where
   pub below : AreBelow p children rows

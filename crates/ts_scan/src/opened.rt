@@ -1,9 +1,10 @@
 //! What a child is when it is opened.
-ghost use Rattle.std.specs.Prelude.{◌≡◌, ◌<◌, length, IfOk};
-ghost use Rattle.ts_folder.specs.Folders.{HasKind};
-ghost use Rattle.ts_model.specs.declared.row.Content.TheVariants.{Dir};
+ghost use Rattle.std.specs.Prelude.{◌≡◌, ◌≢◌, ◌<◌, ◌↔◌, ◌∷◌, ◌++◌, [], length, IfOk, IfSome, IsTrue};
+ghost use Rattle.ts_folder.specs.Folders.{CanBe};
+ghost use Rattle.ts_model.specs.Trees.{at};
+ghost use Rattle.ts_model.specs.declared.row.Content.TheVariants.{Absent, Dir};
 ghost use Rattle.ts_scan.specs.Faults.{FailsAsTold};
-ghost use Rattle.ts_scan.specs.Openings.{IsOpened, kind_under};
+ghost use Rattle.ts_scan.specs.Openings.{IsChildOf, IsOpened, kind_under};
 
 use crate::fault::{Refusal, ScanFault, told};
 use crate::file::stamp_of_file;
@@ -42,9 +43,10 @@ impl<F: Folder> Parent<'_, F> {
         buffer: &mut [u8],
         tries: u32,
     ) -> Result<Opened, ScanFault>
-        requires { 0 < length buffer.old }
+        requires room { 0 < length buffer.old }
+        requires child { path.now ≡ self.now.path.now ++ name.now ∷ [] }
         ensures opened { IfOk result (IsOpened (F.tells self.now.folder.now) path.now kind) }
-        ensures fault { FailsAsTold (F.lets self.now.folder.now) (F.tells self.now.folder.now) (λ tree. HasKind (tree path.now) kind) result }
+        ensures fault { FailsAsTold (F.lets self.now.folder.now) (F.tells self.now.folder.now) (λ tree. CanBe (tree path.now) kind) result }
     {
         match self.open_as(path, kind, buffer) {
             Err(
@@ -62,19 +64,36 @@ impl<F: Folder> Parent<'_, F> {
 
     /// Opens a child as what has this kind.
     fn open_as(&self, path: &Path, kind: Kind, buffer: &mut [u8]) -> Result<Opened, ScanFault>
-        requires { 0 < length buffer.old }
+        requires room { 0 < length buffer.old }
+        requires child { IsChildOf self.now.path.now path.now }
         ensures opened { IfOk result (IsOpened (F.tells self.now.folder.now) path.now kind) }
-        ensures fault { FailsAsTold (F.lets self.now.folder.now) (F.tells self.now.folder.now) (λ tree. HasKind (tree path.now) kind) result }
+        ensures fault { FailsAsTold (F.lets self.now.folder.now) (F.tells self.now.folder.now) (λ tree. CanBe (tree path.now) kind) result }
     {
-        match kind {
-            Kind::File => {
-                let stamp = stamp_of_file(self.folder, self.alloc, path, buffer)?;
-                Ok(Opened::File(stamp))
-            }
-            Kind::Dir => match self.folder.list(self.alloc, path) {
-                Ok(children) => Ok(Opened::Dir(children)),
-                Err(fault) => Err(told(self.alloc, path, fault)),
-            },
+        let is_dir = match kind {
+            Kind::Dir => true,
+            Kind::File => false,
+            Kind::Unseen => self.is_dir(path)?,
+        };
+        if !is_dir {
+            let stamp = stamp_of_file(self.folder, self.alloc, path, buffer)?;
+            return Ok(Opened::File(stamp));
+        }
+        match self.folder.list(self.alloc, path) {
+            Ok(children) => Ok(Opened::Dir(children)),
+            Err(fault) => Err(told(self.alloc, path, fault)),
+        }
+    }
+
+    /// Whether a child that its listing has left unseen is a directory. A fault is reported at the directory that has it, as one
+    /// of the listing.
+    fn is_dir(&self, path: &Path) -> Result<bool, ScanFault>
+        requires { IsChildOf self.now.path.now path.now }
+        ensures told { IfSome (F.tells self.now.folder.now) (λ rows. IfOk result (λ is. IsTrue is ↔ (at rows path.now ≡ Dir))) }
+        ensures fault { FailsAsTold (F.lets self.now.folder.now) (F.tells self.now.folder.now) (λ tree. tree path.now ≢ Absent) result }
+    {
+        match self.folder.is_dir(self.alloc, path) {
+            Ok(is_dir) => Ok(is_dir),
+            Err(fault) => Err(told(self.alloc, self.path, fault)),
         }
     }
 

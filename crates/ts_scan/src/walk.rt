@@ -2,7 +2,7 @@
 ghost use Rattle.std.specs.Prelude.{◌≡◌, ◌∷◌, ◌++◌, [], ◌<◌, IfErr, IfOk, IfSome, OnOk, length, vec_len};
 ghost use Rattle.std.specs.Thread.{IsSend, IsSync};
 ghost use Rattle.ts_name.specs.Paths.{IsPath};
-ghost use Rattle.ts_folder.specs.Folders.{HasKind, InOrder};
+ghost use Rattle.ts_folder.specs.Folders.{CanBe, InOrder};
 ghost use Rattle.ts_model.specs.Texts.{IsTreeBody};
 ghost use Rattle.ts_model.specs.Trees.{at};
 ghost use Rattle.ts_model.specs.declared.row.Content.TheVariants.{Dir};
@@ -259,7 +259,7 @@ where
     F::File: Send,
     requires lawful { IfSome (F.tells folder.now) IsTreeBody }
     ensures found { IfOk result (λ done. Adds work.rows.items done.rows.items (Found (F.tells folder.now) parent.now (child.now ∷ []))) }
-    ensures fault { FailsAsTold (F.lets folder.now) (F.tells folder.now) (λ tree. HasKind (tree (parent.now ++ child.now.0 ∷ [])) child.now.1) result }
+    ensures fault { FailsAsTold (F.lets folder.now) (F.tells folder.now) (λ tree. CanBe (tree (parent.now ++ child.now.0 ∷ [])) child.now.1) result }
 {
     let path = child_path(alloc, parent, &child.0)?;
     let directory = Parent {

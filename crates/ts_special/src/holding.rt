@@ -79,6 +79,13 @@ impl<R: Files + AllocGlobal + Clone + Drop + Sync> Folder for HoldingFolder<R> {
         }
     }
 
+    fn is_dir(&self, alloc: Global, path: &Path) -> Result<bool, FolderFault> {
+        if self.specials.contains(path) {
+            return Ok(false);
+        }
+        self.folder.is_dir(alloc, path)
+    }
+
     fn open_file(&self, alloc: Global, path: &Path) -> Result<Option<R::File>, FolderFault> {
         if self.specials.contains(path) {
             return Ok(None);

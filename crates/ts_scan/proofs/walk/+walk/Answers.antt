@@ -1,7 +1,7 @@
 use Rattle.std.proofs.Common.{◌≡◌, ◌∷◌, ◌++◌, [], refl, sym, ap, ◌∙◌, subst, append_assoc}
 use Rattle.std.proofs.lemmas.Result.{IfErr-at_err, IfOk-at_ok, IfOk-weaker}
 use Rattle.ts_name.specs.Paths.{IsPath}
-use Rattle.ts_folder.specs.Folders.{HasKind, InOrder}
+use Rattle.ts_folder.specs.Folders.{CanBe, InOrder}
 use Rattle.ts_model.specs.Texts.{IsTreeBody}
 use Rattle.ts_model.specs.Trees.{at}
 use Rattle.ts_scan.specs.Faults.{MayFail}
@@ -45,7 +45,7 @@ scan_child-returns-in_err-path-clause-fault g t c there =
     let told = g.F.Folder.tells c.args.folder.now in
     exit_tells c.from_residual.result c.in_err-path.field-0.0 (MayFail (g.F.Folder.lets c.args.folder.now) told) c.from_residual.ensures.1
     (may_be_deep (g.F.Folder.lets c.args.folder.now) told c.args.parent.now c.in_err-path.field-0.0 (¬ IsPath (c.args.parent.now ++ c.args.child.now.0 ∷ []))
-    (λ deep. no_tree told IsTreeBody (λ tree. HasKind (at tree (c.args.parent.now ++ c.args.child.now.0 ∷ [])) c.args.child.now.1) (λ tree body is. deep (child_path tree c.args.parent.now c.args.child.now body is)) c.requires.lawful there)
+    (λ deep. no_tree told IsTreeBody (λ tree. CanBe (at tree (c.args.parent.now ++ c.args.child.now.0 ∷ [])) c.args.child.now.1) (λ tree body is. deep (child_path tree c.args.parent.now c.args.child.now body is)) c.requires.lawful there)
     c.in_err-path.ensures.fault)
 
 pub scan_child-returns-in-Gone-clause-found : goal.scan_child-returns-in-Gone-clause-found
