@@ -466,6 +466,40 @@ tree 604"
     holds_true "$name: the modes of what was staged" test -z "$(find "$to/f" -type f ! -perm 644 -o -type d ! -perm 755)"
   done
 done
+# ---- what pieces have stored is removed by somebody else before the commit: nothing incomplete is put in place
+# nested PLACE COUNT: as many small files in folders of ten or less, fewer than a listing would be worth
+nested() {
+  local at
+  mkdir "$1"
+  for at in $(seq 100 $((99 + ($2 + 9) / 10))); do mkdir "$1/d$at" && seq 10 | (cd "$1/d$at" && split -l 1 -a 1 - f); done
+}
+declare -A waited=([many]=fabc [nested]=d150)
+remove_a_file() { rm "$(find "$to/.twosync/stage-0" -type f | head -n 1)"; }
+remove_a_folder() { rm -r "$(find "$to/.twosync/stage-0" -mindepth 1 -type d -not -empty | head -n 1)"; }
+remove_the_stage() { rm -r "$to/.twosync/stage-0"; }
+for role in 'first second' 'second first'; do
+  read -r from to <<<"$role"
+  for what in 'many a_file' 'many the_stage' 'nested a_file' 'nested a_folder' 'nested the_stage'; do
+    read -r shape removed <<<"$what"
+    name="from $from, $shape, $removed is removed"
+    fresh
+    "$shape" "$from/f" 1000
+    "$program" "${sync[@]}" >out 2>err &
+    child=$!
+    until_there "$to/.twosync/stage-0/${waited[$shape]}"
+    until_stopped
+    got=$(find "$to/.twosync/stage-0" -type f | wc -l)
+    holds_true "$name: stopped while it writes ($got files)" test -d "$to/.twosync/stage-0" -a "$got" -gt 0 -a "$got" -lt 1000
+    "remove_$removed"
+    kill -CONT "$child" 2>/dev/null
+    wait "$child"
+    answered "$name" 2 "failed $from /f"$'\n'"$lost" 'twosync: fault 8 /f' "$?"
+    holds_true "$name: nothing is put in place" test ! -e "$to/f"
+    expect "$name: the next run" 0 "done $from /f"$'\n'"$one" '' "${sync[@]}"
+    alike "$name"
+  done
+done
+
 # Folders that even their owner may not write to, by one who may not do everything.
 if may_be_refused; then
   mkdir open

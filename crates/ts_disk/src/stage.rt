@@ -261,7 +261,7 @@ impl<R: Files<File = File> + AllocGlobal + Clone + Drop> DiskStage<R> {
     }
 
     /// Gives a file below the top of its entry the permission bits of the one that it is copied from. Where the file system keeps
-    /// no such bits, it does without.
+    /// no such bits, it does without. It fails where the source can't be looked at, or memory runs out.
     fn give_bits(&self, alloc: Global, entry: &Entry, path: &Path, file: &File) -> io::Result<()> {
         let Some(source) = self.bits_place(alloc, entry, path)? else {
             return Ok(());

@@ -9,10 +9,16 @@ use crate::place::{Standing, make_missing_dir, make_private_dir, metadata_at};
 use std::fs::{Files, OpenFile, OpenOptions, Permissions};
 use std::io::{ErrorKind, Write};
 use std::os::unix::fs::{OpenOptionsExt, PermissionsExt};
+use std::vec::IntoIter;
 use std::{fs, io};
+use ts_folder::{DiskFolder, Folder, FolderFault, Kind};
 use ts_model::items::Items;
 use ts_model::row::{Content, Row};
+use ts_name::Name;
 use ts_stage::StagedFile;
+
+/// How many files and directories below a directory make it worth a listing.
+const MANY_BELOW: usize = 16;
 
 /// The bit by which an owner may write to a directory, as it takes to move one.
 const OWNER_WRITES: u32 = 0o200;
@@ -93,23 +99,24 @@ pub(crate) fn write_tree<R: Files + AllocGlobal>(
 }
 
 /// Does the same by what was staged, of which some files may be stored there already. All else that is missing is made.
-pub(crate) fn complete_tree<R: Files + AllocGlobal>(
+pub(crate) fn complete_tree<R: Files + AllocGlobal + Clone + Drop + Sync>(
     files: &R,
     staged: &[Row<StagedFile>],
     top: &str,
     bits: &Bits<'_>,
 ) -> io::Result<()> {
     for row in staged {
-        let place = below(files, row, top)?;
         match &row.content {
             Content::Absent => {}
-            Content::Dir => make_missing_dir(files, place.as_str())?,
-            Content::File(file) => match file.bytes() {
-                Some(bytes) => write_file(files, place.as_str(), bytes)?,
-                None => look_for_stored(files, place.as_str(), file.size())?,
-            },
+            Content::Dir => make_missing_dir(files, below(files, row, top)?.as_str())?,
+            Content::File(file) => {
+                if let Some(bytes) = file.bytes() {
+                    write_file(files, below(files, row, top)?.as_str(), bytes)?;
+                }
+            }
         }
     }
+    look_for_stored(files, staged, top)?;
     for row in staged.iter().rev() {
         if !has_bits(row) {
             close_row(files, row, top, bits)?;
@@ -128,12 +135,66 @@ fn has_bits(row: &Row<StagedFile>) -> bool
     }
 }
 
-/// Fails where no file of this size is at a place. What its pieces stored has reached the device.
-fn look_for_stored<R: Files>(files: &R, place: &str, size: u64) -> io::Result<()> {
-    match metadata_at(files, place)? {
-        Some(metadata) if metadata.is_file() && metadata.len() == size => Ok(()),
-        _ => Err(io::Error::from(ErrorKind::NotFound)),
+/// Fails where a file that its pieces stored isn't there any more, as where somebody has cleaned out the program's own directory
+/// since. What is there has reached the device. A directory that has many files is listed, which takes less than a look at each.
+fn look_for_stored<R: Files + AllocGlobal + Clone + Drop + Sync>(
+    files: &R,
+    staged: &[Row<StagedFile>],
+    top: &str,
+) -> io::Result<()> {
+    let alloc = files.alloc();
+    let folder = DiskFolder::new(alloc, files.clone()?, top).map_err(error_of)?;
+    // of each directory above a row, where it is listed, what is left of that from the name of the row before on
+    let mut above = Vec::new(alloc);
+    for (index, row) in staged.iter().enumerate() {
+        above.truncate(row.path.depth());
+        match &row.content {
+            Content::Absent => {}
+            Content::Dir => {
+                let last = staged.get(index.saturating_add(MANY_BELOW));
+                let children = if last.is_some_and(|last| row.path.is_prefix(&last.path)) {
+                    Some(folder.list(alloc, &row.path).map_err(error_of)?.into_iter())
+                } else {
+                    None
+                };
+                above.push(children)?;
+            }
+            Content::File(file) if file.bytes().is_some() => {}
+            Content::File(file) => {
+                let is_there = match (above.last_mut(), row.path.last()) {
+                    (Some(Some(children)), Some(name)) => has_next(children, name),
+                    _ => is_stored(files, below(files, row, top)?.as_str(), file.size())?,
+                };
+                if !is_there {
+                    return Err(io::Error::from(ErrorKind::NotFound));
+                }
+            }
+        }
     }
+    Ok(())
+}
+
+/// Whether a file of this size is at a place.
+fn is_stored<R: Files>(files: &R, place: &str, size: u64) -> io::Result<bool> {
+    let found = metadata_at(files, place)?;
+    Ok(found.is_some_and(|found| found.is_file() && found.len() == size))
+}
+
+/// Whether a name is among those that are left of a directory, in ascending order. Those up to it are taken out.
+fn has_next(children: &mut IntoIter<(Name, Kind)>, name: &[u8]) -> bool {
+    match children.find(|child| child.0.as_bytes() >= name) {
+        Some(child) => child.0.as_bytes() == name,
+        None => false,
+    }
+}
+
+/// The error of the system that a fault of a folder stands for.
+fn error_of(fault: FolderFault) -> io::Error {
+    io::Error::from(match fault {
+        FolderFault::OutOfMemory => ErrorKind::OutOfMemory,
+        FolderFault::NotThere => ErrorKind::NotFound,
+        FolderFault::Device | FolderFault::Unreadable => ErrorKind::Other,
+    })
 }
 
 /// Gives one file or directory its permission bits. Where the file system keeps no such bits, it does without.
