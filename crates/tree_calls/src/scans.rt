@@ -3,10 +3,11 @@ ghost use Rattle.std.specs.Prelude.{◌≤◌};
 
 use crate::shared::{path, tree_of};
 use std::alloc::Global;
+use std::fs::Files;
 use std::sync::atomic::{AtomicU64, Ordering};
-use std::thread;
 use std::thread::Threads;
-use ts_folder::{Failing, FaultyFolder, Folder, FolderFault, Kind, MemFolder, Trouble};
+use std::{fs, thread};
+use ts_folder::{DiskFolder, Failing, FaultyFolder, Folder, FolderFault, Kind, MemFolder, Trouble};
 use ts_name::{Name, Path};
 use ts_print::Print;
 use ts_scan::{Refusal, ScanFault, scan, scan_both};
@@ -463,19 +464,19 @@ fn looks_a_child_up_again(rt: HostRuntime) {
     }
 }
 
-/// A folder that leaves all kinds unseen in its listings, and has something at one path that is neither a directory nor a file.
+/// A folder on a disk, whose listings leave all kinds unseen. Something at one path is neither a directory nor a file.
 #[derive(Drop)]
-struct Unseeing {
-    folder: MemFolder,
+struct Looked<R> {
+    folder: DiskFolder<R>,
     special: Path,
     /// How often it was asked whether a child is a directory.
     looks: AtomicU64,
 }
 
-impl Folder for Unseeing {
+impl<R: Files + AllocGlobal + Clone + Drop + Sync> Folder for Looked<R> {
     ghost use Rattle.std.specs.Prelude.{None};
 
-    type File = Path;
+    type File = R::File;
 
     ghost tells = { λ _. None };
 
@@ -484,15 +485,7 @@ impl Folder for Unseeing {
     ghost is_open = { λ _ _ _. Unit {0} };
 
     fn list(&self, alloc: Global, path: &Path) -> Result<Vec<(Name, Kind)>, FolderFault> {
-        match self.folder.list(alloc, path) {
-            Ok(mut children) => {
-                for child in &mut children {
-                    child.1 = Kind::Unseen;
-                }
-                Ok(children)
-            }
-            Err(fault) => Err(fault),
-        }
+        self.folder.list(alloc, path)
     }
 
     fn is_dir(&self, alloc: Global, path: &Path) -> Result<bool, FolderFault> {
@@ -503,60 +496,83 @@ impl Folder for Unseeing {
         self.folder.is_dir(alloc, path)
     }
 
-    fn open_file(&self, alloc: Global, path: &Path) -> Result<Path, FolderFault> {
+    fn open_file(&self, alloc: Global, path: &Path) -> Result<R::File, FolderFault> {
         self.folder.open_file(alloc, path)
     }
 
-    fn fill(&self, file: &mut Path, offset: u64, buffer: &mut [u8]) -> Result<usize, FolderFault> {
-        match self.folder.fill(file, offset, buffer) {
-            Ok(count) => Ok(count),
-            Err(_) => Err(FolderFault::OutOfMemory),
+    fn fill(
+        &self,
+        file: &mut R::File,
+        offset: u64,
+        buffer: &mut [u8],
+    ) -> Result<usize, FolderFault> {
+        self.folder.fill(file, offset, buffer)
+    }
+}
+
+/// The directories of the folder on the disk, the root first, and its files, each of the one byte `x`.
+const DIRS: [&str; 4] = ["looked", "looked/d", "looked/d/e", "looked/g"];
+
+const FILES: [&str; 3] = ["looked/a", "looked/d/b", "looked/d/e/c"];
+
+/// Makes them.
+fn makes_files<R: Files>(files: &R) -> bool {
+    for name in DIRS {
+        if fs::create_dir(files, name).is_err() {
+            return false;
         }
     }
+    for name in FILES {
+        if fs::write(files, name, "x").is_err() {
+            return false;
+        }
+    }
+    true
 }
 
 #[test]
 fn looks_at_what_is_unseen(rt: HostRuntime) {
     let alloc = rt.alloc();
-    for workers in [1, 2, 64] {
-        let (Some((folder, wanted)), Some(special)) = (nested_folder(alloc), path(alloc, "/none"))
-        else {
-            panic!(rt; "no folder");
-        };
-        let folder = Unseeing {
-            folder,
-            special,
-            looks: AtomicU64::new(0),
-        };
-        let Ok(print) = scan(&rt, alloc, &folder, workers) else {
-            panic!(rt; "no print by {workers}");
-        };
-        assert!(rt; print.sub_eq(&wanted, &Path::root(alloc)), "{workers}");
-        // each once
-        assert!(rt; folder.looks.load(Ordering::SeqCst) == wanted.rows().len() as u64, "{workers}");
-    }
-}
-
-#[test]
-fn reports_what_is_neither_at_its_directory(rt: HostRuntime) {
-    let alloc = rt.alloc();
-    for (special, directory) in [("/a", ""), ("/d/b", "/d"), ("/d/e/c", "/d/e")] {
-        let (Some(folder), Some(special), Some(directory)) = (
-            folder_of(alloc, b"f /a 1\nx 61\nd /d\nf /d/b 1\nx 62\nd /d/e\nf /d/e/c 1\nx 63\n"),
-            path(alloc, special),
-            path(alloc, directory),
-        ) else {
-            panic!(rt; "no folder");
-        };
-        let folder = Unseeing {
-            folder,
-            special,
-            looks: AtomicU64::new(0),
-        };
+    assert!(rt; makes_files(&rt));
+    let text = b"f /a 1\nx 78\nd /d\nf /d/b 1\nx 78\nd /d/e\nf /d/e/c 1\nx 78\nd /g\n";
+    let Some(tree) = tree_of(alloc, text) else {
+        panic!(rt; "no tree");
+    };
+    let Ok(wanted) = Print::of_tree(alloc, &tree) else {
+        panic!(rt; "no print");
+    };
+    for (special, directory) in [("/a", ""), ("/d/b", "/d"), ("/d/e/c", "/d/e"), ("/g", "")] {
         for workers in [1, 2, 64] {
-            assert!(rt; refuses(&rt, alloc, &folder, workers, 10, &directory), "{workers}");
+            let (Ok(folder), Some(special), Some(none), Some(directory)) = (
+                DiskFolder::new(alloc, rt, "looked"),
+                path(alloc, special),
+                path(alloc, "/none"),
+                path(alloc, directory),
+            ) else {
+                panic!(rt; "no folder");
+            };
+            let looks = AtomicU64::new(0);
+            let mut looked = Looked {
+                folder,
+                special,
+                looks,
+            };
+            // it is reported at the directory that has it
+            assert!(rt;
+                refuses(&rt, alloc, &looked, workers, 10, &directory),
+                "{workers}"
+            );
+            looked.special = none;
+            looked.looks = AtomicU64::new(0);
+            let Ok(print) = scan(&rt, alloc, &looked, workers) else {
+                panic!(rt; "no print by {workers}");
+            };
+            assert!(rt; print.sub_eq(&wanted, &Path::root(alloc)), "{workers}");
+            // each child once
+            assert!(rt; looked.looks.load(Ordering::SeqCst) == 7, "{workers}");
         }
     }
+    assert!(rt; fs::remove_dir_all(&rt, "looked").is_ok());
 }
 
 #[test]
