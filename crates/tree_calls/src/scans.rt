@@ -569,7 +569,7 @@ fn looks_at_what_is_unseen(rt: HostRuntime) {
             };
             assert!(rt; print.sub_eq(&wanted, &Path::root(alloc)), "{workers}");
             // each child once
-            assert!(rt; looked.looks.load(Ordering::SeqCst) == 7, "{workers}");
+            assert!(rt; looked.looks.load(Ordering::SeqCst) == 6, "{workers}");
         }
     }
     assert!(rt; fs::remove_dir_all(&rt, "looked").is_ok());
