@@ -30,6 +30,8 @@ pub struct Staged {
     top: Path,
     wanted: SubTable<Stamp>,
     made: Vec<Row<StagedFile>>,
+    /// The row of the last piece. That of the next one is mostly the same, or the one behind it: it is looked for there first.
+    last: usize,
 }
 
 impl Model for Staged {
@@ -52,7 +54,12 @@ impl Staged {
         let wanted = after.to_table(alloc)?;
         let made = without_bytes(alloc, wanted.rows())?;
         let top = after.top().copy(alloc)?;
-        Ok(Staged { top, wanted, made })
+        Ok(Staged {
+            top,
+            wanted,
+            made,
+            last: 0,
+        })
     }
 
     /// Whether a file of the assembly has this whole path, and `offset` bytes so far.
@@ -62,7 +69,7 @@ impl Staged {
         let Some(rest) = path.below(alloc, &self.top)? else {
             return Ok(false);
         };
-        match size_at(&self.made, &rest) {
+        match size_at(&self.made, self.last, &rest) {
             Some(size) => Ok(size == offset),
             None => Ok(false),
         }
@@ -88,9 +95,10 @@ impl Staged {
         let Some(rest) = rest else {
             unreachable!();
         };
-        let Some(index) = find(&self.made, &rest) else {
+        let Some(index) = find(&self.made, self.last, &rest) else {
             unreachable!();
         };
+        self.last = index;
         let size = whole_size(self.wanted.rows(), index);
         let row = &mut self.made[index];
         add_piece(alloc, &mut row.content, size, piece)
@@ -144,6 +152,7 @@ impl Staged {
             top: _,
             wanted: _,
             made,
+            last: _,
         } = self;
         let rows = with_bytes(alloc, made)?;
         Ok(SubTree::from_table(SubTable::from_rows(rows)))
@@ -161,9 +170,15 @@ impl Staged {
             top,
             wanted,
             mut made,
+            last,
         } = self;
         if settle_all(&mut made, wanted.rows()) {
-            Some(Staged { top, wanted, made })
+            Some(Staged {
+                top,
+                wanted,
+                made,
+                last,
+            })
         } else {
             None
         }
@@ -248,26 +263,45 @@ fn is_in_memory(content: &Content<StagedFile>) -> bool
     }
 }
 
-/// Where the row of a path stands.
-fn find(rows: &[Row<StagedFile>], path: &Path) -> Option<usize>
+/// Where the row of a path stands. It is looked for at one row and the next first.
+fn find(rows: &[Row<StagedFile>], near: usize, path: &Path) -> Option<usize>
     requires { Ascend rows.now }
     ensures place { IfSome result (λ index. index < length rows.now) }
     ensures path { IfSome result (λ index. (row : Row Staging) → (get_or rows.now index row).path ≡ path.now) }
     ensures none { IfNone result (listed rows.now path.now ≡ Absent) }
 {
+    let behind = near.saturating_add(1);
+    if is_at(rows, near, path) {
+        return Some(near);
+    }
+    if is_at(rows, behind, path) {
+        return Some(behind);
+    }
     match rows.binary_search_by(|row| row.path.cmp(path)) {
         Ok(index) => Some(index),
         Err(_) => None,
     }
 }
 
-/// How many bytes the file at a path has. There is no answer where no file is.
-fn size_at(rows: &[Row<StagedFile>], path: &Path) -> Option<u64>
+/// Whether a path's row stands there.
+fn is_at(rows: &[Row<StagedFile>], index: usize, path: &Path) -> bool
+    ensures place { IsTrue result → index < length rows.now }
+    ensures path { IsTrue result → (row : Row Staging) → (get_or rows.now index row).path ≡ path.now }
+{
+    match rows.get(index) {
+        Some(row) => row.path == *path,
+        None => false,
+    }
+}
+
+/// How many bytes the file at a path has, whose row is looked for at one row and the next first. There is no answer where no file
+/// is.
+fn size_at(rows: &[Row<StagedFile>], near: usize, path: &Path) -> Option<u64>
     requires { Ascend rows.now }
     ensures file { IfSome result (λ size. (had : Staging) × (listed rows.now path.now ≡ File had) × (length had.bytes ≡ size)) }
     ensures none { IfNone result ((had : Staging) → listed rows.now path.now ≢ File had) }
 {
-    let index = find(rows, path)?;
+    let index = find(rows, near, path)?;
     let row = &rows[index];
     match &row.content {
         Content::File(file) => Some(file.size()),
