@@ -18,8 +18,8 @@ a stored proof, the edit says little of the contract and gets none.
 
 Every edit has to apply, every name has to have an edit, and so has every line of the record. The ten are chosen by the
 commit. Libraries that aren't built, or that are older than their sources, are built first. The gate tries the named edits and
-the ten first, and begins no other once it has tried edits for 30 minutes: those that it doesn't come to it lists, and counts
-neither as passed nor as failed.
+the ten first, and begins no other once it has tried edits for 30 minutes, or two hours after it began itself: those that it
+doesn't come to it lists, and counts neither as passed nor as failed.
 """
 import copy
 import fcntl
@@ -44,8 +44,10 @@ from statements import statements_of, unfolded_names
 
 # How many of the recorded edits the gate tries again.
 SAMPLE = 10
-# For how many seconds the gate begins edits that have no record. It has three hours on two processors for all that it does.
+# For how many seconds the gate begins edits that have no record, and up to how many seconds after it began itself, as .ci/run says
+# by GATE_BEGAN. It has three hours on two processors for all that it does.
 MOST_SECONDS = 30 * 60
+LAST_SECOND = 120 * 60
 # A crate's edits are tried over what a check of it without any proved; where there are more, in several lanes.
 MOST_IN_A_LANE = 24
 NAME = re.compile(r"[A-Za-z0-9_-][A-Za-z0-9_.-]*\.edit")
@@ -430,13 +432,20 @@ def faults_of(repository):
     return len(found)
 
 
+def last_begin():
+    """Returns when the gate begins the last edit that has no record, by the monotonic clock."""
+    began = os.environ.get("GATE_BEGAN", "")
+    since = time.time() - int(began) if began.isdigit() else 0
+    return time.monotonic() + min(MOST_SECONDS, LAST_SECOND - since)
+
+
 def step(repository, words):
     """Tries the edits that the words ask for, or the gate's, and returns how many passed and how many things failed."""
     is_by_hand = bool(words)
     if is_by_hand:
         repository.clean_record()
     wrong = faults_of(repository)
-    until = None if is_by_hand else time.monotonic() + MOST_SECONDS
+    until = None if is_by_hand else last_begin()
     new, again = chosen(repository, words)
     first = [it for it in new if it.key in repository.named] + again
     keys = {it.key for it in first}

@@ -23,6 +23,8 @@ RT = edits.load_rt()
 TRY_ALL = by_function.try_all
 # One lane, so that crates come one after the other.
 os.environ["RT_JOBS"] = "1"
+# (the gate that runs these tests has begun long ago)
+os.environ.pop("GATE_BEGAN", None)
 REFUSED = "refused, as it must be: src/lib.rt:1:1: error"
 LITTLE = f"refused, as it must be ({by_function.LITTLE})"
 
@@ -268,6 +270,18 @@ def what_there_is_no_time_for_is_listed_and_not_counted(world):
     same((world.run(), sorted(world.asked)), ((4, 0), ALL))
     # by hand there is time for all
     same((world.run("--try", "low", "high", seconds=-1), sorted(world.asked)), ((3, 0), ALL[:3]))
+
+
+def a_gate_that_began_long_ago_tries_the_named_edits_alone(world):
+    world.put("docs/WRONG_BODIES.md", "| wrong | `low/a` | `low::f` |\n")
+    try:
+        os.environ["GATE_BEGAN"] = str(int(time.time()) - edits.LAST_SECOND - 1)
+        same((world.run(), world.asked), ((1, 0), ["low/a.edit"]))
+        same("not tried, for there was no time: high/b.edit high/c.edit other/d.edit\n" in world.said, True)
+        os.environ["GATE_BEGAN"] = str(int(time.time()))
+        same((world.run(), sorted(world.asked)), ((4, 0), ALL))
+    finally:
+        del os.environ["GATE_BEGAN"]
 
 
 def a_record_of_no_edit_fails(world):
@@ -648,6 +662,7 @@ TESTS = [
     what_is_not_refused_fails_and_loses_its_record,
     a_named_edit_is_tried_on_each_run,
     what_there_is_no_time_for_is_listed_and_not_counted,
+    a_gate_that_began_long_ago_tries_the_named_edits_alone,
     a_record_of_no_edit_fails,
     a_record_that_was_not_written_by_the_tool_fails,
     a_digest_that_was_made_up_does_not_count,
