@@ -9,16 +9,19 @@ use crate::place::{Standing, make_missing_dir, make_private_dir, metadata_at};
 use std::fs::{Files, OpenFile, OpenOptions, Permissions};
 use std::io::{ErrorKind, Write};
 use std::os::unix::fs::{OpenOptionsExt, PermissionsExt};
-use std::vec::IntoIter;
 use std::{fs, io};
-use ts_folder::{DiskFolder, Folder, FolderFault, Kind};
 use ts_model::items::Items;
 use ts_model::row::{Content, Row};
-use ts_name::Name;
 use ts_stage::StagedFile;
 
 /// How many files and directories below a directory make it worth a listing.
 const MANY_BELOW: usize = 16;
+
+/// What a hash by FNV-1a begins with.
+const FNV_OFFSET: u64 = 0xcbf2_9ce4_8422_2325;
+
+/// What it is multiplied by for each byte.
+const FNV_PRIME: u64 = 0x0000_0100_0000_01b3;
 
 /// The bit by which an owner may write to a directory, as it takes to move one.
 const OWNER_WRITES: u32 = 0o200;
@@ -99,7 +102,7 @@ pub(crate) fn write_tree<R: Files + AllocGlobal>(
 }
 
 /// Does the same by what was staged, of which some files may be stored there already. All else that is missing is made.
-pub(crate) fn complete_tree<R: Files + AllocGlobal + Clone + Drop + Sync>(
+pub(crate) fn complete_tree<R: Files + AllocGlobal + Clone + Drop>(
     files: &R,
     staged: &[Row<StagedFile>],
     top: &str,
@@ -137,32 +140,30 @@ fn has_bits(row: &Row<StagedFile>) -> bool
 
 /// Fails where a file that its pieces stored isn't there any more, as where somebody has cleaned out the program's own directory
 /// since. What is there has reached the device. A directory that has many files is listed, which takes less than a look at each.
-fn look_for_stored<R: Files + AllocGlobal + Clone + Drop + Sync>(
+fn look_for_stored<R: Files + AllocGlobal + Clone + Drop>(
     files: &R,
     staged: &[Row<StagedFile>],
     top: &str,
 ) -> io::Result<()> {
-    let alloc = files.alloc();
-    let folder = DiskFolder::new(alloc, files.clone()?, top).map_err(error_of)?;
-    // of each directory above a row, where it is listed, what is left of that from the name of the row before on
-    let mut above = Vec::new(alloc);
+    // of each directory above a row the hashes of its names, where it is listed
+    let mut above = Vec::new(files.alloc());
     for (index, row) in staged.iter().enumerate() {
         above.truncate(row.path.depth());
         match &row.content {
             Content::Absent => {}
             Content::Dir => {
                 let last = staged.get(index.saturating_add(MANY_BELOW));
-                let children = if last.is_some_and(|last| row.path.is_prefix(&last.path)) {
-                    Some(folder.list(alloc, &row.path).map_err(error_of)?.into_iter())
+                let names = if last.is_some_and(|last| row.path.is_prefix(&last.path)) {
+                    Some(names_in(files, below(files, row, top)?.as_str())?)
                 } else {
                     None
                 };
-                above.push(children)?;
+                above.push(names)?;
             }
             Content::File(file) if file.bytes().is_some() => {}
             Content::File(file) => {
-                let is_there = match (above.last_mut(), row.path.last()) {
-                    (Some(Some(children)), Some(name)) => has_next(children, name),
+                let is_there = match (above.last(), row.path.last()) {
+                    (Some(Some(names)), Some(name)) => names.binary_search(&hash_of(name)).is_ok(),
                     _ => is_stored(files, below(files, row, top)?.as_str(), file.size())?,
                 };
                 if !is_there {
@@ -180,21 +181,23 @@ fn is_stored<R: Files>(files: &R, place: &str, size: u64) -> io::Result<bool> {
     Ok(found.is_some_and(|found| found.is_file() && found.len() == size))
 }
 
-/// Whether a name is among those that are left of a directory, in ascending order. Those up to it are taken out.
-fn has_next(children: &mut IntoIter<(Name, Kind)>, name: &[u8]) -> bool {
-    match children.find(|child| child.0.as_bytes() >= name) {
-        Some(child) => child.0.as_bytes() == name,
-        None => false,
+/// The hashes of the names in a directory, in ascending order: these are sorted in a fraction of the time that names take.
+fn names_in<R: Files + AllocGlobal + Clone + Drop>(files: &R, place: &str) -> io::Result<Vec<u64>> {
+    let mut hashes = Vec::new(files.alloc());
+    for entry in fs::read_dir(files, place)? {
+        hashes.push(hash_of(entry?.file_name().as_bytes()))?;
     }
+    hashes.sort_unstable();
+    Ok(hashes)
 }
 
-/// The error of the system that a fault of a folder stands for.
-fn error_of(fault: FolderFault) -> io::Error {
-    io::Error::from(match fault {
-        FolderFault::OutOfMemory => ErrorKind::OutOfMemory,
-        FolderFault::NotThere => ErrorKind::NotFound,
-        FolderFault::Device | FolderFault::Unreadable => ErrorKind::Other,
-    })
+/// A name's hash, by FNV-1a. Names with one hash are taken for each other, and of 2^64 hashes two names seldom have one.
+fn hash_of(name: &[u8]) -> u64 {
+    let mut hash = FNV_OFFSET;
+    for byte in name {
+        hash = (hash ^ u64::from(*byte)).wrapping_mul(FNV_PRIME);
+    }
+    hash
 }
 
 /// Gives one file or directory its permission bits. Where the file system keeps no such bits, it does without.
