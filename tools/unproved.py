@@ -2,7 +2,7 @@
 """Builds a program without proving it, optimized, to profile it or to run scripts over it while its proof is still to come.
 
 It takes some three minutes of one processor, where the proofs take hours. It uses what `rt try` does, whose own program is not
-optimized and looks at each access to memory. What `perf` says of the parts of this one holds for the proved program, too, but its
+optimized, and runs under AddressSanitizer. What `perf` says of the parts of this one holds for the proved program, too, but its
 times don't: the proved one is linked and optimized in another way, and SHA-256, for one, is several times as fast there.
 
 usage: tools/unproved.py OUT [CRATE]     writes the program of a crate, twosync where none is named, to OUT
@@ -17,7 +17,7 @@ sys.path.insert(0, f"{TOP}/tests")
 
 from edits import load_rt
 
-# What takes the place of the compiler: the same one, told to optimize, and not to look at each access to memory.
+# What takes the place of the compiler: the same one, told to optimize, and without AddressSanitizer.
 COMPILER = """#!/usr/bin/env bash
 words=()
 for word in "$@"; do
@@ -29,7 +29,8 @@ for word in "$@"; do
 done
 exec {own} "${{words[@]}}"
 """
-# What takes the place of the linker: it leaves out what looks at each access, and keeps the program. Then there is nothing to run.
+# What takes the place of the linker: it leaves AddressSanitizer out and keeps the program. It ends as if it had failed, so that
+# the program isn't run.
 LINKER = """#!/usr/bin/env bash
 words=() is_whole=
 for word in "$@"; do
@@ -67,7 +68,7 @@ def kit_with_own_tools(rt, top, out):
 
 def said_by(call):
     """Makes a call whose processes have nothing to read, and returns what they wrote to the standard error."""
-    own = os.dup(2)
+    before = os.dup(2)
     with open(os.devnull, "rb") as nothing, tempfile.TemporaryFile("w+", errors="replace") as said:
         os.dup2(nothing.fileno(), 0)
         os.dup2(said.fileno(), 2)
@@ -78,7 +79,8 @@ def said_by(call):
             pass
         finally:
             sys.stderr.flush()
-            os.dup2(own, 2)
+            os.dup2(before, 2)
+            os.close(before)
         said.seek(0)
         return said.read()
 
