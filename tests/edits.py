@@ -42,8 +42,10 @@ sys.path.insert(0, f"{TOP}/tests")
 import by_function
 from statements import statements_of, unfolded_names
 
-# How many of the recorded edits the gate tries again.
+# How many of the recorded edits the gate tries again, and how many of one crate at most: the first of a crate takes one to two
+# minutes of a processor, and each further one some ten seconds.
 SAMPLE = 10
+FROM_A_CRATE = 5
 # For how many seconds the gate begins edits that have no record, and up to how many seconds after it began itself, as .ci/run says
 # by GATE_BEGAN. It has three hours on two processors for all that it does.
 MOST_SECONDS = 30 * 60
@@ -236,13 +238,16 @@ class Repository:
         return [it for it in self.edits if kept.get((it.key, kit)) == digests.of_edit(it, self.crates[it.crate])]
 
     def sample(self, edits):
-        """Returns some of the edits, others for each commit, so that over time each is tried again."""
+        """Returns some of the edits, others for each commit, so that over time each is tried again. They are of few crates."""
         if not edits:
             return []
         # (the repository may belong to another user than the one who runs the gate)
         words = ["git", "-c", f"safe.directory={self.root}", "-C", self.root, "rev-parse", "HEAD"]
         commit = subprocess.run(words, stdout=subprocess.PIPE, text=True, check=True).stdout.strip()
-        return sorted(edits, key=lambda it: hashlib.sha256((commit + it.key).encode()).digest())[:SAMPLE]
+        by_crate = {}
+        for it in sorted(edits, key=lambda it: hashlib.sha256((commit + it.key).encode()).digest()):
+            by_crate.setdefault(it.crate, []).append(it)
+        return [it for some in by_crate.values() for it in some[:FROM_A_CRATE]][:SAMPLE]
 
     def clean_record(self):
         """Drops the lines of the record that no edit has any more, and those that can't be read."""

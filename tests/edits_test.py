@@ -241,6 +241,22 @@ def the_sample_is_another_one_for_each_commit(world):
     same((world.run(sample=10), sorted(world.asked)), ((4, 0), ALL))
 
 
+def the_sample_is_of_few_crates(world):
+    world.run()
+    most = edits.FROM_A_CRATE
+    try:
+        for edits.FROM_A_CRATE, is_together in ((1, False), (2, True)):
+            seen = set()
+            for _ in range(20):
+                world.commit()
+                same((world.run(sample=2), len(world.asked)), ((4, 0), 2))
+                seen.add(tuple(sorted(world.asked)))
+            same((ALL[0], ALL[1]) in seen, is_together)
+            same(sorted({it for asked in seen for it in asked}), ALL)
+    finally:
+        edits.FROM_A_CRATE = most
+
+
 def what_is_not_refused_fails_and_loses_its_record(world):
     world.run()
     for text in ("NOT REFUSED: the crate is still proved with this edit", "BAD EDIT: it did not reach the prover"):
@@ -659,6 +675,7 @@ TESTS = [
     bodies_alone_are_left_out,
     another_kit_has_every_edit_tried_again,
     the_sample_is_another_one_for_each_commit,
+    the_sample_is_of_few_crates,
     what_is_not_refused_fails_and_loses_its_record,
     a_named_edit_is_tried_on_each_run,
     what_there_is_no_time_for_is_listed_and_not_counted,
