@@ -30,7 +30,7 @@ pub struct Staged {
     top: Path,
     wanted: SubTable<Stamp>,
     made: Vec<Row<StagedFile>>,
-    /// The row of the last piece. That of the next one is mostly the same, or the one behind it: it is looked for there first.
+    /// The row of the last piece. The next piece's is mostly the one behind it, else the same: `find` looks there first.
     last: usize,
 }
 
@@ -263,7 +263,7 @@ fn is_in_memory(content: &Content<StagedFile>) -> bool
     }
 }
 
-/// Where the row of a path stands. It is looked for at one row and the next first.
+/// Where the row of a path stands. It is looked for behind one row first, since most files have one piece, and then at that row.
 fn find(rows: &[Row<StagedFile>], near: usize, path: &Path) -> Option<usize>
     requires { Ascend rows.now }
     ensures place { IfSome result (λ index. index < length rows.now) }
@@ -271,11 +271,11 @@ fn find(rows: &[Row<StagedFile>], near: usize, path: &Path) -> Option<usize>
     ensures none { IfNone result (listed rows.now path.now ≡ Absent) }
 {
     let behind = near.saturating_add(1);
-    if is_at(rows, near, path) {
-        return Some(near);
-    }
     if is_at(rows, behind, path) {
         return Some(behind);
+    }
+    if is_at(rows, near, path) {
+        return Some(near);
     }
     match rows.binary_search_by(|row| row.path.cmp(path)) {
         Ok(index) => Some(index),
@@ -294,8 +294,7 @@ fn is_at(rows: &[Row<StagedFile>], index: usize, path: &Path) -> bool
     }
 }
 
-/// How many bytes the file at a path has, whose row is looked for at one row and the next first. There is no answer where no file
-/// is.
+/// How many bytes the file at a path has, whose row `find` looks for near this one. There is no answer where no file is.
 fn size_at(rows: &[Row<StagedFile>], near: usize, path: &Path) -> Option<u64>
     requires { Ascend rows.now }
     ensures file { IfSome result (λ size. (had : Staging) × (listed rows.now path.now ≡ File had) × (length had.bytes ≡ size)) }
