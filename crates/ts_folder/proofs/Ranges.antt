@@ -1,6 +1,6 @@
 -- A file's bytes, read piece by piece.
-use Rattle.std.proofs.Common.{◌≡◌, ℕ, ◌+◌, ◌<◌, ◌≤◌, ◌^◌, min, List, [], ◌++◌, length, take, drop, replicate, Option, Some, None, IfSome, refl, sym, ap, ap₂, ◌∙◌, subst, arith}
-use Rattle.std.proofs.lemmas.List.{length-drop, length-take, drop-drop, take_min, take_all, take_at}
+use Rattle.std.proofs.Common.{◌≡◌, ℕ, ◌+◌, ◌<◌, ◌≤◌, ◌^◌, min, List, [], ◌++◌, length, take, drop, Option, Some, None, IfSome, refl, sym, ap, ap₂, ◌∙◌, subst, arith}
+use Rattle.std.proofs.lemmas.List.{length-drop, length-take, drop-drop, take_min, take_all}
 use Rattle.std.proofs.Math.Seq.{take-add}
 use Rattle.ts_model.specs.declared.row.Content.{Content}
 use Rattle.ts_model.specs.declared.row.Content.TheVariants.{Absent, Dir, File}
@@ -78,16 +78,14 @@ reads_end x offset start wanted old fits r full past small =
 pub record IsStep (offset place start room n : ℕ) (old made new cut : List ℕ) : Type 0 where
   pub full : length old ≡ start
   pub place_is : place ≡ offset + start
-  pub extra : ℕ
-  pub made_is : made ≡ take (start + room) old ++ replicate extra 0
+  pub begins : take start made ≡ old
   pub kept : take start new ≡ take start made
   pub size : length new ≡ start + room
   pub within : start + n ≤ start + room
   pub cut_is : cut ≡ take (start + n) new
 
 step_kept : (offset place start room n : ℕ) (old made new cut : List ℕ) → IsStep offset place start room n old made new cut → take start new ≡ old
-step_kept offset place start room n old made new cut step =
-    step.kept ∙ ap (take start) (step.made_is ∙ ap (λ l. l ++ replicate step.extra 0) (take_all (start + room) old (omega (arith, step.full)))) ∙ take_at old (replicate step.extra 0) start step.full
+step_kept offset place start room n old made new cut step = step.kept ∙ step.begins
 
 step_count : (offset place start room n : ℕ) (old made new cut : List ℕ) → IsStep offset place start room n old made new cut → length (take n (drop start new)) ≡ n
 step_count offset place start room n old made new cut step =

@@ -1,5 +1,6 @@
 //! What a folder is.
-ghost use Rattle.std.specs.Prelude.{◌≡◌, ◌≢◌, ◌+◌, ◌-◌, ◌≤◌, ◌↔◌, ◌∷◌, ◌++◌, [], ℕ, List, Option, length, take, drop, IfErr, IfOk, IfSome, IsTrue, vec_len};
+ghost use Rattle.std.specs.Prelude.{◌≡◌, ◌≢◌, ◌+◌, ◌-◌, ◌≤◌, ◌↔◌, ◌∷◌, ◌++◌, [], ℕ, List, Option, length, take, drop, vec_len};
+ghost use Rattle.std.specs.Prelude.{IfErr, IfOk, IfSome, IsTrue, OnOk};
 ghost use Rattle.ts_folder.specs.Folders.{AreChildren, Fills, InOrder, IsFile, MayAnswer, Reads};
 ghost use Rattle.ts_folder.specs.declared.fault.Trouble.{Trouble};
 ghost use Rattle.ts_folder.specs.declared.folder.Call.{Call};
@@ -9,11 +10,14 @@ ghost use Rattle.ts_model.specs.declared.row.Content.TheVariants.{Absent, Dir};
 ghost use Rattle.ts_model.specs.declared.row.Row.{Row};
 
 use crate::fault::FolderFault;
-use std::alloc::Global;
+use std::alloc::{AllocError, Global};
 use ts_name::{Name, Path};
 
 /// The bytes that `read` makes room for at first, and so at most beyond those that are there: a piece's.
 const FIRST_ROOM: usize = 1_048_576;
+
+/// What room is made by.
+const ZEROS: [u8; 4_096] = [0; 4_096];
 
 /// What stands in a directory under a name.
 #[derive(Clone, Copy, Debug, PartialEq, Eq, Drop)]
@@ -107,7 +111,7 @@ pub trait Folder: Sync {
                 return Ok(bytes);
             };
             let room = (wanted - start).min(start.max(FIRST_ROOM));
-            bytes.resize(start + room, 0)?;
+            make_room(&mut bytes, room)?;
             let count = fill_behind(self, &mut file, at, &mut bytes, start)?;
             bytes.truncate(start + count);
             if count < room {
@@ -116,6 +120,22 @@ pub trait Folder: Sync {
         }
         Ok(bytes)
     }
+}
+
+/// Puts so many bytes more at the end, for others to be read over them. Whole blocks of them are copied: `resize` writes one byte
+/// after the other, and takes as long as it does to read them.
+fn make_room(bytes: &mut Vec<u8>, count: usize) -> Result<(), AllocError>
+    ensures len { OnOk result (vec_len bytes.new ≡ vec_len bytes.old + count) }
+    ensures before { OnOk result (take (vec_len bytes.old) bytes.new.items ≡ bytes.old.items) }
+{
+    bytes.reserve(count)?;
+    let mut missing = count;
+    while missing > 0 {
+        let block = missing.min(ZEROS.len());
+        bytes.extend_from_slice(&ZEROS[..block])?;
+        missing -= block;
+    }
+    Ok(())
 }
 
 /// Fills what is behind the first `start` bytes, as `Folder::fill` does.
