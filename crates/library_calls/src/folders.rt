@@ -5,7 +5,7 @@ use std::fs;
 use std::fs::Files;
 use std::os::unix::fs::symlink;
 use std::process::Abort;
-use ts_folder::{DiskFolder, Failing, FaultyFolder, Folder, Kind, MemFolder, Trouble};
+use ts_folder::{DiskFolder, Failing, FaultyFolder, Folder, Kind, MemFolder, Names, Trouble};
 use ts_name::Name;
 use ts_text::{Counted, Lines};
 use ts_tree::{Tree, decode};
@@ -333,6 +333,78 @@ fn lists_and_reads_on_a_disk(rt: HostRuntime) {
     assert_reads_of_disk(&rt, alloc, &folder);
     assert_reads_of_large(&rt, alloc, &folder, &large);
     assert!(rt; fs::remove_dir_all(&rt, ROOT).is_ok());
+}
+
+/// How many files have names of more bytes than are asked for at once.
+const MANY_FILES: u32 = 3_000;
+
+/// The place of one of these files.
+fn numbered(alloc: Global, number: u32) -> Option<String> {
+    format!(in alloc; "names_on_disk/{:020}", number).ok()
+}
+
+/// Makes them.
+fn makes_many<R: Files>(files: &R, alloc: Global) -> bool {
+    for number in 0..MANY_FILES {
+        let Some(place) = numbered(alloc, number) else {
+            return false;
+        };
+        if fs::write(files, place.as_str(), "").is_err() {
+            return false;
+        }
+    }
+    true
+}
+
+/// The names of what stands in a directory, in ascending order.
+fn names_in<R: Files>(alloc: Global, files: &R, place: &str) -> Option<Vec<Name>> {
+    let mut found = Names::open(alloc, files, place).ok()?;
+    let mut names = Vec::new(alloc);
+    for _ in 0..u64::MAX {
+        let Some(name) = found.next_name().ok()? else {
+            break;
+        };
+        names.push(Name::parse(alloc, name).ok()?).ok()?;
+    }
+    names.sort_unstable();
+    Some(names)
+}
+
+/// Whether the directory at a place has the files' names, each once, and nothing else.
+fn names_many<R: Files>(alloc: Global, files: &R, place: &str) -> bool {
+    let Some(names) = names_in(alloc, files, place) else {
+        return false;
+    };
+    for (number, name) in (0..MANY_FILES).zip(names.iter()) {
+        let Some(wanted) = numbered(alloc, number) else {
+            return false;
+        };
+        if !wanted.as_bytes().ends_with(name.as_bytes()) || name.as_bytes().len() != 20 {
+            return false;
+        }
+    }
+    names.len() == MANY_FILES as usize
+}
+
+#[test]
+fn names_what_stands_in_a_directory(rt: HostRuntime) {
+    let alloc = rt.alloc();
+    assert!(rt; fs::create_dir(&rt, "names_on_disk").is_ok());
+    assert!(rt; names_in(alloc, &rt, "names_on_disk").is_some_and(|names| names.is_empty()));
+    assert!(rt; makes_many(&rt, alloc));
+    assert!(rt; names_many(alloc, &rt, "names_on_disk"));
+    // a link is followed where its place ends in `/`
+    assert!(rt; symlink(&rt, "names_on_disk", "link_to_names").is_ok());
+    assert!(rt; names_many(alloc, &rt, "link_to_names/"));
+    for place in [
+        "link_to_names",
+        "no_names",
+        "names_on_disk/00000000000000000000",
+    ] {
+        assert!(rt; names_in(alloc, &rt, place).is_none(), "{place}");
+    }
+    assert!(rt; fs::remove_file(&rt, "link_to_names").is_ok());
+    assert!(rt; fs::remove_dir_all(&rt, "names_on_disk").is_ok());
 }
 
 /// Up to two bytes of the file that is opened at a path, from an offset on.

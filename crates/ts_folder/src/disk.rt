@@ -4,21 +4,23 @@ ghost use Rattle.ts_folder.specs.Folders.{InOrder};
 
 use crate::fault::FolderFault;
 use crate::folder::{Folder, Kind};
+use crate::names::Names;
 use crate::packing::{pack_last, pack_rest};
 use std::alloc::Global;
 use std::cmp::Ordering;
-use std::fs::{DirEntry, FileType, Files};
+use std::fs::{FileType, Files};
 use std::io::{ErrorKind, Read, Seek, SeekFrom};
 use std::{fs, io};
 use ts_name::{Name, NameFault, Path};
 
 /// The name in the root that belongs to the program itself.
-const OWN: &str = ".twosync";
+const OWN: &[u8] = b".twosync";
 
 /// A directory of the file system and what is below it, by the leave to use files that it keeps.
 ///
 /// No link is followed but the root: before each call it is looked at what stands at the path and above it. Whoever puts a
-/// link there between the look and the call is followed. `.twosync` in the root is left out.
+/// link there between the look and the call is followed, unless it stands in place of a directory that is listed. `.twosync` in
+/// the root is left out.
 #[derive(Drop)]
 pub struct DiskFolder<R> {
     files: R,
@@ -36,7 +38,7 @@ impl<R> DiskFolder<R> {
     }
 }
 
-impl<R: Files + AllocGlobal + Clone + Drop + Sync> Folder for DiskFolder<R> {
+impl<R: Files + Drop + Sync> Folder for DiskFolder<R> {
     ghost use Rattle.std.specs.Prelude.{None};
 
     type File = R::File;
@@ -48,9 +50,13 @@ impl<R: Files + AllocGlobal + Clone + Drop + Sync> Folder for DiskFolder<R> {
     ghost is_open = { λ _ _ _. Unit {0} };
 
     fn list(&self, alloc: Global, path: &Path) -> Result<Vec<(Name, Kind)>, FolderFault> {
-        let spelled = path.place_below(alloc, self.root.as_str())?;
+        let mut spelled = path.place_below(alloc, self.root.as_str())?;
         if kind_below(&self.files, spelled.as_str(), self.root.len())? == Kind::File {
             return Err(FolderFault::NotThere);
+        }
+        if path.is_root() {
+            // it may be a link itself
+            spelled.push('/')?;
         }
         let mut names = read_names(alloc, &self.files, spelled.as_str(), path.is_root())?;
         names.sort_unstable_by(|one, other| one.0.cmp(&other.0));
@@ -168,37 +174,52 @@ fn listing_fault(e: &io::Error) -> FolderFault {
 /// The names in a directory as the system gives them, unseen: a look at each is left to whoever comes to it, so that several
 /// workers share the looks of one large directory. They share buffers, since a listing of many names stays until all that stands
 /// below has been scanned.
-fn read_names<R: Files + AllocGlobal + Clone + Drop>(
+fn read_names<R: Files>(
     alloc: Global,
     files: &R,
     spelled: &str,
     is_root: bool,
 ) -> Result<Vec<(Name, Kind)>, FolderFault> {
     let mut names = Vec::new(alloc);
-    let entries = match fs::read_dir(files, spelled) {
-        Ok(entries) => entries,
+    let mut found = match Names::open(alloc, files, spelled) {
+        Ok(found) => found,
         Err(e) => return Err(listing_fault(&e)),
     };
-    for entry in entries {
-        match entry {
-            Ok(entry) => {
-                if !(is_root && entry.file_name() == OWN) {
-                    names.push((name_of(alloc, &entry)?, Kind::Unseen))?;
-                    pack_last(alloc, &mut names)?;
-                }
-            }
-            Err(e) => return Err(listing_fault(&e)),
-        }
-    }
+    add_names(alloc, &mut names, &mut found, is_root)?;
     pack_rest(alloc, &mut names)?;
     // its room has grown by doubling
     names.shrink_to_fit();
     Ok(names)
 }
 
-/// The name of what stands in a directory.
-fn name_of<R: Files>(alloc: Global, entry: &DirEntry<R, Global>) -> Result<Name, FolderFault> {
-    match Name::parse(alloc, entry.file_name().as_bytes()) {
+/// Adds all names that are left, without the program's own in the root.
+fn add_names<D: Read + Drop>(
+    alloc: Global,
+    names: &mut Vec<(Name, Kind)>,
+    found: &mut Names<D>,
+    is_root: bool,
+) -> Result<(), FolderFault> {
+    for _ in 0..u64::MAX {
+        match found.next_name() {
+            Ok(Some(name)) if is_root && name == OWN => {}
+            Ok(Some(name)) => add_name(alloc, names, name)?,
+            Ok(None) => break,
+            Err(e) => return Err(listing_fault(&e)),
+        }
+    }
+    Ok(())
+}
+
+/// Adds the name that these bytes are.
+fn add_name(alloc: Global, names: &mut Vec<(Name, Kind)>, bytes: &[u8]) -> Result<(), FolderFault> {
+    names.push((name_of(alloc, bytes)?, Kind::Unseen))?;
+    pack_last(alloc, names)?;
+    Ok(())
+}
+
+/// The name that these bytes are.
+fn name_of(alloc: Global, bytes: &[u8]) -> Result<Name, FolderFault> {
+    match Name::parse(alloc, bytes) {
         Ok(name) => Ok(name),
         Err(NameFault::OutOfMemory) => Err(FolderFault::OutOfMemory),
         Err(NameFault::BadName) => Err(FolderFault::Unreadable),

@@ -6,6 +6,7 @@ pub mod fault;
 pub mod faulty;
 pub mod folder;
 pub mod memory;
+pub mod names;
 mod packing;
 
 pub use disk::DiskFolder;
@@ -13,3 +14,4 @@ pub use fault::{FolderFault, Trouble};
 pub use faulty::{Failing, FaultyFolder};
 pub use folder::{Call, Folder, Kind};
 pub use memory::MemFolder;
+pub use names::Names;
