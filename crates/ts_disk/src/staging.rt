@@ -10,6 +10,7 @@ use std::fs::{Files, OpenFile, OpenOptions, Permissions};
 use std::io::{ErrorKind, Write};
 use std::os::unix::fs::{OpenOptionsExt, PermissionsExt};
 use std::{fs, io};
+use ts_folder::Names;
 use ts_model::items::Items;
 use ts_model::row::{Content, Row};
 use ts_stage::StagedFile;
@@ -22,6 +23,9 @@ const FNV_OFFSET: u64 = 0xcbf2_9ce4_8422_2325;
 
 /// What it is multiplied by for each byte.
 const FNV_PRIME: u64 = 0x0000_0100_0000_01b3;
+
+/// What a hash is multiplied by in the end, so that high bits depend on low ones: 2^64 over the golden ratio, made odd.
+const MIXING: u64 = 0x9e37_79b9_7f4a_7c15;
 
 /// The bit by which an owner may write to a directory, as it takes to move one.
 const OWNER_WRITES: u32 = 0o200;
@@ -102,7 +106,7 @@ pub(crate) fn write_tree<R: Files + AllocGlobal>(
 }
 
 /// Does the same by what was staged, of which some files may be stored there already. All else that is missing is made.
-pub(crate) fn complete_tree<R: Files + AllocGlobal + Clone + Drop>(
+pub(crate) fn complete_tree<R: Files + AllocGlobal>(
     files: &R,
     staged: &[Row<StagedFile>],
     top: &str,
@@ -139,65 +143,124 @@ fn has_bits(row: &Row<StagedFile>) -> bool
 }
 
 /// Fails where a file that its pieces stored isn't there any more, as where somebody has cleaned out the program's own directory
-/// since. What is there has reached the device. A directory that has many files is listed, which takes less than a look at each.
-fn look_for_stored<R: Files + AllocGlobal + Clone + Drop>(
+/// since. What is there has reached the device.
+fn look_for_stored<R: Files + AllocGlobal>(
     files: &R,
     staged: &[Row<StagedFile>],
     top: &str,
 ) -> io::Result<()> {
-    // of each directory above a row the hashes of its names, where it is listed
-    let mut above = Vec::new(files.alloc());
-    for (index, row) in staged.iter().enumerate() {
-        above.truncate(row.path.depth());
-        match &row.content {
-            Content::Absent => {}
-            Content::Dir => {
-                let last = staged.get(index.saturating_add(MANY_BELOW));
-                let names = if last.is_some_and(|last| row.path.is_prefix(&last.path)) {
-                    Some(names_in(files, below(files, row, top)?.as_str())?)
-                } else {
-                    None
-                };
-                above.push(names)?;
-            }
-            Content::File(file) if file.bytes().is_some() => {}
-            Content::File(file) => {
-                let is_there = match (above.last(), row.path.last()) {
-                    (Some(Some(names)), Some(name)) => names.binary_search(&hash_of(name)).is_ok(),
-                    _ => is_stored(files, below(files, row, top)?.as_str(), file.size())?,
-                };
-                if !is_there {
-                    return Err(io::Error::from(ErrorKind::NotFound));
-                }
-            }
+    if has_all_names(files, staged, top)? {
+        return Ok(());
+    }
+    for row in staged {
+        if let Content::File(file) = &row.content
+            && !is_there(files, row, file, top)?
+        {
+            return Err(io::Error::from(ErrorKind::NotFound));
         }
     }
     Ok(())
 }
 
-/// Whether a file of this size is at a place.
-fn is_stored<R: Files>(files: &R, place: &str, size: u64) -> io::Result<bool> {
-    let found = metadata_at(files, place)?;
-    Ok(found.is_some_and(|found| found.is_file() && found.len() == size))
-}
-
-/// The hashes of the names in a directory, in ascending order: these are sorted in a fraction of the time that names take.
-fn names_in<R: Files + AllocGlobal + Clone + Drop>(files: &R, place: &str) -> io::Result<Vec<u64>> {
-    let mut hashes = Vec::new(files.alloc());
-    for entry in fs::read_dir(files, place)? {
-        hashes.push(hash_of(entry?.file_name().as_bytes()))?;
+/// Whether each file that is stored is there, and a directory that has many files has just the names of its rows: it is listed,
+/// which takes less than a look at each.
+fn has_all_names<R: Files + AllocGlobal>(
+    files: &R,
+    staged: &[Row<StagedFile>],
+    top: &str,
+) -> io::Result<bool> {
+    // of each directory above a row, where it is listed, what the hashes of its names add up to, less those of its rows so far
+    let mut above = Vec::new(files.alloc());
+    for (index, row) in staged.iter().enumerate() {
+        let depth = row.path.depth().min(above.len());
+        if !are_used_up(&above[depth..]) {
+            return Ok(false);
+        }
+        above.truncate(depth);
+        let is_listed = take_name(above.last_mut(), row);
+        match &row.content {
+            Content::Absent => {}
+            Content::Dir => {
+                let behind = staged.get(index.saturating_add(MANY_BELOW));
+                above.push(sum_where_many(files, row, behind, top)?)?;
+            }
+            Content::File(file) => {
+                if !is_listed && !is_there(files, row, file, top)? {
+                    return Ok(false);
+                }
+            }
+        }
     }
-    hashes.sort_unstable();
-    Ok(hashes)
+    Ok(are_used_up(&above))
 }
 
-/// A name's hash, by FNV-1a. Names with one hash are taken for each other, and of 2^64 hashes two names seldom have one.
+/// Whether nothing is left of the names of these directories, where they are listed.
+fn are_used_up(sums: &[Option<u64>]) -> bool {
+    sums.iter().all(|sum| sum.unwrap_or(0) == 0)
+}
+
+/// Takes a row's name from those that are left of its directory, and answers whether that is listed.
+fn take_name(left: Option<&mut Option<u64>>, row: &Row<StagedFile>) -> bool {
+    match (left, row.path.last()) {
+        (Some(Some(sum)), Some(name)) => {
+            *sum = sum.wrapping_sub(hash_of(name));
+            true
+        }
+        _ => false,
+    }
+}
+
+/// What the hashes of the names in the directory of a row add up to, if a row that comes so far behind it is still below it.
+fn sum_where_many<R: Files + AllocGlobal>(
+    files: &R,
+    row: &Row<StagedFile>,
+    behind: Option<&Row<StagedFile>>,
+    top: &str,
+) -> io::Result<Option<u64>> {
+    match behind {
+        Some(behind) if row.path.is_prefix(&behind.path) => {
+            Ok(Some(sum_of_names(files, below(files, row, top)?.as_str())?))
+        }
+        _ => Ok(None),
+    }
+}
+
+/// Whether the file of a row has its size where it was stored. One in memory has been written.
+fn is_there<R: Files + AllocGlobal>(
+    files: &R,
+    row: &Row<StagedFile>,
+    file: &StagedFile,
+    top: &str,
+) -> io::Result<bool> {
+    if file.bytes().is_some() {
+        return Ok(true);
+    }
+    let found = metadata_at(files, below(files, row, top)?.as_str())?;
+    Ok(found.is_some_and(|found| found.is_file() && found.len() == file.size()))
+}
+
+/// What the hashes of the names in a directory add up to.
+fn sum_of_names<R: Files + AllocGlobal>(files: &R, place: &str) -> io::Result<u64> {
+    let mut names = Names::open(files.alloc(), files, place)?;
+    let mut sum = 0u64;
+    for _ in 0..u64::MAX {
+        let Some(name) = names.next_name()? else {
+            break;
+        };
+        sum = sum.wrapping_add(hash_of(name));
+    }
+    Ok(sum)
+}
+
+/// A name's hash: FNV-1a, whose bits are mixed in the end. Without that the hashes of names that differ in their last letters alone
+/// often have the same sum.
 fn hash_of(name: &[u8]) -> u64 {
     let mut hash = FNV_OFFSET;
     for byte in name {
         hash = (hash ^ u64::from(*byte)).wrapping_mul(FNV_PRIME);
     }
-    hash
+    hash = (hash ^ (hash >> 32)).wrapping_mul(MIXING);
+    hash ^ (hash >> 32)
 }
 
 /// Gives one file or directory its permission bits. Where the file system keeps no such bits, it does without.
