@@ -1,5 +1,5 @@
 //! From words to commands.
-ghost use Rattle.std.specs.Prelude.{◌≡◌, ◌≢◌, ◌≤◌, ◌↔◌, ℕ, List, Option, Some, true, map, IfErr, IfNone, IfOk, IfSome, IsTrue, option_map};
+ghost use Rattle.std.specs.Prelude.{◌≡◌, ◌≢◌, ◌≤◌, ◌↔◌, ℕ, List, Option, Some, codes, true, map, IfErr, IfNone, IfOk, IfSome, IsTrue, option_map};
 ghost use Rattle.clap.specs.Words.{first_of, found_of, kind_of, rows_of, subcommand_rows_of, takes};
 ghost use Rattle.ts_command.specs.CommandLine.{command_line};
 ghost use Rattle.ts_command.specs.Readings.{AreWorkers, AsksToTell, Gives, HasCheckpoint, HasWorkers, IsAsked};
@@ -170,24 +170,31 @@ fn read_job<'a>(name: &str, matches: &ArgMatches<'a>) -> Option<Job<'a>>
         "show" => Some(Job::Show {
             archive: value(matches, "ARCHIVE")?,
         }),
-        "plan" => Some(Job::Plan {
-            pair: read_pair(matches)?,
-        }),
-        "preview" => Some(Job::Preview {
-            json: is_flagged(matches, "json"),
-            pair: read_pair(matches)?,
-        }),
-        "check" => Some(Job::Check {
-            plan: value(matches, "PLAN")?,
-            pair: read_pair(matches)?,
-        }),
-        "run" => Some(Job::Run {
-            plan: value(matches, "PLAN")?,
-            pair: read_pair(matches)?,
-        }),
-        "sync" => Some(Job::Sync {
-            pair: read_pair(matches)?,
-        }),
+        _ => paired_job(name, matches, read_pair(matches)?),
+    }
+}
+
+/// The job of this name, where it works on a pair.
+fn paired_job<'a>(name: &str, matches: &ArgMatches<'a>, pair: Pair<'a>) -> Option<Job<'a>>
+    ensures some { IsPair (rows_of (found_of matches.now)) pair.entry → IfSome result (IsJob name.now (rows_of (found_of matches.now))) }
+    ensures none { name.now ≢ codes "trial" → name.now ≢ codes "scan" → name.now ≢ codes "show"
+        → IfNone result ((job : Job) → ¬ IsJob name.now (rows_of (found_of matches.now)) job) }
+{
+    match name {
+        "plan" => Some(Job::Plan { pair }),
+        "preview" => {
+            let json = is_flagged(matches, "json");
+            Some(Job::Preview { pair, json })
+        }
+        "check" => {
+            let plan = value(matches, "PLAN")?;
+            Some(Job::Check { pair, plan })
+        }
+        "run" => {
+            let plan = value(matches, "PLAN")?;
+            Some(Job::Run { pair, plan })
+        }
+        "sync" => Some(Job::Sync { pair }),
         _ => None,
     }
 }
