@@ -10,27 +10,48 @@ usage: tools/slow.py CLONE CRATE [COUNT] [--test]
        checks the crate from nothing over the libraries that another clone has built, by one processor, and lists the COUNT
        slowest functions (30), with the share of it that went into each kind of module
        --test checks its tests, too: a crate that has nothing else is empty without them
+       tools/slow.py --watch [COUNT]
+       watches the proofs that run on this machine, as those of `rt ci`, and lists the COUNT slowest functions of each that ends
+       (10). Where a proof has several jobs, each module has the time since any of them wrote one: a function that takes long
+       beside others seems shorter than it is
 """
 import collections
+import glob
 import os
 import re
 import shutil
 import subprocess
 import sys
+import tempfile
+import time
 
 TOP = os.path.dirname(os.path.dirname(os.path.abspath(__file__)))
+# How many seconds there are between two looks.
+INTERVAL = 4
 # What a module's name ends in, where it belongs to a function or a type.
 KINDS = re.compile(r"\.(Lts|Tie|Proof|Goals|Answers\w*|Code|Mir|Named|Reads|View|Given|Layout|Kinds[\w-]*|Statement|Met|Invariants)\b.*")
 
 
-def modules_of(crate, kept):
-    """Yields for each module of a crate that a check has kept its name, and how many seconds after the one before it came."""
-    files = [(os.stat(f"{at}/{name}").st_mtime, name) for at, _, names in os.walk(kept) for name in names if name.endswith(".oantt")]
-    files.sort()
+def modules_in(kept):
+    """Returns when each module was written that a check has left below a folder so far, by its file's name."""
+    found = {}
+    for at, _, names in os.walk(kept):
+        for name in (it for it in names if it.endswith(".oantt")):
+            try:
+                found[name] = os.stat(f"{at}/{name}").st_mtime
+            except FileNotFoundError:
+                # (the check ended meanwhile)
+                continue
+    return found
+
+
+def modules_of(crate, found):
+    """Yields for each module of a crate its name, and how many seconds after the one before it came."""
+    files = sorted((written, name) for name, written in found.items())
     own = f"Rattle-{crate}-"
-    for (before, _), (time, name) in zip(files, files[1:]):
+    for (before, _), (written, name) in zip(files, files[1:]):
         if name.startswith(own):
-            yield name.removeprefix(own).removesuffix(".oantt"), time - before
+            yield name.removeprefix(own).removesuffix(".oantt"), written - before
 
 
 def summed(modules):
@@ -43,10 +64,43 @@ def summed(modules):
     return found
 
 
+def show(found, count):
+    """Prints how long all took, and the slowest functions."""
+    total = sum(sum(it.values()) for it in found.values())
+    print(f"{total:7.1f} s in all")
+    for function, kinds in sorted(found.items(), key=lambda it: -sum(it[1].values()))[:count]:
+        shares = ", ".join(f"{kind} {seconds:.1f}" for kind, seconds in kinds.most_common(3))
+        print(f"{sum(kinds.values()):7.1f}   {function} ({shares})", flush=True)
+
+
+def crate_of(names):
+    """Returns the name of the crate that most of some modules belong to, or None where there is none."""
+    owners = collections.Counter(it.split("-")[1] for it in names if it.startswith("Rattle-"))
+    return owners.most_common(1)[0][0] if owners else None
+
+
+def watch(count):
+    """Watches the folders in which the prover keeps modules while it works, and shows what each had when it goes."""
+    seen = {}
+    while True:
+        there = glob.glob(f"{tempfile.gettempdir()}/rattle-logic-built-locked-*")
+        for at in there:
+            seen.setdefault(at, {}).update(modules_in(at))
+        for at in [it for it in seen if it not in there]:
+            found = seen.pop(at)
+            crate = crate_of(found)
+            if crate:
+                print(f"{crate}:")
+                show(summed(modules_of(crate, found)), count)
+        time.sleep(INTERVAL)
+
+
 def main(words):
-    flags = [it for it in words if it == "--test"]
+    flags = [it for it in words if it.startswith("--")]
     words = [it for it in words if it not in flags]
-    if len(words) not in (2, 3):
+    if flags == ["--watch"] and len(words) <= 1 and all(it.isdigit() for it in words):
+        return watch(int(words[0]) if words else 10)
+    if flags not in ([], ["--test"]) or len(words) not in (2, 3):
         print(__doc__, file=sys.stderr)
         return 2
     clone, crate, count = words[0], words[1], int(words[2]) if len(words) == 3 else 30
@@ -57,12 +111,7 @@ def main(words):
     ran = subprocess.run(words, stdout=subprocess.PIPE, stderr=subprocess.STDOUT, text=True)
     if ran.returncode:
         print(ran.stdout, end="")
-    found = summed(modules_of(crate, kept))
-    total = sum(sum(it.values()) for it in found.values())
-    print(f"{total:7.1f} s in all")
-    for function, kinds in sorted(found.items(), key=lambda it: -sum(it[1].values()))[:count]:
-        shares = ", ".join(f"{kind} {seconds:.1f}" for kind, seconds in kinds.most_common(3))
-        print(f"{sum(kinds.values()):7.1f}   {function} ({shares})")
+    show(summed(modules_of(crate, modules_in(kept))), count)
     return ran.returncode
 
 
