@@ -10,13 +10,14 @@ use sha2::{Digest, Sha256};
 use std::fs::Files;
 use std::io::{ErrorKind, Read};
 use std::{fs, io};
+use ts_folder::Names;
 use ts_model::row::{Content, Row, Stamp};
 use ts_name::Path;
 use ts_print::SubPrint;
 
 /// Whether what was moved aside is still the part that was compared: the same files, with the sizes and times that were seen,
 /// and nothing else. The bytes are read again where a change may not show in a file's time.
-pub(crate) fn is_untouched<R: Files + AllocGlobal + Clone + Drop>(
+pub(crate) fn is_untouched<R: Files + AllocGlobal>(
     files: &R,
     before: &SubPrint<'_>,
     looks: &[Option<Look>],
@@ -26,23 +27,31 @@ pub(crate) fn is_untouched<R: Files + AllocGlobal + Clone + Drop>(
     let mut found: u64 = 1;
     for (row, look) in rows.iter().zip(looks) {
         let place = place_aside(files, &row.path, before.top(), aside)?;
-        let same = match (&row.content, look) {
-            (Content::Dir, None) => add_children(files, place.as_str(), &mut found)?,
-            (Content::File(stamp), Some(look)) => {
-                is_file_untouched(files, place.as_str(), stamp, look)?
-            }
-            _ => false,
-        };
-        if !same {
+        if !is_row_untouched(files, row, look, place.as_str(), &mut found)? {
             return Ok(false);
         }
     }
     Ok(found == rows.len() as u64)
 }
 
+/// Whether what a row says is at a place, as it was looked at. Of a directory the children are counted.
+fn is_row_untouched<R: Files + AllocGlobal>(
+    files: &R,
+    row: &Row<Stamp>,
+    look: &Option<Look>,
+    place: &str,
+    found: &mut u64,
+) -> io::Result<bool> {
+    match (&row.content, look) {
+        (Content::Dir, None) => add_children(files, place, found),
+        (Content::File(stamp), Some(look)) => is_file_untouched(files, place, stamp, look),
+        _ => Ok(false),
+    }
+}
+
 /// Whether the directories and files of these stamps lie at a place, and nothing else. Of each file the size is looked at, and
 /// then its bytes are read.
-pub(crate) fn is_same_tree<R: Files + AllocGlobal + Clone + Drop>(
+pub(crate) fn is_same_tree<R: Files + AllocGlobal>(
     files: &R,
     tree: &[Row<Stamp>],
     top: &str,
@@ -52,16 +61,25 @@ pub(crate) fn is_same_tree<R: Files + AllocGlobal + Clone + Drop>(
         let Ok(place) = row.path.place_below(files.alloc(), top) else {
             return Err(io::Error::from(ErrorKind::OutOfMemory));
         };
-        let same = match &row.content {
-            Content::Absent => false,
-            Content::Dir => add_children(files, place.as_str(), &mut found)?,
-            Content::File(stamp) => has_stamp(files, place.as_str(), stamp)?,
-        };
-        if !same {
+        if !is_row_there(files, row, place.as_str(), &mut found)? {
             return Ok(false);
         }
     }
     Ok(found == tree.len() as u64)
+}
+
+/// Whether what a row says is at a place. Of a directory the children are counted.
+fn is_row_there<R: Files + AllocGlobal>(
+    files: &R,
+    row: &Row<Stamp>,
+    place: &str,
+    found: &mut u64,
+) -> io::Result<bool> {
+    match &row.content {
+        Content::Absent => Ok(false),
+        Content::Dir => add_children(files, place, found),
+        Content::File(stamp) => has_stamp(files, place, stamp),
+    }
 }
 
 /// Where a path that stood below a top lies now that the top was moved aside.
@@ -83,7 +101,7 @@ fn place_aside<R: AllocGlobal>(
 }
 
 /// Adds how many children a directory has. False where no directory is, or one of its names is no text.
-fn add_children<R: Files + AllocGlobal + Clone + Drop>(
+fn add_children<R: Files + AllocGlobal>(
     files: &R,
     place: &str,
     found: &mut u64,
@@ -91,11 +109,12 @@ fn add_children<R: Files + AllocGlobal + Clone + Drop>(
     if kind_at(files, place)? != Standing::Dir {
         return Ok(false);
     }
-    for entry in fs::read_dir(files, place)? {
-        match entry {
-            Ok(_) => *found = found.saturating_add(1),
-            Err(e) if e.kind() == ErrorKind::InvalidFilename => return Ok(false),
-            Err(e) => return Err(e),
+    let mut names = Names::open(files.alloc(), files, place)?;
+    for _ in 0..u64::MAX {
+        match names.next_name()? {
+            Some(name) if str::from_utf8(name).is_ok() => *found = found.saturating_add(1),
+            Some(_) => return Ok(false),
+            None => break,
         }
     }
     Ok(true)

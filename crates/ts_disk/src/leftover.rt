@@ -3,6 +3,7 @@ ghost use Rattle.std.specs.Prelude.{◌≡◌, IfOk};
 ghost use Rattle.std.specs.String.{string_bytes};
 ghost use Rattle.ts_disk.specs.Names.{IsNumbered};
 
+use crate::listing::text_names;
 use crate::modes::PRIVATE_DIR;
 use crate::names::{is_trash, stage_number};
 use crate::place::{Standing, kind_at, own_place};
@@ -38,16 +39,24 @@ pub(crate) fn remove_trash<R: Files + AllocGlobal + Clone + Drop>(
     if kind_at(files, own.as_str())? != Standing::Dir {
         return Ok(());
     }
-    for found in fs::read_dir(files, own.as_str())? {
-        if let Ok(found) = found {
-            let name = found.file_name();
-            let place = format!(in alloc; "{own}/{name}")?;
-            if is_trash(name) {
-                let _ = remove_at(files, place.as_str());
-            } else if stage_number(name).is_some() {
-                let _ = discard_at(files, own.as_str(), place.as_str());
-            }
-        }
+    for name in &text_names(files, own.as_str())? {
+        remove_left(files, alloc, own.as_str(), name.as_str())?;
+    }
+    Ok(())
+}
+
+/// Tries to remove what has this name in the program's own directory, if it is trash or a stage.
+fn remove_left<R: Files + AllocGlobal + Clone + Drop>(
+    files: &R,
+    alloc: Global,
+    own: &str,
+    name: &str,
+) -> io::Result<()> {
+    let place = format!(in alloc; "{own}/{name}")?;
+    if is_trash(name) {
+        let _ = remove_at(files, place.as_str());
+    } else if stage_number(name).is_some() {
+        let _ = discard_at(files, own, place.as_str());
     }
     Ok(())
 }
@@ -125,22 +134,30 @@ fn open_up<R: Files + AllocGlobal + Clone + Drop>(files: &R, top: &str) -> io::R
 }
 
 /// Adds the directories in a directory, if it can be listed.
-fn add_dirs<R: Files + AllocGlobal + Clone + Drop>(
+fn add_dirs<R: Files + AllocGlobal>(
     files: &R,
     dir: &str,
     found: &mut Vec<String>,
 ) -> io::Result<()> {
-    let Ok(listing) = fs::read_dir(files, dir) else {
+    let Ok(names) = text_names(files, dir) else {
         return Ok(());
     };
-    for child in listing {
-        if let Ok(child) = child {
-            let name = child.file_name();
-            let place = format!(in files.alloc(); "{dir}/{name}")?;
-            if kind_at(files, place.as_str())? == Standing::Dir {
-                found.push(place)?;
-            }
-        }
+    for name in &names {
+        add_dir(files, dir, name.as_str(), found)?;
+    }
+    Ok(())
+}
+
+/// Adds what has this name in a directory, if it is a directory.
+fn add_dir<R: Files + AllocGlobal>(
+    files: &R,
+    dir: &str,
+    name: &str,
+    found: &mut Vec<String>,
+) -> io::Result<()> {
+    let place = format!(in files.alloc(); "{dir}/{name}")?;
+    if kind_at(files, place.as_str())? == Standing::Dir {
+        found.push(place)?;
     }
     Ok(())
 }

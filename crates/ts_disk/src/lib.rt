@@ -7,6 +7,7 @@ mod compare;
 mod fault;
 mod flushing;
 mod leftover;
+mod listing;
 mod lock;
 mod look;
 mod modes;

@@ -9,6 +9,7 @@ ghost use Rattle.ts_model.specs.declared.plan.Entry.{Entry};
 
 use crate::fault::{DiskFault, device_failed};
 use crate::leftover::{Aside, discard_at, remove_trash};
+use crate::listing::text_names;
 use crate::names::{kept_number, spot_number, stage_number};
 use crate::notice::Notice;
 use crate::place::{Standing, look_at, own_place, stage_place};
@@ -168,28 +169,15 @@ fn own_names<R: Files + AllocGlobal + Clone + Drop>(
 ) -> Result<Vec<String>, DiskFault> {
     let own = own_place(alloc, root)?;
     match look_at(files, own.as_str(), root.len()).map_err(device_failed)? {
-        Standing::Dir => names_in(files, alloc, own.as_str()),
+        Standing::Dir => match text_names(files, own.as_str()) {
+            Ok(names) => Ok(names),
+            Err(e) if e.kind() == ErrorKind::OutOfMemory => Err(DiskFault::OutOfMemory),
+            Err(e) => Err(device_failed(e)),
+        },
         Standing::Nothing | Standing::CutOff | Standing::File | Standing::Other => {
             Ok(Vec::new(alloc))
         }
     }
-}
-
-/// The names in a directory, but for those that aren't text: none of the program's own is such a name.
-fn names_in<R: Files + AllocGlobal + Clone + Drop>(
-    files: &R,
-    alloc: Global,
-    place: &str,
-) -> Result<Vec<String>, DiskFault> {
-    let mut names = Vec::new(alloc);
-    for found in fs::read_dir(files, place).map_err(device_failed)? {
-        match found {
-            Ok(found) => names.push(String::from_str(alloc, found.file_name())?)?,
-            Err(e) if e.kind() == ErrorKind::InvalidFilename => {}
-            Err(e) => return Err(device_failed(e)),
-        }
-    }
-    Ok(names)
 }
 
 /// The numbers of the entries whose new or old spots are among some names, each once, in order.

@@ -7,7 +7,7 @@ ghost use Rattle.ts_name.specs.Paths.{place_text};
 use crate::modes::{PRIVATE_DIR, PRIVATE_FILE, permissions_at};
 use crate::place::{Standing, make_missing_dir, make_private_dir, metadata_at};
 use std::fs::{Files, OpenFile, OpenOptions, Permissions};
-use std::io::{ErrorKind, Write};
+use std::io::{ErrorKind, Read, Write};
 use std::os::unix::fs::{OpenOptionsExt, PermissionsExt};
 use std::{fs, io};
 use ts_folder::Names;
@@ -92,17 +92,22 @@ pub(crate) fn write_tree<R: Files + AllocGlobal>(
     bits: &Bits<'_>,
 ) -> io::Result<()> {
     for row in tree {
-        let place = below(files, row, top)?;
-        match &row.content {
-            Content::Absent => {}
-            Content::Dir => make_private_dir(files, place.as_str())?,
-            Content::File(bytes) => write_file(files, place.as_str(), bytes.as_slice())?,
-        }
+        write_row(files, row, top)?;
     }
     for row in tree.iter().rev() {
         close_row(files, row, top, bits)?;
     }
     Ok(())
+}
+
+/// Writes what a row says, for the owner alone.
+fn write_row<R: Files + AllocGlobal>(files: &R, row: &Row<Items<u8>>, top: &str) -> io::Result<()> {
+    let place = below(files, row, top)?;
+    match &row.content {
+        Content::Absent => Ok(()),
+        Content::Dir => make_private_dir(files, place.as_str()),
+        Content::File(bytes) => write_file(files, place.as_str(), bytes.as_slice()),
+    }
 }
 
 /// Does the same by what was staged, of which some files may be stored there already. All else that is missing is made.
@@ -113,15 +118,7 @@ pub(crate) fn complete_tree<R: Files + AllocGlobal>(
     bits: &Bits<'_>,
 ) -> io::Result<()> {
     for row in staged {
-        match &row.content {
-            Content::Absent => {}
-            Content::Dir => make_missing_dir(files, below(files, row, top)?.as_str())?,
-            Content::File(file) => {
-                if let Some(bytes) = file.bytes() {
-                    write_file(files, below(files, row, top)?.as_str(), bytes)?;
-                }
-            }
-        }
+        complete_row(files, row, top)?;
     }
     look_for_stored(files, staged, top)?;
     for row in staged.iter().rev() {
@@ -130,6 +127,22 @@ pub(crate) fn complete_tree<R: Files + AllocGlobal>(
         }
     }
     Ok(())
+}
+
+/// Makes what a row says, for the owner alone, unless it is stored already.
+fn complete_row<R: Files + AllocGlobal>(
+    files: &R,
+    row: &Row<StagedFile>,
+    top: &str,
+) -> io::Result<()> {
+    match &row.content {
+        Content::Absent => Ok(()),
+        Content::Dir => make_missing_dir(files, below(files, row, top)?.as_str()),
+        Content::File(file) => match file.bytes() {
+            Some(bytes) => write_file(files, below(files, row, top)?.as_str(), bytes),
+            None => Ok(()),
+        },
+    }
 }
 
 /// Whether a row has a file that was given its permission bits as it was stored: any stored one below the top.
@@ -172,26 +185,37 @@ fn has_all_names<R: Files + AllocGlobal>(
     // of each directory above a row, where it is listed, what the hashes of its names add up to, less those of its rows so far
     let mut above = Vec::new(files.alloc());
     for (index, row) in staged.iter().enumerate() {
-        let depth = row.path.depth().min(above.len());
-        if !are_used_up(&above[depth..]) {
+        let behind = staged.get(index.saturating_add(MANY_BELOW));
+        if !has_row(files, row, behind, top, &mut above)? {
             return Ok(false);
-        }
-        above.truncate(depth);
-        let is_listed = take_name(above.last_mut(), row);
-        match &row.content {
-            Content::Absent => {}
-            Content::Dir => {
-                let behind = staged.get(index.saturating_add(MANY_BELOW));
-                above.push(sum_where_many(files, row, behind, top)?)?;
-            }
-            Content::File(file) => {
-                if !is_listed && !is_there(files, row, file, top)? {
-                    return Ok(false);
-                }
-            }
         }
     }
     Ok(are_used_up(&above))
+}
+
+/// Takes up the next row, of which the one that comes so far behind it is given, too. False where its file isn't there, or a
+/// directory before it had other names.
+fn has_row<R: Files + AllocGlobal>(
+    files: &R,
+    row: &Row<StagedFile>,
+    behind: Option<&Row<StagedFile>>,
+    top: &str,
+    above: &mut Vec<Option<u64>>,
+) -> io::Result<bool> {
+    let depth = row.path.depth().min(above.len());
+    if !are_used_up(&above[depth..]) {
+        return Ok(false);
+    }
+    above.truncate(depth);
+    let is_listed = take_name(above.last_mut(), row);
+    match &row.content {
+        Content::Absent => Ok(true),
+        Content::Dir => {
+            above.push(sum_where_many(files, row, behind, top)?)?;
+            Ok(true)
+        }
+        Content::File(file) => Ok(is_listed || is_there(files, row, file, top)?),
+    }
 }
 
 /// Whether nothing is left of the names of these directories, where they are listed.
@@ -242,12 +266,17 @@ fn is_there<R: Files + AllocGlobal>(
 /// What the hashes of the names in a directory add up to.
 fn sum_of_names<R: Files + AllocGlobal>(files: &R, place: &str) -> io::Result<u64> {
     let mut names = Names::open(files.alloc(), files, place)?;
+    sum_of(&mut names)
+}
+
+/// What the hashes of the names that are left add up to.
+fn sum_of<D: Read + Drop>(names: &mut Names<D>) -> io::Result<u64> {
     let mut sum = 0u64;
     for _ in 0..u64::MAX {
-        let Some(name) = names.next_name()? else {
-            break;
-        };
-        sum = sum.wrapping_add(hash_of(name));
+        match names.next_name()? {
+            Some(name) => sum = sum.wrapping_add(hash_of(name)),
+            None => break,
+        }
     }
     Ok(sum)
 }
