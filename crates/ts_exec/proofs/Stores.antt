@@ -33,6 +33,11 @@ module _ (k : Checkup) (run more : Run) (later : StartsWith more run) where
   pub stays_from : (last : Run) (old new : Store) → StaysKept k more old last new → StaysKept k run old last new
   stays_from last old new stays before kept = stays before (kept_later before old kept)
 
+-- neither was changed
+pub stays_still : (k : Checkup) (run more : Run) (old new : Store) → more ≡ run → new ≡ old → StaysKept k run old more new
+stays_still k run more old new same stores =
+    subst (λ (z : Run). StaysKept k run old z new) (sym same) (subst (λ (z : Store). StaysKept k run old run z) (sym stores) (λ before kept. kept))
+
 -- what stays so until some moment, and from there on
 pub stays_through : (k : Checkup) (run then last : Run) (old mid new : Store) → StaysKept k run old then mid → StaysKept k then mid last new → StaysKept k run old last new
 stays_through k run then last old mid new first second before kept = second before (first before kept)

@@ -1,5 +1,5 @@
 -- Passes of workers that are cut and put together.
-use Rattle.std.proofs.Common.{◌≡◌, ℕ, ◌+◌, ◌*◌, ◌^◌, List, [], ◌++◌, length, Option, Some, IfSome, slice_get, sym, ◌∙◌, subst, ⊎_elim}
+use Rattle.std.proofs.Common.{◌≡◌, ◌⊎◌, ℕ, ◌+◌, ◌*◌, ◌^◌, Bool, false, IsTrue, List, [], ◌++◌, length, Option, Some, IfSome, slice_get, refl, sym, ◌∙◌, subst, ⊎_elim}
 use Rattle.std.specs.List.{All}
 use Rattle.std.specs.Option.{option_to_list}
 use Rattle.std.proofs.lemmas.List.Elements.{All-pop}
@@ -43,6 +43,11 @@ module _ {S : Type 0} (id : TableId) (t : Terms) (x : Setting) where
     noted = subst (λ (z : Run). Noted x z (seen q) fs) (sym same) (subst (λ (z : Run). Noted x (mine p) z fs) (sym sees) k.noted);
   }
 
+  -- nothing was changed
+  pub kept_notes : (p q : Pass S) (fs gs : List (Option ActFault)) → q ≡ p → gs ≡ fs → KeepsNotes id t x p fs → KeepsNotes id t x q gs
+  kept_notes p q fs gs same faults k =
+      subst (λ (z : Pass S). KeepsNotes id t x z gs) (sym same) (subst (λ (z : List (Option ActFault)). KeepsNotes id t x p z) (sym faults) k)
+
   pub joined_notes : (p q r : Pass S) (before after : List (Option ActFault)) (failures : List Failure) → KeepsNotes id t x p before → KeepsList id t x q failures → IsPassAt id t r → StartsWith (seen r) (seen p) → StartsWith (seen r) (seen q)
       → IsMerged (mine p) (mine q) (mine r) → length after ≡ length before → ((run : Run) → MayBe x run failures → (i : ℕ) → HasFault x run before i → HasFault x run after i)
       → ((run : Run) → MayBe x run failures → (i : ℕ) → IsListed i failures → HasFault x run after i) → KeepsNotes id t x r after
@@ -65,6 +70,17 @@ module _ {S : Type 0} (id : TableId) (t : Terms) (x : Setting) where
 -- what holds of all elements holds of the one that was taken off
 pub of_popped : {X : Type 0} (P : X → Type 0) (xs ys : List X) (r : Option X) (x : X) → xs ≡ ys ++ option_to_list r → r ≡ Some x → All P xs → P x
 of_popped P xs ys r x is some all = subst (λ (z : Option _). IfSome z P) some (All-pop P xs ys r is all).1
+
+pub kept_share : {S : Type 0} (p q : Pass S) → q ≡ p → IsSameShare p q
+kept_share p q same = subst (λ (z : Pass _). IsSameShare p z) (sym same) refl
+
+-- whoever was not stopped
+pub not_stopped : {A : Type 0} (b : Bool) → b ≡ false → IsTrue b → A
+not_stopped b none h = absurd (true≢false (sym h ∙ none))
+
+-- one of two was stopped
+pub either_stopped : {A : Type 0} (a b r : Bool) → (IsTrue r → IsTrue a ⊎ IsTrue b) → (IsTrue a → A) → (IsTrue b → A) → IsTrue r → A
+either_stopped a b r cases one other h = ⊎_elim one other (cases h)
 
 -- the halves of a pass, what became of them, and the two put together
 pub joined_share : {S : Type 0} (p ours theirs rest worked r : Pass S) → HasPart ours p.seat.me.0.part (p.seat.me.0.cut + 1) → HasPart theirs p.seat.me.0.part (p.seat.me.0.cut + 1) → IsSameShare ours rest → IsSamePart theirs worked

@@ -137,6 +137,10 @@ try_none plan i fault = record { tidy = tidy_start plan; done = λ k h. absurd (
 
 -- ---- the steps of a try, one after another
 
+-- what was just done is done
+pub done_here_last : (own : Run) (i a : ℕ) (w : Work) → a ≡ i → Has (own ++ Act a w ∷ Done a ∷ []) (finishes i)
+done_here_last own i a w same = has_right (finishes i) own (Act a w ∷ Done a ∷ []) (or_left (eqb i a) false (eq-eqb i a (sym same)))
+
 pub steps_done : (own more rest : Run) (i : ℕ) (w : Work) → (((own ++ Claim i ∷ []) ++ more) ++ Act i w ∷ Done i ∷ []) ++ rest ≡ own ++ block i more (Act i w ∷ Done i ∷ rest)
 steps_done own more rest i w = simp append_assoc
 
