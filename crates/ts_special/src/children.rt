@@ -1,26 +1,35 @@
 //! What stands in a directory, whatever it is.
 
-use crate::looks::{Sort, fault_of, place_in, sort_at};
+use crate::looks::{Sort, fault_of, look_above, place_in, sort_at};
 use crate::naming::stand_in;
 use std::alloc::Global;
 use std::fs::Files;
-use std::io::{ErrorKind, Read};
+use std::io::Read;
 use std::str;
-use ts_folder::FolderFault;
-use ts_name::Name;
+use ts_folder::{FolderFault, Names};
+use ts_name::{Name, Path};
 
 /// The name of the program's own directory in a replica.
 const OWN: &[u8] = b".twosync";
 
-/// How many bytes of names are read at once.
-const ROOM: usize = 65_536;
+/// What stands in the directory at a path below a root, as `children` says. No link is followed on the way but the root.
+pub(crate) fn children_at<R: Files>(
+    alloc: Global,
+    files: &R,
+    root: &str,
+    path: &Path,
+) -> Result<Vec<(Name, Sort)>, FolderFault> {
+    let place = path.place_below(alloc, root)?;
+    look_above(files, place.as_str(), root.len())?;
+    children(alloc, files, place.as_str(), path.is_root())
+}
 
 /// What stands in the directory at a place, by ascending names. A name that isn't lawful is special and has its stand-in;
 /// where something else has that name, too, both are one. What vanishes meanwhile is left out.
 ///
 /// `Unreadable` where the directory must not be listed, and where it is a replica below a replica: then it has the
 /// program's own directory, which in the root is left out.
-pub(crate) fn children<R: Files>(
+fn children<R: Files>(
     alloc: Global,
     files: &R,
     place: &str,
@@ -83,35 +92,35 @@ fn read_names<R: Files>(
     place: &str,
     is_root: bool,
 ) -> Result<Vec<Vec<u8>>, FolderFault> {
-    let opened = if is_root {
+    if is_root {
         // by the slash a link is followed
-        files.open_dir(place_in(alloc, place, "")?.as_str())
+        let place = place_in(alloc, place, "")?;
+        names_at(alloc, files, place.as_str())
     } else {
-        files.open_dir(place)
-    };
-    let mut dir = match opened {
-        Ok(dir) => dir,
-        Err(e) => return Err(fault_of(&e)),
-    };
-    let mut buffer = vec![in alloc; 0u8; ROOM]?;
+        names_at(alloc, files, place)
+    }
+}
+
+/// The names in the directory at a place. A link is followed only where the place ends in `/`.
+fn names_at<R: Files>(alloc: Global, files: &R, place: &str) -> Result<Vec<Vec<u8>>, FolderFault> {
+    match Names::open(alloc, files, place) {
+        Ok(mut found) => names_left(alloc, &mut found),
+        Err(e) => Err(fault_of(&e)),
+    }
+}
+
+/// The names that are left.
+fn names_left<D: Read + Drop>(
+    alloc: Global,
+    found: &mut Names<D>,
+) -> Result<Vec<Vec<u8>>, FolderFault> {
     let mut names = Vec::new(alloc);
     for _ in 0..u64::MAX {
-        match dir.read(buffer.as_mut_slice()) {
-            Ok(0) => return Ok(names),
-            Ok(count) => push_names(alloc, &buffer[..count], &mut names)?,
-            Err(e) if e.kind() == ErrorKind::Interrupted => {}
+        match found.next_name() {
+            Ok(Some(name)) => names.push(Vec::from_slice(alloc, name)?)?,
+            Ok(None) => return Ok(names),
             Err(e) => return Err(fault_of(&e)),
         }
     }
     Err(FolderFault::Device)
-}
-
-/// Adds names, each of which is ended by a zero byte; `.` and `..` are left out.
-fn push_names(alloc: Global, bytes: &[u8], names: &mut Vec<Vec<u8>>) -> Result<(), FolderFault> {
-    for name in bytes.split(|b| *b == 0) {
-        if !name.is_empty() && name != b".".as_slice() && name != b"..".as_slice() {
-            names.push(Vec::from_slice(alloc, name)?)?;
-        }
-    }
-    Ok(())
 }

@@ -2,8 +2,8 @@
 ghost use Rattle.std.specs.Prelude.{◌≡◌, IfOk, IsTrue, drop, length, min, take};
 ghost use Rattle.ts_folder.specs.Folders.{InOrder};
 
-use crate::children::children;
-use crate::looks::{Sort, look_above};
+use crate::children::children_at;
+use crate::looks::Sort;
 use crate::specials::Specials;
 use std::alloc::Global;
 use std::cmp::Ordering;
@@ -68,9 +68,7 @@ impl<R: Files + AllocGlobal + Clone + Drop + Sync> Folder for HoldingFolder<R> {
         if !self.specials.has_below(path) {
             return self.folder.list(alloc, path);
         }
-        let place = path.place_below(alloc, self.root.as_str())?;
-        look_above(&self.files, place.as_str(), self.root.len())?;
-        let children = children(alloc, &self.files, place.as_str(), path.is_root())?;
+        let children = children_at(alloc, &self.files, self.root.as_str(), path)?;
         let names = kinds(alloc, path, children, &self.specials)?;
         if is_in_order(&names) {
             Ok(names)

@@ -1,7 +1,7 @@
 //! Where the paths are that can't be synchronized.
 
-use crate::children::children;
-use crate::looks::{Sort, can_be_read, look_above};
+use crate::children::children_at;
+use crate::looks::{Sort, can_be_read};
 use crate::specials::Specials;
 use std::alloc::Global;
 use std::fs::Files;
@@ -63,10 +63,8 @@ impl<R: Files> Walk<'_, '_, R> {
 
     /// The paths that stand in a directory, or none where one of them would be past the limits of a path.
     fn children_of(&self, path: &Path) -> Result<Option<Vec<(Path, Sort)>>, FolderFault> {
-        let place = path.place_below(self.alloc, self.root)?;
-        look_above(self.files, place.as_str(), self.root.len())?;
         let mut paths = Vec::new(self.alloc);
-        for (name, sort) in children(self.alloc, self.files, place.as_str(), path.is_root())? {
+        for (name, sort) in children_at(self.alloc, self.files, self.root, path)? {
             match path.child(self.alloc, &name) {
                 Ok(child) => paths.push((child, sort))?,
                 Err(PathFault::TooLong) => return Ok(None),
