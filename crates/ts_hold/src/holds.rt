@@ -1,5 +1,5 @@
 //! Hold rules.
-ghost use Rattle.std.specs.Prelude.{◌≡◌, ◌≢◌, ◌↔◌, [], List, IfErr, IfOk, IsTrue, length, map};
+ghost use Rattle.std.specs.Prelude.{◌≡◌, ◌≢◌, ◌↔◌, ◌∷◌, ◌++◌, [], List, IfErr, IfOk, IsTrue, length, map};
 ghost use Rattle.std.specs.Bool.{MatchBool};
 ghost use Rattle.ts_model.specs.Holds.{Names, RuleNames};
 ghost use Rattle.ts_model.specs.Texts.{IsRules, IsRulesText, rule_line, text};
@@ -133,12 +133,21 @@ impl Holds {
         let rules = self.rules();
         let mut line = Vec::new(alloc);
         for rule in rules {
-            line.clear();
-            push_rule(rule, &mut line)?;
-            write_line(sink, &line)?;
+            write_rule(rule, &mut line, sink)?;
         }
         Ok(())
     }
+}
+
+/// Writes the line of a rule. `line` is room for one line.
+fn write_rule<W: Sink>(rule: &Rule, line: &mut Vec<u8>, sink: &mut W) -> Result<(), TextFault>
+    ensures written { Writes (W.holds sink.old) (W.holds sink.new) (rule_line rule.now ++ 10 ∷ []) result }
+    ensures failures { FailuresFit (W.failures sink.old) (W.failures sink.new) result }
+    ensures err { IfErr result (λ e. e ≢ fault.NotCanonical) }
+{
+    line.clear();
+    push_rule(rule, line)?;
+    write_line(sink, line)
 }
 
 /// Whether some rule of one path names the path.

@@ -1,5 +1,5 @@
 -- What differs at a path and below it, up to where a walk is.
-use Rattle.std.proofs.Common.{◌≡◌, ◌≢◌, ◌⊎◌, ◌↔◌, Bool, List, IsTrue, sym, subst, ◌∙◌, inl, inr}
+use Rattle.std.proofs.Common.{◌≡◌, ◌≢◌, ◌⊎◌, ◌↔◌, ◌<◌, Bool, List, IsTrue, sym, subst, ◌∙◌, inl, inr, arith}
 use Rattle.ts_name.specs.Paths.{Path, IsAbove, IsBefore}
 use Rattle.ts_name.proofs.Order.{above_first, before_cases, before_itself, before_trans, decide_before}
 use Rattle.ts_name.proofs.Prefixes.{above_itself}
@@ -10,7 +10,7 @@ use Rattle.ts_model.specs.declared.hold.Rule.{Rule}
 use Rattle.ts_model.specs.declared.row.Content.{Content}
 use Rattle.ts_model.specs.declared.row.Content.TheVariants.{Absent}
 use Rattle.ts_model.specs.declared.row.Stamp.{Stamp}
-use Rattle.ts_print.specs.Walks.{IsLeft, IsPresent, IsThere, IsWalkStep, Left}
+use Rattle.ts_print.specs.Walks.{IsLeft, IsPresent, IsThere, IsWalkStep, Left, left_count}
 use Rattle.ts_print.proofs.Walks.{step_between, step_forward, step_there}
 use Rattle.ts_need.specs.Merges.{AreFoundUpto, SomeUpto}
 use Rattle.ts_need.specs.declared.differences.Differences.{Differences}
@@ -138,3 +138,17 @@ module _ (A F S : Listing Stamp) (rules : List Rule) where
 
       nowhere : (x : Path) → IsBefore b x → IsBefore x q → IsThere A F S x Absent Absent Absent
       nowhere = step_between A F S b q a f s left next is step
+
+-- each step takes something off what is left
+pub step_shorter : (p : Path) (archive first second : Content Stamp) (old new : Left) → IsWalkStep p archive first second old new → left_count new < left_count old
+step_shorter p archive first second old new step =
+    let archive_kept = step.in_archive.no_more in
+    let first_kept = step.in_first.no_more in
+    let second_kept = step.in_second.no_more in
+    elim step.some [
+      | inl there ↦ let less = step.in_archive.less there in omega arith
+      | inr more ↦ elim more [
+        | inl there ↦ let less = step.in_first.less there in omega arith
+        | inr there ↦ let less = step.in_second.less there in omega arith
+      ]
+    ]

@@ -1,8 +1,8 @@
 -- What goes out to a sink, one write after another.
-use Rattle.std.proofs.Common.{◌≡◌, ℕ, List, [], ◌∷◌, ◌++◌, Option, Result, Ok, Err, refl, sym, ap, ◌∙◌, subst, append_assoc, append-nil, arith, zero, suc, ◌+◌, ◌<◌, get_or, take, drop, flat_map, map, length, codes, decimal, take-append-drop}
+use Rattle.std.proofs.Common.{◌≡◌, ℕ, List, [], ◌∷◌, ◌++◌, Option, Result, Ok, Err, refl, sym, ap, ◌∙◌, subst, append_assoc, append-nil, arith, zero, suc, ◌+◌, ◌<◌, ◌≤◌, get_or, take, drop, flat_map, map, length, codes, decimal, take-append-drop}
 use Rattle.std.specs.Io.KnownBytes.{Appends}
 use Rattle.std.proofs.KnownBytes.{Appends-trans, Appends-nil}
-use Rattle.std.proofs.lemmas.List.{take_more}
+use Rattle.std.proofs.lemmas.List.{take_all, take_more}
 use Rattle.std.proofs.lemmas.List.Concat.{flat_map-append}
 use Rattle.ts_model.specs.Texts.{text, entry_line, kind_line, pred_line, action_lines, plan_lines}
 use Rattle.ts_model.specs.declared.plan.Entry.{Entry}
@@ -39,6 +39,19 @@ sent_short old new a c bytes more PastLimit h = absurd h
 chunk_more : {A : Type 0} (g : A → List ℕ) (xs : List A) (i : ℕ) (x : A) → i < length xs → x ≡ get_or xs i x → flat_map g (take (i + 1) xs) ≡ flat_map g (take i xs) ++ g x
 chunk_more g xs i x small is =
     ap (flat_map g) (take_more xs i x small) ∙ flat_map-append g (take i xs) (get_or xs i x ∷ []) ∙ ap (λ z. flat_map g (take i xs) ++ z) (append-nil (g (get_or xs i x)) ∙ ap g (sym is))
+
+-- one item more went out
+pub loop_more : {A : Type 0} (g : A → List ℕ) (xs : List A) (i : ℕ) (x : A) (old mid new : Option (List ℕ)) (a b c : ℕ) → i < length xs → x ≡ get_or xs i x
+    → Appends old mid (flat_map g (take i xs)) × (b ≡ a) → Appends mid new (g x) × (c ≡ b) → Appends old new (flat_map g (take (i + 1) xs)) × (c ≡ a)
+loop_more g xs i x old mid new a b c small is before here = (
+  subst (λ z. Appends old new z) (sym (chunk_more g xs i x small is)) (Appends-trans old mid new (flat_map g (take i xs)) (g x) before.0 here.0),
+  here.1 ∙ before.1,
+)
+
+-- all of them did
+pub loop_sent : {A : Type 0} (g : A → List ℕ) (xs : List A) (i : ℕ) (old new : Option (List ℕ)) (a c : ℕ) → length xs ≤ i
+    → Appends old new (flat_map g (take i xs)) × (c ≡ a) → Appends old new (flat_map g xs) × (c ≡ a)
+loop_sent g xs i old new a c all before = (subst (λ z. Appends old new (flat_map g z)) (take_all i xs all) before.0, before.1)
 
 -- one item failed
 pub loop_failed : {A : Type 0} (g : A → List ℕ) (xs : List A) (i : ℕ) (x : A) (old mid new : Option (List ℕ)) (a b c : ℕ) (f : PlanFault) → i < length xs → x ≡ get_or xs i x

@@ -1,9 +1,7 @@
 -- The words of a plan's lines.
-use Rattle.std.proofs.Common.{◌≡◌, ◌≢◌, ℕ, ◌+◌, ◌*◌, ◌^◌, ◌<◌, List, ◌∷◌, ◌++◌, length, get_or, eqb, Bool, false, Err, codes, decimal, refl, sym, ap, ◌∙◌, arith, true}
-use Rattle.std.specs.Cmp.Lexicographic.{pointwise}
+use Rattle.std.proofs.Common.{◌≡◌, ◌≢◌, ℕ, ◌+◌, ◌*◌, ◌^◌, ◌<◌, List, ◌∷◌, ◌++◌, length, get_or, Bool, false, Err, codes, decimal, refl, sym, ap, ◌∙◌, arith, true}
+use Rattle.std.specs.Prelude.{◌↔◌, IsTrue}
 use Rattle.std.proofs.lemmas.Bool.{false≢true}
-use Rattle.std.proofs.lemmas.Bool.Decides.{Decides-eqb}
-use Rattle.std.proofs.lemmas.Slice.Eq.{slice_eq-Decides}
 use Rattle.std.proofs.lemmas.Fmt.{decimal_injective}
 use Rattle.ts_name.specs.Paths.{Path, path_text}
 use Rattle.ts_name.specs.Buffers.{HasNo}
@@ -161,6 +159,6 @@ path_refused Failed text bytes h refuse = h
 path_refused NotCanonical text bytes h refuse = refuse h
 path_refused PastLimit text bytes h refuse = h
 
--- what `==` says where it fails
-pub differs : (word text name : List ℕ) (r : Bool) → r ≡ pointwise eqb word text → text ≡ name → r ≡ false → word ≢ name
-differs word text name r is same fails e = false≢true (sym fails ∙ (slice_eq-Decides Decides-eqb word text r is).1 (e ∙ sym same))
+-- what a comparison says where it fails
+pub differs : (word name : List ℕ) (r : Bool) → (IsTrue r ↔ (word ≡ name)) → r ≡ false → word ≢ name
+differs word name r is fails e = false≢true (sym fails ∙ is.1 e)

@@ -46,24 +46,30 @@ fn fill_kind(line: &mut Vec<u8>, action: &PackedAction) -> Result<(), AllocError
             length,
             path,
         } => {
-            line.extend_from_slice(b"piece ")?;
-            push_decimal(line, u64::from(entry))?;
-            line.push(b' ')?;
-            push_decimal(line, offset)?;
-            line.push(b' ')?;
-            push_decimal(line, length)?;
+            line.extend_from_slice(b"piece")?;
+            push_number(line, u64::from(entry))?;
+            push_number(line, offset)?;
+            push_number(line, length)?;
             line.push(b' ')?;
             path.write_text(line)
         }
         KindRef::Commit { entry } => {
-            line.extend_from_slice(b"commit ")?;
-            push_decimal(line, u64::from(entry))
+            line.extend_from_slice(b"commit")?;
+            push_number(line, u64::from(entry))
         }
         KindRef::Mark { entry } => {
-            line.extend_from_slice(b"mark ")?;
-            push_decimal(line, u64::from(entry))
+            line.extend_from_slice(b"mark")?;
+            push_number(line, u64::from(entry))
         }
     }
+}
+
+/// Adds a space and a number.
+fn push_number(line: &mut Vec<u8>, number: u64) -> Result<(), AllocError>
+    ensures { OnOk result (line.new.items ≡ line.old.items ++ 32 ∷ decimal number) }
+{
+    line.push(b' ')?;
+    push_decimal(line, number)
 }
 
 /// Puts a predecessor's line in place of what `line` has.
@@ -71,8 +77,8 @@ fn fill_pred(line: &mut Vec<u8>, number: u32) -> Result<(), AllocError>
     ensures { OnOk result (line.new.items ≡ pred_line number) }
 {
     line.clear();
-    line.extend_from_slice(b"p ")?;
-    push_decimal(line, u64::from(number))
+    line.extend_from_slice(b"p")?;
+    push_number(line, u64::from(number))
 }
 
 /// Puts the last line in place of what `line` has.
@@ -80,10 +86,9 @@ fn fill_end(line: &mut Vec<u8>, entries: usize, actions: usize) -> Result<(), Al
     ensures { OnOk result (line.new.items ≡ codes "end " ++ (decimal entries ++ 32 ∷ decimal actions)) }
 {
     line.clear();
-    line.extend_from_slice(b"end ")?;
-    push_decimal(line, entries as u64)?;
-    line.push(b' ')?;
-    push_decimal(line, actions as u64)
+    line.extend_from_slice(b"end")?;
+    push_number(line, entries as u64)?;
+    push_number(line, actions as u64)
 }
 
 /// Writes one line.

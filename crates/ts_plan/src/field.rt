@@ -1,5 +1,5 @@
 //! The fields of a plan's lines.
-ghost use Rattle.std.specs.Prelude.{◌≡◌, ◌≢◌, ◌^◌, ◌<◌, ℕ, List, ◌∷◌, ◌++◌, decimal, IfSome, IfNone};
+ghost use Rattle.std.specs.Prelude.{◌≡◌, ◌≢◌, ◌↔◌, ◌^◌, ◌<◌, ℕ, List, ◌∷◌, ◌++◌, decimal, IfSome, IfNone, IsTrue};
 ghost use Rattle.std.specs.List.{AllByRecursion};
 ghost use Rattle.ts_model.specs.Texts.{reason_text};
 ghost use Rattle.ts_model.specs.declared.plan.Reason.{Reason};
@@ -54,21 +54,28 @@ pub(crate) fn reason_field(word: &[u8]) -> Option<Reason>
     ensures found { IfSome result (λ r. word.now ≡ reason_text r) }
     ensures none { IfNone result ((r : Reason) → word.now ≢ reason_text r) }
 {
-    if word == b"same".as_slice() {
+    if is_word(word, b"same") {
         Some(Reason::Same)
-    } else if word == b"first".as_slice() {
+    } else if is_word(word, b"first") {
         Some(Reason::First)
-    } else if word == b"second".as_slice() {
+    } else if is_word(word, b"second") {
         Some(Reason::Second)
-    } else if word == b"conflict".as_slice() {
+    } else if is_word(word, b"conflict") {
         Some(Reason::Conflict)
-    } else if word == b"held".as_slice() {
+    } else if is_word(word, b"held") {
         Some(Reason::Held)
-    } else if word == b"dir".as_slice() {
+    } else if is_word(word, b"dir") {
         Some(Reason::Dir)
     } else {
         None
     }
+}
+
+/// Whether the word is this one.
+pub(crate) fn is_word(word: &[u8], other: &[u8]) -> bool
+    ensures { IsTrue result ↔ (word.now ≡ other.now) }
+{
+    word == other
 }
 
 /// The path that the text spells, which isn't the root.

@@ -2,7 +2,7 @@
 ghost use Rattle.std.specs.Prelude.{◌≡◌, ◌∷◌, ◌++◌, codes};
 
 use crate::fault::PlanFault;
-use crate::field::{cut, number_then, path_field, reason_field, short_number};
+use crate::field::{cut, is_word, number_then, path_field, reason_field, short_number};
 use std::alloc::Global;
 use ts_model::plan::{Entry, Kind};
 use ts_text::field_dec;
@@ -33,19 +33,19 @@ impl PlanLine {
         let Some((word, fields)) = cut(line) else {
             return Err(PlanFault::NotCanonical);
         };
-        if word == b"entry".as_slice() {
+        if is_word(word, b"entry") {
             PlanLine::entry(alloc, fields)
-        } else if word == b"piece".as_slice() {
+        } else if is_word(word, b"piece") {
             PlanLine::piece(alloc, fields)
-        } else if word == b"commit".as_slice() {
+        } else if is_word(word, b"commit") {
             PlanLine::commit(fields)
-        } else if word == b"mark".as_slice() {
+        } else if is_word(word, b"mark") {
             PlanLine::mark(fields)
-        } else if word == b"p".as_slice() {
+        } else if is_word(word, b"p") {
             PlanLine::pred(fields)
-        } else if word == b"end".as_slice() {
+        } else if is_word(word, b"end") {
             PlanLine::end(fields)
-        } else if word == b"twosync-plan".as_slice() {
+        } else if is_word(word, b"twosync-plan") {
             PlanLine::header(fields)
         } else {
             Err(PlanFault::NotCanonical)

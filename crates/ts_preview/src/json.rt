@@ -9,7 +9,6 @@ use std::alloc::{AllocError, Global};
 use ts_model::plan::{Reason, Side};
 use ts_name::Path;
 use ts_plan::reason_word;
-use ts_text::push_decimal;
 
 /// The first line.
 pub(crate) const HEAD: &[u8] = b"{\"text\":\"twosync-preview 1\"}";
@@ -31,8 +30,7 @@ pub(crate) fn push_outlook(
 fn push_copy(outlook: &Outlook<'_>, line: &mut Vec<u8>) -> Result<(), AllocError>
     ensures { OnOk result (line.new.items ≡ line.old.items ++ json_copy outlook.now) }
 {
-    line.extend_from_slice(b",\"change\":\"")?;
-    line.extend_from_slice(outlook.change.word())?;
+    push_text(b",\"change\":\"", outlook.change.word(), line)?;
     push_field(b"\",\"lost\":", outlook.lost as u64, line)
 }
 
@@ -53,10 +51,8 @@ fn push_front(alloc: Global, outlook: &Outlook<'_>, line: &mut Vec<u8>) -> Resul
 {
     line.extend_from_slice(b"{\"path\":\"")?;
     push_path(alloc, outlook.path, line)?;
-    line.extend_from_slice(b"\",\"reason\":\"")?;
-    line.extend_from_slice(reason_word(outlook.reason))?;
-    line.extend_from_slice(b"\",\"to\":")?;
-    line.extend_from_slice(target_text(outlook.reason))
+    push_text(b"\",\"reason\":\"", reason_word(outlook.reason), line)?;
+    push_text(b"\",\"to\":", target_text(outlook.reason), line)
 }
 
 /// Appends a path's text with a backslash before each quotation mark and backslash.
@@ -104,13 +100,18 @@ fn target_text(reason: Reason) -> &'static [u8]
 fn push_state(state: &State, line: &mut Vec<u8>) -> Result<(), AllocError>
     ensures { OnOk result (line.new.items ≡ line.old.items ++ json_state state.now) }
 {
-    line.extend_from_slice(b"{\"change\":\"")?;
-    line.extend_from_slice(state.change.word())?;
-    line.extend_from_slice(b"\",\"files\":")?;
-    push_decimal(line, state.files as u64)?;
-    line.extend_from_slice(b",\"bytes\":")?;
-    push_decimal(line, state.bytes)?;
+    push_text(b"{\"change\":\"", state.change.word(), line)?;
+    push_field(b"\",\"files\":", state.files as u64, line)?;
+    push_field(b",\"bytes\":", state.bytes, line)?;
     line.extend_from_slice(b"}")
+}
+
+/// Appends a name and a text.
+fn push_text(name: &[u8], text: &[u8], line: &mut Vec<u8>) -> Result<(), AllocError>
+    ensures { OnOk result (line.new.items ≡ line.old.items ++ name.now ++ text.now) }
+{
+    line.extend_from_slice(name)?;
+    line.extend_from_slice(text)
 }
 
 /// Appends the totals, an object.

@@ -1,5 +1,5 @@
 //! Writing the text of a print.
-ghost use Rattle.std.specs.Prelude.{◌≡◌, ◌∷◌, []};
+ghost use Rattle.std.specs.Prelude.{◌≡◌, ◌∷◌, ◌++◌, [], OnOk};
 ghost use Rattle.ts_model.specs.Texts.{print_lines, print_row_lines, text};
 ghost use Rattle.ts_model.specs.declared.row.Content.TheVariants.{File};
 ghost use Rattle.ts_print.specs.Faults.{FailuresFit};
@@ -7,7 +7,7 @@ ghost use Rattle.ts_text.specs.Sources.{Writes};
 
 use crate::fault::PrintFault;
 use crate::print::Print;
-use std::alloc::Global;
+use std::alloc::{AllocError, Global};
 use ts_model::row::{Content, Row, Stamp};
 use ts_name::Path;
 use ts_text::Sink;
@@ -54,6 +54,15 @@ fn write_file<W: Sink>(
     ensures written { Writes (W.holds sink.old) (W.holds sink.new) (text (print_row_lines path.now (File stamp.now))) result }
     ensures failures { FailuresFit (W.failures sink.old) (W.failures sink.new) result }
 {
+    fill_file(path, stamp, line)?;
+    write_line(sink, line)?;
+    Ok(())
+}
+
+/// Makes a line that of a file, without its line feed.
+fn fill_file(path: &Path, stamp: &Stamp, line: &mut Vec<u8>) -> Result<(), AllocError>
+    ensures { OnOk result (line.new.items ++ 10 ∷ [] ≡ text (print_row_lines path.now (File stamp.now))) }
+{
     line.clear();
     line.extend_from_slice(b"f ")?;
     path.write_text(line)?;
@@ -61,7 +70,5 @@ fn write_file<W: Sink>(
     push_decimal(line, stamp.size)?;
     line.push(b' ')?;
     let digest = stamp.digest;
-    push_digest(line, &digest)?;
-    write_line(sink, line)?;
-    Ok(())
+    push_digest(line, &digest)
 }

@@ -3,6 +3,7 @@ ghost use Rattle.std.specs.Prelude.{◌≡◌, [], length, false, true, IfErr, I
 ghost use Rattle.ts_model.specs.Texts.{FileFits};
 ghost use Rattle.ts_model.specs.Trees as trees;
 ghost use Rattle.ts_model.specs.declared.row.Content.TheVariants.{File};
+ghost use Rattle.ts_stage.specs.Keeping.{staging};
 ghost use Rattle.ts_stage.specs.Stagings.{Staging, joined};
 
 use crate::kept::Kept;
@@ -129,16 +130,30 @@ fn join(alloc: Global, size: u64, had: &mut Piece, mut piece: Box<Piece>) -> Res
     ensures err { OnErr result (had.new ≡ had.old) }
     ensures back { IfErr result (λ back. back.value ≡ piece.value) }
 {
-    let before = mem::replace(&mut had.kept, Kept::Stored(Told::nothing()));
     let Piece { kept: more } = Box::replace(&mut piece, Piece::nothing());
-    match before.join(alloc, size, more) {
+    match join_kept(alloc, size, &mut had.kept, more) {
+        Ok(()) => Ok(()),
+        Err(more) => {
+            let _nothing = Box::replace(&mut piece, Piece { kept: more });
+            Err(piece)
+        }
+    }
+}
+
+/// Puts what is kept of a piece at the end of what is kept of its file. At a refusal nothing changes, and it comes back.
+fn join_kept(alloc: Global, size: u64, had: &mut Kept, piece: Kept) -> Result<(), Kept>
+    ensures ok { OnOk result (staging had.new ≡ joined (staging had.old) (staging piece)) }
+    ensures err { OnErr result (had.new ≡ had.old) }
+    ensures back { IfErr result (λ back. back ≡ piece) }
+{
+    let before = mem::replace(had, Kept::Stored(Told::nothing()));
+    match before.join(alloc, size, piece) {
         Ok(all) => {
-            had.kept = all;
+            *had = all;
             Ok(())
         }
-        Err((before, more)) => {
-            had.kept = before;
-            let _nothing = Box::replace(&mut piece, Piece { kept: more });
+        Err((before, piece)) => {
+            *had = before;
             Err(piece)
         }
     }

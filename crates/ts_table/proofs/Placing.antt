@@ -1,5 +1,6 @@
 -- Rows that are placed one after another.
-use Rattle.std.proofs.Common.{◌≡◌, [], ◌∷◌, ◌++◌, refl, sym, ap, ◌∙◌, subst}
+use Rattle.std.proofs.Common.{◌≡◌, ℕ, ◌+◌, ◌<◌, [], ◌∷◌, ◌++◌, length, get_or, take, refl, sym, ap, ◌∙◌, subst}
+use Rattle.std.proofs.lemmas.List.{take_more}
 use Rattle.std.specs.List.{AllByRecursion}
 use Rattle.ts_name.specs.Paths.{Path, IsPath}
 use Rattle.ts_model.specs.Trees.{Listing}
@@ -19,6 +20,10 @@ placed_push p xs row = placed_append p xs (row ∷ [])
 -- whose path is one too
 pub paths_push : {F : Type 0} (p : Path) (xs : Listing F) (row : Row F) → AllByRecursion (λ row. IsPath row.path) (placed p xs) → IsPath (p ++ row.path) → AllByRecursion (λ row. IsPath row.path) (placed p (xs ++ row ∷ []))
 paths_push {F} p xs row all one = subst (λ z. AllByRecursion (λ (row : Row F). IsPath row.path) z) (sym (placed_push p xs row)) (all_append (λ (row : Row F). IsPath row.path) (placed p xs) _ all (one, tt))
+
+-- the row at an index after those before it
+pub placed_more : {F : Type 0} (p : Path) (rows : Listing F) (i : ℕ) (row : Row F) → i < length rows → row ≡ get_or rows i row → placed p (take (i + 1) rows) ≡ placed p (take i rows) ++ record { path = p ++ row.path; content = row.content } ∷ []
+placed_more p rows i row under is = ap (placed p) (take_more rows i row under ∙ ap (λ z. take i rows ++ z ∷ []) (sym is)) ∙ placed_push p (take i rows) row
 
 -- where one isn't, not all are
 pub past_limit : {F : Type 0} (p : Path) (all xs ys : Listing F) (row : Row F) → all ≡ xs ++ row ∷ ys → ¬ IsPath (p ++ row.path) → ¬ AllByRecursion (λ row. IsPath row.path) (placed p all)

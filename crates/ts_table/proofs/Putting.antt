@@ -1,6 +1,6 @@
 -- Slots and the parts that are put into them.
-use Rattle.std.proofs.Common.{◌≡◌, ℕ, zero, suc, ◌+◌, ◌<◌, List, [], ◌∷◌, ◌++◌, length, get_or, take, map, sum_by, refl, sym, ap, ap₂, ◌∙◌, subst, arith}
-use Rattle.std.proofs.lemmas.List.{length-take-le, map-append, take_more}
+use Rattle.std.proofs.Common.{◌≡◌, ℕ, zero, suc, ◌+◌, ◌<◌, ◌≤◌, List, [], ◌∷◌, ◌++◌, length, get_or, take, map, sum_by, refl, sym, ap, ap₂, ◌∙◌, subst, arith}
+use Rattle.std.proofs.lemmas.List.{length-take-le, map-append, take_all, take_more}
 use Rattle.std.proofs.lemmas.List.Sums.{sum_by-cons, sum_by_push}
 use Rattle.std.specs.List.{AllByRecursion}
 use Rattle.ts_name.specs.Paths.{Path, IsPath}
@@ -47,7 +47,7 @@ pub record IsFilled {F : Type 0} (slots : List (Slot F)) (paths : List Path) (pa
   pub listings : AllByRecursion (λ part. IsSubListing part) parts
   pub are_paths : ArePaths (edits_of paths parts)
 
-length_slots : {F : Type 0} (slots : List (Slot F)) → length (slot_paths slots) ≡ length slots
+pub length_slots : {F : Type 0} (slots : List (Slot F)) → length (slot_paths slots) ≡ length slots
 length_slots [] = refl
 length_slots (slot ∷ slots) = ap suc (length_slots slots)
 
@@ -69,6 +69,11 @@ filled_more {F} slots paths parts i slot p part under within p_is part_is filled
     let f : take (i + 1) paths ≡ take i paths ++ p ∷ [] = take_more paths i p under ∙ ap (λ z. take i paths ++ z ∷ []) (sym p_is) in
     let k : take (i + 1) parts ≡ take i parts ++ part ∷ [] = take_more parts i part within ∙ ap (λ z. take i parts ++ z ∷ []) (sym part_is) in
     subst (λ z. IsFilled (slots ++ slot ∷ []) z (take (i + 1) parts)) (sym f) (subst (λ z. IsFilled (slots ++ slot ∷ []) (take i paths ++ p ∷ []) z) (sym k) made)
+
+-- behind the last one these are all
+pub filled_all : {F : Type 0} (slots : List (Slot F)) (paths : List Path) (parts : List (Listing F)) (i : ℕ) → length paths ≤ i → length parts ≡ length paths → IsFilled slots (take i paths) (take i parts) → IsFilled slots paths parts
+filled_all slots paths parts i behind long filled =
+    subst (λ z. IsFilled slots z parts) (take_all i paths behind) (subst (λ z. IsFilled slots (take i paths) z) (take_all i parts (omega arith)) filled)
 
 -- a part at an index is put with all
 pub edit_at : {F : Type 0} (paths : List Path) (parts : List (Listing F)) (i : ℕ) (p : Path) (part : Listing F) → i < length paths → i < length parts → p ≡ get_or paths i p → part ≡ get_or parts i part → ArePaths (edits_of paths parts) → AllByRecursion (λ row. IsPath row.path) (placed p part)

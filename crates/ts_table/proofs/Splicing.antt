@@ -1,5 +1,7 @@
 -- Many edits in one pass: what the pass keeps, and that the edits are made.
-use Rattle.std.proofs.Common.{◌≡◌, Bool, true, false, cond, List, [], ◌∷◌, ◌++◌, refl, sym, ap, ◌∙◌, subst, inl, inr, append_assoc, append-nil, map}
+use Rattle.std.proofs.Common.{◌≡◌, Bool, true, false, cond, List, [], ◌∷◌, ◌++◌, ℕ, ◌+◌, length, sum_by, refl, sym, ap, ◌∙◌, subst, inl, inr, append_assoc, append-nil, map, arith}
+use Rattle.std.proofs.lemmas.List.{map-append}
+use Rattle.std.proofs.lemmas.List.Sums.{sum_by_push}
 use Rattle.std.proofs.lemmas.Bool.{false≢true, false_from_ne_true}
 use Rattle.std.specs.List.{AllByRecursion}
 use Rattle.std.specs.Ordering.{is_lt}
@@ -9,10 +11,11 @@ use Rattle.ts_model.specs.Runs.{graft}
 use Rattle.ts_model.specs.declared.row.Content.{Content}
 use Rattle.ts_model.specs.declared.row.Row.{Row}
 use Rattle.ts_table.specs.declared.splice.Edit.{Edit}
+use Rattle.ts_table.specs.declared.splice.Put.{Put}
 use Rattle.ts_table.specs.Tables.{placed, IsPlace, IsCut}
 use Rattle.ts_table.specs.Splices.{grafted, ArePlaces, AreInOrder, ArePaths, lead, trail, comes_before, stands_below, spliced, put_of}
 use Rattle.ts_name.proofs.Order.{late_between, before_cases, before_trans, is_lt_Less}
-use Rattle.ts_name.proofs.Utf8.{all_append}
+use Rattle.ts_name.proofs.Utf8.{all_append, all_parts}
 use Rattle.ts_name.proofs.Basics.{weaker, all_both}
 use Rattle.ts_table.proofs.Rows.{ascend_right, graft_at_rows}
 use Rattle.ts_table.proofs.Listings.{is_above_gives, not_above_gives, is_above_yes}
@@ -172,3 +175,28 @@ parts_push {F} edits edit all one = all_append (λ (other : Edit F). IsSubListin
 -- one more edit within the limits
 pub edit_paths_push : {F : Type 0} (edits : List (Edit F)) (edit : Edit F) → ArePaths edits → AllByRecursion (λ row. IsPath row.path) (placed edit.path edit.part) → ArePaths (edits ++ edit ∷ [])
 edit_paths_push {F} edits edit all one = all_append (λ (other : Edit F). AllByRecursion (λ (row : Row F). IsPath row.path) (placed other.path other.part)) edits (edit ∷ []) all (one, tt)
+
+-- where one is past them, not all are within
+pub edit_paths_at : {F : Type 0} (all xs ys : List (Edit F)) (edit : Edit F) → all ≡ xs ++ edit ∷ ys → ArePaths all → AllByRecursion (λ row. IsPath row.path) (placed edit.path edit.part)
+edit_paths_at {F} all xs ys edit is are =
+    let parts = all_parts (λ (other : Edit F). AllByRecursion (λ (row : Row F). IsPath row.path) (placed other.path other.part)) xs (edit ∷ ys) (subst (λ z. ArePaths z) is are) in parts.1.0
+
+-- its put after the others
+pub puts_push : {F : Type 0} (edits : List (Edit F)) (edit : Edit F) (puts new : List (Put F)) (rows : Listing F) → puts ≡ map put_of edits → rows ≡ placed edit.path edit.part → new ≡ puts ++ record { path = edit.path; rows = rows } ∷ [] → new ≡ map put_of (edits ++ edit ∷ [])
+puts_push {F} edits edit puts new rows puts_are rows_are new_is =
+    new_is ∙ ap (λ z. puts ++ record { path = edit.path; rows = z } ∷ []) rows_are ∙ ap (λ z. z ++ put_of edit ∷ []) puts_are ∙ sym (map-append put_of edits (edit ∷ []))
+
+-- so many rows more
+pub rows_push : {F : Type 0} (start room next : ℕ) (puts new : List (Put F)) (put : Put F) → room ≡ start + sum_by (λ (p : Put F). length p.rows) puts → next ≡ room + length put.rows → new ≡ puts ++ put ∷ [] → next ≡ start + sum_by (λ (p : Put F). length p.rows) new
+rows_push {F} start room next puts new put a b is =
+    let longer : sum_by (λ (p : Put F). length p.rows) new ≡ sum_by (λ (p : Put F). length p.rows) puts + length put.rows =
+    ap (sum_by (λ (p : Put F). length p.rows)) is ∙ sum_by_push (λ (p : Put F). length p.rows) puts put in
+    omega arith
+
+-- ---- one more put
+
+-- the rows before the path, those of the put, and what the other puts make of the rest
+pub spliced_next : {F : Type 0} (out rest : Listing F) (put : Put F) (more : List (Put F)) → out ++ spliced rest (put ∷ more) ≡ ((out ++ lead (comes_before put.path) rest) ++ put.rows) ++ spliced (trail (stands_below put.path) (trail (comes_before put.path) rest)) more
+spliced_next out rest put more =
+    let left = trail (stands_below put.path) (trail (comes_before put.path) rest) in
+    sym (append_assoc out (lead (comes_before put.path) rest) (put.rows ++ spliced left more)) ∙ sym (append_assoc (out ++ lead (comes_before put.path) rest) put.rows (spliced left more))

@@ -1,7 +1,8 @@
 //! Many changes of a table in one pass.
 ghost use Rattle.std.specs.Prelude.{◌≡◌, ◌++◌, ◌+◌, ◌≤◌, IfOk, IsErrOf, OnErr, OnOk, length, map, sum_by, take, vec_capacity, vec_len};
 ghost use Rattle.std.specs.VecDeque.{deque_len};
-ghost use Rattle.ts_model.specs.Trees.{Ascend, at};
+ghost use Rattle.std.specs.List.{AllByRecursion};
+ghost use Rattle.ts_model.specs.Trees.{Ascend, IsSubListing, at};
 ghost use Rattle.ts_table.specs.Splices.{ArePaths, ArePlaces, AreInOrder, ComeFirst, comes_before, grafted, lead, put_of, spliced, stands_below, trail};
 
 use crate::fault::TableFault;
@@ -34,7 +35,6 @@ impl<F: Drop> Table<F> {
     /// stay where they are, so that only those behind it are laid out twice.
     ///
     /// `TooLong` where a path would be past the limits. After an error nothing has changed, and the edits are dropped.
-    #[tactic(auto, using(crate::proofs::Splicing::parts_push, crate::proofs::Splicing::edit_paths_push))]
     pub fn splice(&mut self, alloc: Global, edits: Vec<Edit<F>>) -> Result<(), TableFault>
         requires places { ArePlaces (at self.old) edits.items }
         requires order { AreInOrder edits.items }
@@ -43,17 +43,7 @@ impl<F: Drop> Table<F> {
         ensures too_long { IsErrOf result TableFault.TooLong → ¬ ArePaths edits.items }
         ensures err { OnErr result (self.new ≡ self.old) }
     {
-        let mut puts = Vec::with_capacity(alloc, edits.len())?;
-        let mut room = 0usize;
-        for edit in edits {
-            let Edit { path, part } = edit;
-            let rows = part.placed(alloc, &path)?;
-            room = room.checked_add(rows.len()).ok_or(TableFault::OutOfMemory)?;
-            puts.push(Put {
-                path,
-                rows: Items::new(rows),
-            })?;
-        }
+        let (puts, room) = puts_for(alloc, edits)?;
         self.rows.reserve(room)?;
         let start = rows_before(&self.rows, puts.as_slice());
         let rest = cut_off(alloc, &mut self.rows, start)?;
@@ -61,6 +51,28 @@ impl<F: Drop> Table<F> {
         self.rows = merged(rest, puts, out);
         Ok(())
     }
+}
+
+/// What the edits put down, and how many rows that is in all. An error drops the edits.
+fn puts_for<F: Drop>(alloc: Global, edits: Vec<Edit<F>>) -> Result<(Vec<Put<F>>, usize), TableFault>
+    ensures puts { IfOk result (λ r. r.0.items ≡ map put_of edits.items) }
+    ensures room { IfOk result (λ r. r.1 ≡ sum_by (λ put. length put.rows) r.0.items) }
+    ensures listings { IfOk result (λ _. AllByRecursion (λ edit. IsSubListing edit.part) edits.items) }
+    ensures paths { OnOk result (ArePaths edits.items) }
+    ensures too_long { IsErrOf result TableFault.TooLong → ¬ ArePaths edits.items }
+{
+    let mut puts = Vec::with_capacity(alloc, edits.len())?;
+    let mut room = 0usize;
+    for edit in edits {
+        let Edit { path, part } = edit;
+        let rows = part.placed(alloc, &path)?;
+        room = room.checked_add(rows.len()).ok_or(TableFault::OutOfMemory)?;
+        puts.push(Put {
+            path,
+            rows: Items::new(rows),
+        })?;
+    }
+    Ok((puts, room))
 }
 
 /// How many rows come before the path of the first put; all, where there is none.

@@ -105,7 +105,6 @@ impl<F: Drop> SubTable<F> {
     }
 
     /// The rows as they stand below a path. An error drops them.
-    #[tactic(auto, using(crate::proofs::Placing::placed_push, crate::proofs::Placing::paths_push))]
     pub(crate) fn placed(self, alloc: Global, top: &Path) -> Result<Vec<Row<F>>, TableFault>
         ensures ok { IfOk result (λ rows. rows.items ≡ placed top.now self) }
         ensures paths { OnOk result (AllByRecursion (λ row. IsPath row.path) (placed top.now self)) }

@@ -1,7 +1,7 @@
 use Rattle.std.proofs.Common.{arith}
 use Rattle.ts_name.proofs.Prefixes.{above_itself}
 use Rattle.ts_print.proofs.Walks.{step_left}
-use Rattle.ts_need.proofs.Found.{Add, AreNone, found_begins, found_goes}
+use Rattle.ts_need.proofs.Found.{Add, AreNone, found_begins, found_goes, step_shorter}
 use Rattle.ts_need.proofs.differences.gather.Goals as goal
 
 pub loop-next-init : goal.loop-next-init
@@ -35,3 +35,15 @@ loop-next-preserved c = (
       let old = c.loop-next.invariant.1 in
       omega arith,
 )
+
+pub loop-next-smaller : goal.loop-next-smaller
+loop-next-smaller c = step_shorter c.in-Some.next.path.now c.in-Some.next.archive c.in-Some.next.first c.in-Some.next.second c.loop-next.walk c.next_from.new.self c.in-Some.ensures.step
+
+pub returns-clause-found : goal.returns-clause-found
+returns-clause-found c = rw c.in_default.ensures.step c.loop-next.invariant.0
+
+pub returns-clause-passed : goal.returns-clause-passed
+returns-clause-passed c = rw c.in_default.ensures.step c.in_default.ensures.ended
+
+pub returns-clause-shorter : goal.returns-clause-shorter
+returns-clause-shorter c = rw c.in_default.ensures.step c.loop-next.invariant.1

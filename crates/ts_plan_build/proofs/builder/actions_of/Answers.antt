@@ -1,7 +1,10 @@
-use Rattle.std.proofs.Common.{◌≡◌, ◌-◌, ◌<◌, List, MatchOption, length, Some, slice_get, arith, refl, subst}
+use Rattle.std.proofs.Common.{◌≡◌, ◌-◌, ◌<◌, ℕ, List, MatchOption, length, Some, slice_get, arith, refl, ap, ◌∙◌, subst}
+use Rattle.std.proofs.lemmas.List.{take_all}
 use Rattle.std.proofs.lemmas.Option.{slice_get_read}
 use Rattle.ts_plan_build.specs.declared.builder.NewDir.{NewDir}
 use Rattle.std.proofs.lemmas.Result.{err_from_is_err_and}
+use Rattle.ts_plan_build.specs.Built.{IsBuilt}
+use Rattle.ts_plan_build.specs.Planned.{planned_actions}
 use Rattle.ts_plan_build.proofs.Dirs.{built_turn}
 use Rattle.ts_plan_build.proofs.Past.{counted_more, past_in_entries}
 use Rattle.ts_plan_build.proofs.builder.actions_of.Goals as goal
@@ -24,3 +27,17 @@ returns-in_err-add_entry-clause-past c =
     let p = err_from_is_err_and c.from_residual-in_err-add_entry.result c.from_residual-in_err-add_entry.ensures.1 in
     rw (p.1, p.2) (λ e. past_in_entries 1048576 c.args.first.now c.args.second.now c.args.entries.now c.index-entries-number.result c.loop-number.number c.loop-number.actions.items
     c.loop-number.invariant.counted c.loop-number-test.true c.index-entries-number.is (c.in_err-add_entry.ensures.past e))
+
+pub returns-clause-built : goal.returns-clause-built
+returns-clause-built c =
+    let all : c.loop-number.number ≡ length c.args.entries.now = omega (arith, c.loop-number-test.false, c.loop-number.auto.number-end) in
+    rw c.shrink_to_fit.ensures.items
+    (subst (λ (k : ℕ). IsBuilt c.args.first.now c.args.second.now c.args.entries.now c.loop-number.actions.items k) all c.loop-number.invariant.built)
+
+pub returns-clause-limit : goal.returns-clause-limit
+returns-clause-limit c = rw c.shrink_to_fit.ensures.items c.loop-number.invariant.limit
+
+pub returns-clause-count : goal.returns-clause-count
+returns-clause-count c =
+    rw c.shrink_to_fit.ensures.items
+    (c.loop-number.invariant.counted ∙ ap (planned_actions c.args.first.now c.args.second.now) (take_all c.loop-number.number c.args.entries.now c.loop-number-test.false))

@@ -1,7 +1,9 @@
 use Rattle.std.proofs.Common.{◌≡◌, ◌+◌, ◌∷◌, [], ◌++◌, length, take, get_or, sym, ap, ◌∙◌, subst, arith}
 use Rattle.ts_table.proofs.Exits.{exit_itself}
-use Rattle.ts_table.proofs.Putting.{IsFilled, edit_at, filled_more, room_more}
+use Rattle.ts_table.proofs.Putting.{IsFilled, edit_at, filled_all, filled_more, room_more}
+use Rattle.ts_table.proofs.join.space_for.Given.{Over}
 use Rattle.ts_table.proofs.join.space_for.Goals as goal
+use Rattle.ts_table.proofs.join.space_for.Goals.{In_ok-rows}
 
 pub returns-in_err-slot-clause-too_long : goal.returns-in_err-slot-clause-too_long
 returns-in_err-slot-clause-too_long g c too all =
@@ -34,3 +36,29 @@ loop-index-preserved g c =
           let sum : c.in_ok-room.room ≡ c.loop-index.room + length c.in_ok-slot.slot.names.items = omega (arith, added.1) in
           room_more (length c.rows-room.result.now) c.loop-index.room c.in_ok-room.room c.loop-index.slots.items c.push.new.self.items c.in_ok-slot.slot c.loop-index.invariant.room_is sum c.in_ok-push.ensures.items);
     }
+
+-- behind the last path all slots are there
+all_filled : (g : Over) (c : In_ok-rows g) → IsFilled c.loop-index.slots.items c.args.frame.now.paths c.args.parts.now
+all_filled g c =
+    let behind = c.loop-index-test.false in
+    let long = ap length c.paths-path-items.ensures.paths in
+    filled_all c.loop-index.slots.items c.args.frame.now.paths c.args.parts.now c.loop-index.index (omega arith) c.requires c.loop-index.invariant.filled
+
+pub returns-clause-slots : goal.returns-clause-slots
+returns-clause-slots g c = let filled = all_filled g c in filled.paths_are
+
+pub returns-clause-fit : goal.returns-clause-fit
+returns-clause-fit g c = let filled = all_filled g c in filled.fit
+
+pub returns-clause-listings : goal.returns-clause-listings
+returns-clause-listings g c = let filled = all_filled g c in filled.listings
+
+pub returns-clause-paths : goal.returns-clause-paths
+returns-clause-paths g c = let filled = all_filled g c in filled.are_paths
+
+pub returns-clause-rows_room : goal.returns-clause-rows_room
+returns-clause-rows_room g c =
+    let room_is = c.loop-index.invariant.room_is in
+    let framed = ap length c.rows-room.ensures in
+    let wide = c.in_ok-rows.ensures.capacity in
+    omega arith

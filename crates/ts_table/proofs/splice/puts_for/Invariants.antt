@@ -1,7 +1,7 @@
 use Rattle.std.proofs.Common.{◌≡◌, ◌++◌, ◌+◌, length, map, sum_by}
 use Rattle.ts_table.specs.Splices.{ArePaths, put_of}
 use Rattle.ts_table.proofs.Splicing.{AreParts}
-use Rattle.ts_table.proofs.table.Table.splice.Given as goal
+use Rattle.ts_table.proofs.splice.puts_for.Given as goal
 
 abbrev pub invariant-loop-edit : goal.invariant-loop-edit
 invariant-loop-edit g l = record {
