@@ -55,16 +55,7 @@ pub fn claim_archive<R: Files<File = File> + AllocGlobal>(
 {
     let place = followed(files, alloc, name)?;
     let name = String::from_str(alloc, name)?;
-    let mode = match kind_at(files, place.as_str()).map_err(failed)? {
-        Standing::Nothing => PRIVATE_FILE,
-        Standing::File => mode_at(files, place.as_str())?,
-        Standing::Dir => {
-            return Err(DiskFault::Failed {
-                cause: Cause::IsFolder,
-            });
-        }
-        Standing::CutOff | Standing::Other => return Err(unusable()),
-    };
+    let mode = mode_for(files, place.as_str())?;
     let new = format!(in alloc; "{place}.new")?;
     let file = make_new(files, new.as_str(), mode)?;
     Ok(ArchivePlace {
@@ -217,25 +208,37 @@ fn followed<R: Files + AllocGlobal>(
     }
     let mut place = String::from_str(alloc, name)?;
     for _ in 0..LINKS {
-        let is_link = match fs::symlink_metadata(files, place.as_str()) {
-            Ok(metadata) => metadata.is_symlink(),
-            Err(_) => false,
-        };
-        if !is_link {
+        if !is_link(files, place.as_str()) {
             return Ok(place);
         }
-        let target = fs::read_link(files, place.as_str()).map_err(failed)?;
-        let target = target.as_str();
-        place = if target.starts_with('/') {
-            String::from_str(alloc, target)?
-        } else {
-            let above = above(place.as_str());
-            format!(in alloc; "{above}/{target}")?
-        };
+        place = target_of(files, alloc, place.as_str())?;
     }
     Err(DiskFault::Failed {
         cause: Cause::LinksInCircle,
     })
+}
+
+/// Whether a link stands at a place.
+fn is_link<R: Files>(files: &R, place: &str) -> bool {
+    match fs::symlink_metadata(files, place) {
+        Ok(metadata) => metadata.is_symlink(),
+        Err(_) => false,
+    }
+}
+
+/// The place that the link at a place leads to.
+fn target_of<R: Files + AllocGlobal>(
+    files: &R,
+    alloc: Global,
+    place: &str,
+) -> Result<String, DiskFault> {
+    let target = fs::read_link(files, place).map_err(failed)?;
+    let target = target.as_str();
+    if target.starts_with('/') {
+        return Ok(String::from_str(alloc, target)?);
+    }
+    let above = above(place);
+    Ok(format!(in alloc; "{above}/{target}")?)
 }
 
 /// The directory in which a place is.
@@ -249,6 +252,27 @@ fn above(place: &str) -> &str
     }
 }
 
+/// The permission bits that a new archive gets at a place: those of the file there, or else such that others may not read it.
+fn mode_for<R: Files>(files: &R, place: &str) -> Result<u32, DiskFault> {
+    if has_file(files, place)? {
+        mode_at(files, place)
+    } else {
+        Ok(PRIVATE_FILE)
+    }
+}
+
+/// Whether a file stands at a place. What is neither a file nor absent is refused.
+fn has_file<R: Files>(files: &R, place: &str) -> Result<bool, DiskFault> {
+    match kind_at(files, place).map_err(failed)? {
+        Standing::Nothing => Ok(false),
+        Standing::File => Ok(true),
+        Standing::Dir => Err(DiskFault::Failed {
+            cause: Cause::IsFolder,
+        }),
+        Standing::CutOff | Standing::Other => Err(unusable()),
+    }
+}
+
 /// The permission bits of what stands at a place.
 fn mode_at<R: Files>(files: &R, place: &str) -> Result<u32, DiskFault> {
     let metadata = fs::symlink_metadata(files, place).map_err(failed)?;
@@ -257,20 +281,10 @@ fn mode_at<R: Files>(files: &R, place: &str) -> Result<u32, DiskFault> {
 
 /// Removes what a stopped run left where a new archive is written, and nothing else.
 fn clear_stale<R: Files<File = File> + AllocGlobal>(files: &R, new: &str) -> Result<(), DiskFault> {
-    match kind_at(files, new).map_err(failed)? {
-        Standing::Nothing => return Ok(()),
-        Standing::File => {}
-        Standing::Dir => {
-            return Err(DiskFault::Failed {
-                cause: Cause::IsFolder,
-            });
-        }
-        Standing::CutOff | Standing::Other => return Err(unusable()),
+    if !has_file(files, new)? {
+        return Ok(());
     }
-    let mut options = OpenOptions::new();
-    options.read(true).write(true);
-    let file = options.open(files, new).map_err(failed)?;
-    lock_file(&file)?;
+    let file = open_locked(files, new)?;
     if !is_at(files, &file, new).map_err(failed)? {
         return Err(DiskFault::Locked);
     }
@@ -278,6 +292,15 @@ fn clear_stale<R: Files<File = File> + AllocGlobal>(files: &R, new: &str) -> Res
         return Err(unusable());
     }
     fs::remove_file(files, new).map_err(failed)
+}
+
+/// Opens the file at a place and locks it.
+fn open_locked<R: Files<File = File>>(files: &R, place: &str) -> Result<File, DiskFault> {
+    let mut options = OpenOptions::new();
+    options.read(true).write(true);
+    let file = options.open(files, place).map_err(failed)?;
+    lock_file(&file)?;
+    Ok(file)
 }
 
 /// Whether a file's bytes begin as every archive's, or are a beginning of that.
@@ -302,16 +325,21 @@ fn make_new<R: Files<File = File> + AllocGlobal>(
     Ok(file)
 }
 
-/// Makes a file that others may not read, where nothing is, and locks it.
-fn make_locked<R: Files<File = File>>(files: &R, new: &str) -> Result<File, DiskFault> {
+/// Makes a file that others may not read, where nothing is.
+fn make_file<R: Files<File = File>>(files: &R, new: &str) -> Result<File, DiskFault> {
     let mut options = OpenOptions::new();
     options.write(true).create_new(true).mode(PRIVATE_FILE);
-    let file = match options.open(files, new) {
-        Ok(file) => file,
+    match options.open(files, new) {
+        Ok(file) => Ok(file),
         // another run has made it since it was looked for
-        Err(e) if e.kind() == ErrorKind::AlreadyExists => return Err(DiskFault::Locked),
-        Err(e) => return Err(failed(e)),
-    };
+        Err(e) if e.kind() == ErrorKind::AlreadyExists => Err(DiskFault::Locked),
+        Err(e) => Err(failed(e)),
+    }
+}
+
+/// Makes a file that others may not read, where nothing is, and locks it.
+fn make_locked<R: Files<File = File>>(files: &R, new: &str) -> Result<File, DiskFault> {
+    let file = make_file(files, new)?;
     lock_file(&file)?;
     match is_at(files, &file, new) {
         Ok(true) => Ok(file),

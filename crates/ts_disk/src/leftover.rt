@@ -88,12 +88,20 @@ pub(crate) fn move_to_free<R: Files + AllocGlobal>(
     let alloc = files.alloc();
     for number in 0..NAMES_TRIED {
         let free = format!(in alloc; "{own}/{stem}-{number}")?;
-        if kind_at(files, free.as_str())? == Standing::Nothing {
-            fs::rename(files, place, free.as_str())?;
+        if move_if_free(files, place, free.as_str())? {
             return Ok(free);
         }
     }
     Err(io::Error::from(ErrorKind::AlreadyExists))
+}
+
+/// Moves what stands at a place to another one, if nothing stands there. Answers whether it did.
+fn move_if_free<R: Files>(files: &R, place: &str, free: &str) -> io::Result<bool> {
+    if kind_at(files, free)? != Standing::Nothing {
+        return Ok(false);
+    }
+    fs::rename(files, place, free)?;
+    Ok(true)
 }
 
 /// Removes what stands at a place of the program's own, and all below it.

@@ -90,19 +90,7 @@ pub fn take_lock<R: Files<File = File>>(
     let place = format!(in alloc; "{own}/lock")?;
     for _ in 0..TRIES {
         let took_part = make_own(files, own.as_str()).map_err(own_failed)?;
-        match look_at(files, place.as_str(), root.len()).map_err(own_failed)? {
-            Standing::Nothing | Standing::File | Standing::CutOff => {}
-            Standing::Dir => {
-                return Err(DiskFault::Own {
-                    cause: Cause::IsFolder,
-                });
-            }
-            Standing::Other => {
-                return Err(DiskFault::Own {
-                    cause: Cause::Unknown,
-                });
-            }
-        }
+        check_place(files, place.as_str(), root.len())?;
         let was_stopped = holds_plan(files, alloc, root)?;
         if let Some(file) = open_locked(files, place.as_str())? {
             return Ok(Some(Lock {
@@ -129,14 +117,31 @@ fn is_directory<R: Files>(files: &R, root: &str) -> Result<bool, DiskFault> {
     }
 }
 
-/// Opens the file at a place, which is made where it isn't there, and locks it. None where its directory isn't there.
-fn open_locked<R: Files<File = File>>(files: &R, place: &str) -> Result<Option<File>, DiskFault> {
+/// Refuses a place of the lock where something else than a file stands.
+fn check_place<R: Files>(files: &R, place: &str, root: usize) -> Result<(), DiskFault> {
+    let cause = match look_at(files, place, root).map_err(own_failed)? {
+        Standing::Nothing | Standing::File | Standing::CutOff => return Ok(()),
+        Standing::Dir => Cause::IsFolder,
+        Standing::Other => Cause::Unknown,
+    };
+    Err(DiskFault::Own { cause })
+}
+
+/// Opens the file at a place, which is made where it isn't there. None where its directory isn't there.
+fn open_or_make<R: Files<File = File>>(files: &R, place: &str) -> Result<Option<File>, DiskFault> {
     let mut options = OpenOptions::new();
     options.write(true).create(true).mode(PRIVATE_FILE);
-    let file = match options.open(files, place) {
-        Ok(file) => file,
-        Err(e) if e.kind() == ErrorKind::NotFound => return Ok(None),
-        Err(e) => return Err(own_failed(e)),
+    match options.open(files, place) {
+        Ok(file) => Ok(Some(file)),
+        Err(e) if e.kind() == ErrorKind::NotFound => Ok(None),
+        Err(e) => Err(own_failed(e)),
+    }
+}
+
+/// Opens the file at a place, which is made where it isn't there, and locks it. None where its directory isn't there.
+fn open_locked<R: Files<File = File>>(files: &R, place: &str) -> Result<Option<File>, DiskFault> {
+    let Some(file) = open_or_make(files, place)? else {
+        return Ok(None);
     };
     match lock_file(&file) {
         Err(DiskFault::Failed { cause }) => return Err(DiskFault::Own { cause }),

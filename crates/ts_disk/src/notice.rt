@@ -50,8 +50,7 @@ pub fn mount_above<R: Files>(
         if at.is_root() {
             break;
         }
-        let place = at.place_below(alloc, root)?;
-        if device_at(files, place.as_str()).is_some_and(|device| device != home) {
+        if is_elsewhere(files, alloc, root, &at, home)? {
             found = Some(copied(alloc, &at)?);
         }
         at = match at.parent(alloc) {
@@ -61,6 +60,20 @@ pub fn mount_above<R: Files>(
         };
     }
     Ok(found)
+}
+
+/// Whether what stands at a path of the replica lies on another device than this one, and can be looked at.
+fn is_elsewhere<R: Files>(
+    files: &R,
+    alloc: Global,
+    root: &str,
+    path: &Path,
+    home: u64,
+) -> Result<bool, DiskFault>
+    ensures fault { IfErr result (λ e. e ≡ DiskFault.OutOfMemory) }
+{
+    let place = path.place_below(alloc, root)?;
+    Ok(device_at(files, place.as_str()).is_some_and(|device| device != home))
 }
 
 /// The device of what stands at a place, if that can be looked at.

@@ -39,16 +39,29 @@ pub fn save_plan<R: Files>(
     make_own(files, own.as_str()).map_err(failed)?;
     let place = plan_place(alloc, root)?;
     let new = format!(in alloc; "{place}.new")?;
-    remove_at(files, new.as_str()).map_err(failed)?;
-    let saved = match write_plan(files, alloc, new.as_str(), plan) {
-        Ok(()) => { fs::rename(files, new.as_str(), place.as_str()).map_err(failed) }
+    put_plan(files, alloc, new.as_str(), place.as_str(), plan)?;
+    flush_dir(files, own.as_str()).map_err(failed)
+}
+
+/// Writes a plan whole at one place, and renames it to another. After a fault nothing is left at the former, where it can be removed.
+fn put_plan<R: Files>(
+    files: &R,
+    alloc: Global,
+    new: &str,
+    place: &str,
+    plan: &Plan,
+) -> Result<(), DiskFault>
+    requires { IsPlan plan.now }
+{
+    remove_at(files, new).map_err(failed)?;
+    let saved = match write_plan(files, alloc, new, plan) {
+        Ok(()) => fs::rename(files, new, place).map_err(failed),
         Err(fault) => Err(fault),
     };
     if saved.is_err() {
-        let _ = remove_at(files, new.as_str());
+        let _ = remove_at(files, new);
     }
-    saved?;
-    flush_dir(files, own.as_str()).map_err(failed)
+    saved
 }
 
 /// Whether a plan file lies in a replica.
@@ -68,6 +81,13 @@ fn write_plan<R: Files>(files: &R, alloc: Global, place: &str, plan: &Plan) -> R
     let mut options = OpenOptions::new();
     options.write(true).create_new(true).mode(PRIVATE_FILE);
     let file = options.open(files, place).map_err(failed)?;
+    write_text::<R>(alloc, file, plan)
+}
+
+/// Writes the text of a plan to a file through a buffer, and waits until it has reached the device.
+fn write_text<R: Files>(alloc: Global, file: R::File, plan: &Plan) -> Result<(), DiskFault>
+    requires { IsPlan plan.now }
+{
     let out = BufWriter::new(alloc, file).map_err(|_| DiskFault::OutOfMemory)?;
     let mut sink = Counted::new(out);
     match ts_plan::encode(alloc, plan, &mut sink) {

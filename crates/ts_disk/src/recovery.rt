@@ -17,7 +17,6 @@ use crate::places::DiskPlaces;
 use crate::plan_file::{holds_plan, read_plan, remove_plan};
 use crate::replica::Replica;
 use std::alloc::Global;
-use std::fs;
 use std::fs::Files;
 use std::io::ErrorKind;
 use ts_cause::Cause;
@@ -131,21 +130,33 @@ fn end_swaps<R: Files + AllocGlobal + Clone + Drop>(
     // Recovery does nothing where neither spot of a swap is taken, and both lie in the program's own directory: so those
     // entries are enough of which a listing of it tells a spot.
     for number in &taken_spots(alloc, &names)? {
-        match end_swap(files, alloc, root, plan, *number, into) {
-            Ok(Some(notice)) => notices.push(notice)?,
-            Ok(None) => {}
-            Err(fault) => ended = Err(fault),
-        }
+        let left = end_swap(files, alloc, root, plan, *number, into);
+        note_left(left, notices, &mut ended)?;
     }
     for name in &names {
-        match end_keeping(files, alloc, root, plan, name.as_str(), into) {
-            Ok(Some(notice)) => notices.push(notice)?,
-            Ok(None) => {}
-            Err(fault) => ended = Err(fault),
-        }
+        let left = end_keeping(files, alloc, root, plan, name.as_str(), into);
+        note_left(left, notices, &mut ended)?;
         end_stage(files, alloc, root, plan, name.as_str(), into)?;
     }
     ended
+}
+
+/// Adds what is left of a swap to `notices`, or keeps in `ended` for which fault it couldn't be brought to its end. Its only fault
+/// is `OutOfMemory`.
+fn note_left(
+    left: Result<Option<Notice>, DiskFault>,
+    notices: &mut Vec<Notice>,
+    ended: &mut Result<(), DiskFault>,
+) -> Result<(), DiskFault>
+    ensures kept { AddsNotices notices.old.items notices.new.items }
+    ensures fault { IfErr result (λ e. e ≡ DiskFault.OutOfMemory) }
+{
+    match left {
+        Ok(Some(notice)) => notices.push(notice)?,
+        Ok(None) => {}
+        Err(fault) => *ended = Err(fault),
+    }
+    Ok(())
 }
 
 /// The entry of this number, if it is copied, and into this replica of the pair where one is given.
@@ -162,7 +173,7 @@ fn copied_entry(plan: &Plan, number: u32, into: Option<Side>) -> Option<&Entry>
 }
 
 /// The names in the program's own directory of a replica.
-fn own_names<R: Files + AllocGlobal + Clone + Drop>(
+fn own_names<R: Files + AllocGlobal>(
     files: &R,
     alloc: Global,
     root: &str,

@@ -165,6 +165,13 @@ impl<'a> Replacement<'a> {
             Err(e) if e.kind() == ErrorKind::NotFound => return Err(self.refuse(Refusal::Changed)),
             Err(e) => return Err(e),
         }
+        self.keep_or_put_back()
+    }
+
+    /// Keeps what was moved aside there, if it is what was compared; else it is put back.
+    fn keep_or_put_back(&mut self) -> io::Result<()>
+        ensures { self.new.places.failures ≡ self.old.places.failures }
+    {
         match self.is_untouched() {
             Ok(true) => {
                 self.is_aside = true;

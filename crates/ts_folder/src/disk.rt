@@ -50,14 +50,7 @@ impl<R: Files + Drop + Sync> Folder for DiskFolder<R> {
     ghost is_open = { λ _ _ _. Unit {0} };
 
     fn list(&self, alloc: Global, path: &Path) -> Result<Vec<(Name, Kind)>, FolderFault> {
-        let mut spelled = path.place_below(alloc, self.root.as_str())?;
-        if kind_below(&self.files, spelled.as_str(), self.root.len())? == Kind::File {
-            return Err(FolderFault::NotThere);
-        }
-        if path.is_root() {
-            // it may be a link itself
-            spelled.push('/')?;
-        }
+        let spelled = place_to_list(alloc, &self.files, self.root.as_str(), path)?;
         let mut names = read_names(alloc, &self.files, spelled.as_str(), path.is_root())?;
         names.sort_unstable_by(|one, other| one.0.cmp(&other.0));
         if is_in_order(&names) {
@@ -99,6 +92,24 @@ impl<R: Files + Drop + Sync> Folder for DiskFolder<R> {
             Err(_) => Err(FolderFault::Device),
         }
     }
+}
+
+/// The place of a directory that is to be listed, where none but the root may be a link.
+fn place_to_list<R: Files>(
+    alloc: Global,
+    files: &R,
+    root: &str,
+    path: &Path,
+) -> Result<String, FolderFault> {
+    let mut spelled = path.place_below(alloc, root)?;
+    if kind_below(files, spelled.as_str(), root.len())? == Kind::File {
+        return Err(FolderFault::NotThere);
+    }
+    if path.is_root() {
+        // it may be a link itself
+        spelled.push('/')?;
+    }
+    Ok(spelled)
 }
 
 /// Whether a directory or a file stands at a place of the folder, with no link on the way from the root down. The root may

@@ -142,6 +142,29 @@ pub(crate) fn keep_archive<R: Machine>(
     ensures kept { OnOk result (HasKept R.has checked.now (words_of closed) place.new) }
     ensures named { OnOk result (R.is_named place.new task.now.pair.now.archive.now) }
 {
+    let Task { rt, pair, .. } = task;
+    let alloc = rt.alloc();
+    // while checkpoints were written the place was out of hand
+    if !rt.is_claim_of(&*place, pair.archive) {
+        let cause = Cause::Unknown;
+        return Err(of_disk(DiskFault::Failed { cause }, Subject::Archive));
+    }
+    flush_put(task, checked.plan(), results)?;
+    let Ok(archive) = closed.into_archive(alloc, checked) else {
+        return Err(PerformFault::OutOfMemory);
+    };
+    rt.write_archive(alloc, place, &archive)
+        .map_err(|fault| of_disk(fault, Subject::Archive))
+}
+
+/// Waits until what a run that ended with these results put in place in both replicas has reached its device.
+fn flush_put<R: Machine>(
+    task: &Task<'_, R>,
+    plan: &Plan,
+    results: &[ActionResult],
+) -> Result<(), PerformFault>
+    requires count { length results.now ≡ length plan.now.actions }
+{
     let Task {
         rt,
         pair,
@@ -149,22 +172,13 @@ pub(crate) fn keep_archive<R: Machine>(
         ..
     } = task;
     let alloc = rt.alloc();
-    // while checkpoints were written the place was out of hand
-    if !rt.is_claim_of(&*place, pair.archive) {
-        let cause = Cause::Unknown;
-        return Err(of_disk(DiskFault::Failed { cause }, Subject::Archive));
-    }
     for side in [Side::First, Side::Second] {
         let root = replica(*pair, side).root;
-        let paths = paths_put(alloc, checked.plan(), results, side)?;
+        let paths = paths_put(alloc, plan, results, side)?;
         rt.flush_above(*rt, alloc, root, paths.as_slice(), *workers)
             .map_err(|fault| of_disk(fault, replica_on(side)))?;
     }
-    let Ok(archive) = closed.into_archive(alloc, checked) else {
-        return Err(PerformFault::OutOfMemory);
-    };
-    rt.write_archive(alloc, place, &archive)
-        .map_err(|fault| of_disk(fault, Subject::Archive))
+    Ok(())
 }
 
 /// The paths of the entries that were put in place in a replica.

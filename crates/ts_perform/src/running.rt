@@ -23,7 +23,7 @@ use ts_disk::{
 };
 use ts_exec::ActionResult;
 use ts_model::packed::KindRef;
-use ts_model::plan::{Plan, Side};
+use ts_model::plan::{Entry, Plan, Side};
 use ts_name::Path;
 use ts_text::Sink;
 
@@ -371,20 +371,33 @@ impl<R: Machine> Task<'_, R> {
         results: &[ActionResult],
         notices: &mut Vec<Notice>,
     ) -> Result<(), DiskFault> {
-        let Task { rt, pair, .. } = self;
         for (action, result) in plan.actions.as_slice().iter().zip(results) {
             if let KindRef::Commit { entry } = action.kind()
                 && let ActionResult::Failed(_) = result
                 && let Some(entry) = plan.entries.as_slice().get(entry as usize)
-                && let Some(from) = entry.reason.source()
             {
-                let root = replica(*pair, from.other()).root;
-                if let Some(path) = mount_above(*rt, alloc, root, &entry.path)?
-                    && !is_noticed(notices.as_slice(), &path)
-                {
-                    notices.push(Notice::Mounted { path })?;
-                }
+                self.add_mount(alloc, entry, notices)?;
             }
+        }
+        Ok(())
+    }
+
+    /// Adds a notice for the mount in which a copied entry is to be put in place, if there is one and it has no notice yet.
+    fn add_mount(
+        &self,
+        alloc: Global,
+        entry: &Entry,
+        notices: &mut Vec<Notice>,
+    ) -> Result<(), DiskFault> {
+        let Task { rt, pair, .. } = self;
+        let Some(from) = entry.reason.source() else {
+            return Ok(());
+        };
+        let root = replica(*pair, from.other()).root;
+        if let Some(path) = mount_above(*rt, alloc, root, &entry.path)?
+            && !is_noticed(notices.as_slice(), &path)
+        {
+            notices.push(Notice::Mounted { path })?;
         }
         Ok(())
     }
