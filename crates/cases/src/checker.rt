@@ -115,14 +115,29 @@ pub fn try_cases<R: Threads + Print + AllocGlobal + Sync>(rt: &R) -> Result<()> 
     for number in 0..CASES {
         let world = dice.world();
         let draft = draft_of(alloc, &mut dice, &world, number)?;
-        let wanted = draft.first_wrong(&world);
-        let found = checked(rt, &world, &draft)?;
-        ensure!(
-            is_same(found, wanted),
-            "case {number}: {found:?} in place of {wanted:?}"
-        );
-        met.note(wanted);
+        met.note(try_case(rt, &world, &draft, number)?);
     }
+    tell(rt, &met)
+}
+
+/// Tries a case, and answers its verdict.
+fn try_case<R: Threads + AllocGlobal + Sync>(
+    rt: &R,
+    world: &World,
+    draft: &Draft,
+    number: u32,
+) -> Result<Verdict> {
+    let wanted = draft.first_wrong(world);
+    let found = checked(rt, world, draft)?;
+    ensure!(
+        is_same(found, wanted),
+        "case {number}: {found:?} in place of {wanted:?}"
+    );
+    Ok(wanted)
+}
+
+/// Says what came of the cases. Each rule has to have been broken.
+fn tell(rt: &impl Print, met: &Met) -> Result<()> {
     println!(rt; "{CASES} cases agree")?;
     let valid = met.valid;
     println!(rt; "valid: {valid}")?;

@@ -128,29 +128,55 @@ pub fn try_cases<R: Threads + Print + AllocGlobal + Sync>(rt: &R) -> Result<()> 
     };
     for number in 0..CASES {
         let case = Case::random(alloc, places.as_slice(), &mut random)?;
-        let sights = sights(alloc, &case, places.as_slice())?;
-        let wanted = searched(alloc, &case, places.as_slice(), sights.as_slice())?;
-        met.note(wanted.as_slice());
-        let tried = try_case(
+        let tried = try_both(
             rt,
             &case,
             places.as_slice(),
-            sights.as_slice(),
-            wanted.as_slice(),
+            &mut changes,
+            &mut met,
+            &mut tally,
         );
         if let Err(fault) = tried {
             bail!("case {number}: {fault}");
         }
-        let entries = altered(alloc, places.as_slice(), wanted.as_slice(), &mut changes)?;
-        if let Err(fault) = try_entries(rt, &case, entries, wanted.as_slice(), &mut tally) {
-            bail!("case {number} with altered entries: {fault}");
-        }
     }
+    tell_met(rt, &met)?;
+    tell_tally(rt, tally)
+}
+
+/// Tries a case as it is, and with altered entries.
+fn try_both<R: Threads + AllocGlobal + Sync>(
+    rt: &R,
+    case: &Case,
+    places: &[Place],
+    changes: &mut Pcg32,
+    met: &mut Met,
+    tally: &mut Tally,
+) -> Result<()> {
+    let alloc = rt.alloc();
+    let sights = sights(alloc, case, places)?;
+    let wanted = searched(alloc, case, places, sights.as_slice())?;
+    met.note(wanted.as_slice());
+    try_case(rt, case, places, sights.as_slice(), wanted.as_slice())?;
+    let entries = altered(alloc, places, wanted.as_slice(), changes)?;
+    match try_entries(rt, case, entries, wanted.as_slice(), tally) {
+        Ok(()) => Ok(()),
+        Err(fault) => bail!("with altered entries: {fault}"),
+    }
+}
+
+/// Says how many entries had each reason. Each has to have been met.
+fn tell_met(rt: &impl Print, met: &Met) -> Result<()> {
     println!(rt; "{CASES} cases: marks and reasons as defined, plans accepted")?;
     for (count, reason) in met.counts.iter().zip(REASONS) {
         println!(rt; "{reason:?}: {count}")?;
         ensure!(*count > 0, "{reason:?} was never met");
     }
+    Ok(())
+}
+
+/// Says that altered entries were tried. Each answer has to have been met.
+fn tell_tally(rt: &impl Print, tally: Tally) -> Result<()> {
     let Tally {
         right,
         wrong,

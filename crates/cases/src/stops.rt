@@ -44,13 +44,41 @@ where
     let alloc = rt.alloc();
     let bundle = bundle_of(alloc, story.bundle)?;
     let mut pair = Pair::of_bundle(alloc, &bundle)?;
+    let count = run_stopped(rt, story, &bundle.plan, &mut pair, workers, tries)?;
+    go_on(rt, story, &mut pair, workers)?;
+    Ok(count)
+}
+
+/// Runs a story's plan until the stop has answered false so often, and answers how many actions were claimed.
+fn run_stopped<R>(
+    rt: &R,
+    story: &Story,
+    plan: &Plan,
+    pair: &mut Pair,
+    workers: u32,
+    tries: u64,
+) -> Result<u64>
+where
+    R: Threads + AllocGlobal + Sync,
+    requires { workers ≤ 64 }
+{
     let stop = Countdown::new(tries);
-    let came = pair.carry_out(rt, &bundle.plan, story.breaks, workers, &stop)?;
+    let came = pair.carry_out(rt, plan, story.breaks, workers, &stop)?;
     let results = came.results.as_slice();
     let count = claimed(results);
     ensure!(count <= tries, "a claim that the stop wasn't asked of");
     let is_left = results.contains(&ActionResult::Left);
     ensure!(stop.has_stopped() || !is_left, "left without a stop");
+    Ok(count)
+}
+
+/// Goes on with what is left of a story: it ends as it should.
+fn go_on<R>(rt: &R, story: &Story, pair: &mut Pair, workers: u32) -> Result<()>
+where
+    R: Threads + AllocGlobal + Sync,
+    requires { workers ≤ 64 }
+{
+    let alloc = rt.alloc();
     let rest = pair.plan(alloc)?;
     let never = Countdown::new(u64::MAX);
     let came = pair.carry_out(rt, &rest, NO_ACTION, workers, &never)?;
@@ -58,7 +86,7 @@ where
         ensure!(*result == ActionResult::Done, "an action isn't done");
     }
     ensure!(pair.is(alloc, story.wanted)?, "another pair");
-    Ok(count)
+    Ok(())
 }
 
 /// Stops a story before each try of a claim. With a worker, each try of a hint claims its action, so the stop says just how
