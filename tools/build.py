@@ -20,8 +20,9 @@ from edits import load_rt
 
 # How long a chain of libraries is, beside the longest, for the others to wait for it.
 NEARLY = 0.95
-# How many jobs a library of such a chain has at least, where there are as many processors.
-JOBS = 4
+# How many jobs a library of such a chain has at least, where there are as many processors. Any other has one: several take a third to
+# a half more of the processors in all, since each reads what stands below.
+JOBS = 3
 # How far the other libraries give way to it, as `nice` counts that.
 NICENESS = 10
 
@@ -70,8 +71,7 @@ def tasks_of(rt, libraries):
 
     A library of a longest chain has several jobs from the start, and the others give way to it: rt gives a crate its jobs when it
     begins, and one that begins beside others would keep a single one to its end, while all the chain waits for it. Further jobs
-    share what the first has read, and take no memory beyond what rt reckons for one: four jobs of ts_exec held 4 GB together, where
-    it reckons 5.7.
+    take no memory beyond what rt reckons for one: four jobs of ts_exec held 4 GB together, where it reckons 5.7.
     """
     missing = [it for it in libraries if not it.is_built()]
     names = {it.name for it in missing}
@@ -86,7 +86,7 @@ def tasks_of(rt, libraries):
                 return False
             if it.name in first:
                 return build(it, max(jobs, min(JOBS, rt.processors())), started)
-            return giving_way(lambda: build(it, jobs, started))
+            return giving_way(lambda: build(it, 1, started))
 
         tasks[crate.name, "proof"] = ([(it, "proof") for it in waits[crate.name]], lines[crate.name], rt.need(crate), call)
     return tasks
