@@ -1,8 +1,8 @@
 #!/usr/bin/env python3
 """Says which functions of a crate the prover takes longest for.
 
-Each module that a check has read it writes to a file, one after another, so the times of these files tell how long each one
-took. Most of it goes into what a function borrows and drops (`Lts`): that grows with the values that are dropped where a `?` may
+Each module that a check has read it writes to a file, one after another, so what the check has taken of a processor when a file
+comes tells how long that module took. Most of it goes into what a function borrows and drops (`Lts`): that grows with the values that are dropped where a `?` may
 end it, with all that their types are made of. What helps is a function of its own for what is done with such a value, or an
 `impl Drop` written out in the place of a derived one.
 
@@ -12,8 +12,8 @@ usage: tools/slow.py CLONE CRATE [COUNT] [--test]
        --test checks its tests, too: a crate that has nothing else is empty without them
        tools/slow.py --watch [COUNT]
        watches the proofs that run on this machine, as those of `rt ci`, and lists the COUNT slowest functions of each that ends
-       (10). Where a proof has several jobs, each module has the time since any of them wrote one: a function that takes long
-       beside others seems shorter than it is
+       (10), in seconds by the clock. These say little where a proof has several jobs or waits for a processor: each module has the
+       time since any job wrote one, the first one of a job also that in which the job began
 """
 import collections
 import glob
@@ -26,8 +26,9 @@ import tempfile
 import time
 
 TOP = os.path.dirname(os.path.dirname(os.path.abspath(__file__)))
-# How many seconds there are between two looks.
+# How many seconds there are between two looks, at what runs anyway, and at a check that this program makes.
 INTERVAL = 4
+SHORT_INTERVAL = 0.2
 # What a module's name ends in, where it belongs to a function or a type.
 KINDS = re.compile(r"\.(Lts|Tie|Proof|Goals|Answers\w*|Code|Mir|Named|Reads|View|Given|Layout|Kinds[\w-]*|Statement|Met|Invariants)\b.*")
 
@@ -65,9 +66,10 @@ def summed(modules):
 
 
 def show(found, count):
-    """Prints how long all took, and the slowest functions."""
-    total = sum(sum(it.values()) for it in found.values())
-    print(f"{total:7.1f} s in all")
+    """Prints how long all took, by kinds of modules, and the slowest functions."""
+    kinds = sum(found.values(), collections.Counter())
+    shares = ", ".join(f"{kind} {seconds:.0f}" for kind, seconds in kinds.most_common(8))
+    print(f"{sum(kinds.values()):7.1f} s in all for {len(found)} functions and files ({shares})")
     for function, kinds in sorted(found.items(), key=lambda it: -sum(it[1].values()))[:count]:
         shares = ", ".join(f"{kind} {seconds:.1f}" for kind, seconds in kinds.most_common(3))
         print(f"{sum(kinds.values()):7.1f}   {function} ({shares})", flush=True)
@@ -95,6 +97,43 @@ def watch(count):
         time.sleep(INTERVAL)
 
 
+def spent_by(process):
+    """Returns the seconds of a processor that a process and those that it began took so far."""
+    ticks, waiting = 0, [process]
+    while waiting:
+        at = waiting.pop()
+        try:
+            with open(f"/proc/{at}/stat", encoding="utf-8") as it:
+                ticks += sum(int(word) for word in it.read().rsplit(")", 1)[1].split()[11:15])
+            with open(f"/proc/{at}/task/{at}/children", encoding="utf-8") as it:
+                waiting += it.read().split()
+        except (FileNotFoundError, ProcessLookupError):
+            # (it ended meanwhile)
+            continue
+    return ticks / os.sysconf("SC_CLK_TCK")
+
+
+def measured(crate, kept, words):
+    """Makes a check that keeps its modules below a folder. Returns its status, what it printed, and each module of the crate with
+    the seconds of a processor since the one before it; modules that came between two looks share theirs."""
+    found, modules, before = set(), [], None
+    with tempfile.TemporaryFile("w+") as out:
+        check = subprocess.Popen(words, stdout=out, stderr=subprocess.STDOUT)
+        while check.poll() is None:
+            now, new = spent_by(check.pid), [*{*modules_in(kept)} - found]
+            found.update(new)
+            if new:
+                part = 0 if before is None else (now - before) / len(new)
+                before = now
+                modules += [(name, part) for name in new]
+            time.sleep(SHORT_INTERVAL)
+        out.seek(0)
+        said = out.read()
+    own = f"Rattle-{crate}-"
+    modules = [(name.removeprefix(own).removesuffix(".oantt"), part) for name, part in modules if name.startswith(own)]
+    return check.returncode, said, modules
+
+
 def main(words):
     flags = [it for it in words if it.startswith("--")]
     words = [it for it in words if it not in flags]
@@ -108,11 +147,11 @@ def main(words):
     kept = f"{TOP}/out/kept/{crate}{'_tests' if flags else ''}"
     shutil.rmtree(kept, ignore_errors=True)
     words = [f"{TOP}/tools/check_over.py", clone, crate, "--jobs", "1", *flags]
-    ran = subprocess.run(words, stdout=subprocess.PIPE, stderr=subprocess.STDOUT, text=True)
-    if ran.returncode:
-        print(ran.stdout, end="")
-    show(summed(modules_of(crate, modules_in(kept))), count)
-    return ran.returncode
+    status, said, modules = measured(crate, kept, words)
+    if status:
+        print(said, end="")
+    show(summed(modules), count)
+    return status
 
 
 if __name__ == "__main__":
