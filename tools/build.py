@@ -20,9 +20,9 @@ from edits import load_rt
 
 # How long a chain of libraries is, beside the longest, for the others to wait for it.
 NEARLY = 0.95
-# How many jobs a library of such a chain has at least, where there are as many processors. Any other has one: several take a third to
-# a half more of the processors in all, since each reads what stands below.
-JOBS = 3
+# How many jobs a library of such a chain has at least, where there are as many processors. Any other has one. Each job reads what
+# stands below, so that several take far more of the processors in all: ts_disk took 726 seconds by two, and over 1,100 by three.
+JOBS = 2
 # How far the other libraries give way to it, as `nice` counts that.
 NICENESS = 10
 
