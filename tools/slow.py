@@ -2,9 +2,9 @@
 """Says which functions of a crate the prover takes longest for.
 
 Each module that a check has read it writes to a file, one after another, so what the check has taken of a processor when a file
-comes tells how long that module took. Most of it goes into what a function borrows and drops (`Lts`): that grows with the values that are dropped where a `?` may
-end it, with all that their types are made of. What helps is a function of its own for what is done with such a value, or an
-`impl Drop` written out in the place of a derived one.
+comes tells how long that module took. Most of it goes into what a function borrows and drops (`Lts`): that grows with the values
+that are dropped where a `?` may end it, with all that their types are made of. What helps is a function of its own for what is
+done with such a value, or an `impl Drop` written out in the place of a derived one.
 
 usage: tools/slow.py CLONE CRATE [COUNT] [--test]
        checks the crate from nothing over the libraries that another clone has built, by one processor, and lists the COUNT
