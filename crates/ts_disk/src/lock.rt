@@ -92,7 +92,7 @@ pub fn take_lock<R: Files<File = File>>(
         let took_part = make_own(files, own.as_str()).map_err(own_failed)?;
         check_place(files, place.as_str(), root.len())?;
         let was_stopped = holds_plan(files, alloc, root)?;
-        if let Some(file) = open_locked(files, place.as_str())? {
+        if let Some(file) = open_lock_file(files, place.as_str())? {
             return Ok(Some(Lock {
                 file,
                 place,
@@ -139,7 +139,10 @@ fn open_or_make<R: Files<File = File>>(files: &R, place: &str) -> Result<Option<
 }
 
 /// Opens the file at a place, which is made where it isn't there, and locks it. None where its directory isn't there.
-fn open_locked<R: Files<File = File>>(files: &R, place: &str) -> Result<Option<File>, DiskFault> {
+fn open_lock_file<R: Files<File = File>>(
+    files: &R,
+    place: &str,
+) -> Result<Option<File>, DiskFault> {
     let Some(file) = open_or_make(files, place)? else {
         return Ok(None);
     };
