@@ -1,5 +1,5 @@
 -- What is lent of a kind says which kind it is.
-use Rattle.std.proofs.Common.{◌≡◌, ◌≢◌, ℕ, refl, Bor}
+use Rattle.std.proofs.Common.{◌≢◌, ℕ, refl, Bor}
 use Rattle.ts_name.specs.Paths.{Path}
 use Rattle.ts_name.specs.declared.paths.Path as declared
 use Rattle.ts_model.specs.Packed.{kind_lent}

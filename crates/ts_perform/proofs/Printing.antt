@@ -1,5 +1,5 @@
 -- What `check` and `preview` print, from what was checked and written.
-use Rattle.std.proofs.Common.{◌≡◌, inl, inr, ℕ, Bool, List, Option, Result, Ok, Err, refl, subst}
+use Rattle.std.proofs.Common.{◌≡◌, inl, inr, ℕ, List, Option, Result, Ok, Err, refl, subst}
 use Rattle.std.specs.Io.KnownBytes.{Appends}
 use Rattle.ts_text.specs.Sources.{AppendsFront}
 use Rattle.ts_text.specs.declared.fault.TextFault.{TextFault}

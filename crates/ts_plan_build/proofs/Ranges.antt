@@ -1,10 +1,9 @@
 -- The pieces of the files at and below a path: each is lawful, each lawful one is there, and once.
-use Rattle.std.proofs.Common.{◌≡◌, ◌≢◌, ◌⊎◌, ℕ, zero, suc, ◌+◌, ◌-◌, ◌*◌, ◌/◌, ◌%◌, ◌<◌, min, Bool, true, false, cond, List, [], ◌∷◌, length, Option, Some, None, slice_get, refl, sym, ap, ◌∙◌, subst, inl, inr, arith}
+use Rattle.std.proofs.Common.{◌≡◌, ◌≢◌, ◌⊎◌, ℕ, zero, suc, ◌+◌, ◌-◌, ◌*◌, ◌/◌, ◌%◌, ◌<◌, min, Bool, true, false, cond, List, [], ◌∷◌, length, Option, Some, slice_get, refl, sym, ap, ◌∙◌, subst, inl, inr, arith}
 use Rattle.std.proofs.Math.Nat.{mul-mod_left}
 use Rattle.std.proofs.lemmas.Option.{none-some}
 use Rattle.std.specs.Prelude.{filter}
 use Rattle.ts_name.specs.Paths.{Path, IsAbove, IsBefore, below, same_path}
-use Rattle.ts_name.proofs.Prefixes.{below_append, below_gives}
 use Rattle.ts_model.specs.Trees.{Listing, listed, at, Ascend, IsListing}
 use Rattle.ts_model.specs.Plans.{IsRange}
 use Rattle.ts_model.specs.declared.row.Content.{Content}
