@@ -62,7 +62,7 @@ pub written : (rows : Listing (List ℕ)) (o p : Option Spots) (k m n : List Spo
 written rows o p k m n = then (λ s left. MayFail s (Write rows) left) (λ s. MayStop s (Write rows)) KeepsOthers KeepsOthers o p k m n (writing rows)
     (λ s t x failed. others s t x (writing rows s t (inr (inr failed))))
 
-putting : (s x : Spots) → MayStop s (Rename New Target) x → IsPutting s x
+pub putting : (s x : Spots) → MayStop s (Rename New Target) x → IsPutting s x
 putting s x (inl is) = inl is
 putting s x (inr (inl is)) = inr (inl is)
 putting s x (inr (inr is)) = inl is
@@ -262,7 +262,7 @@ removing at there o k m is stops = subst (λ (b : Bool). AtEachMoment (IsDuring 
 abbrev pub Sweeps : Bool → Bool → Bool → Type 0
 Sweeps target new old = ((target ≡ false) × (new ≡ true) × (old ≡ false)) ⊎ (((target ≡ false) × (new ≡ false)) ⊎ (target ≡ true))
 
-sweep : (target new old : Bool) → Sweeps target new old → recovery target new old ≡ removal New new ++ removal Old old
+pub sweep : (target new old : Bool) → Sweeps target new old → recovery target new old ≡ removal New new ++ removal Old old
 sweep true true true some = refl
 sweep true true false some = refl
 sweep true false true some = refl
@@ -285,7 +285,7 @@ swept target new old o p k m n some does first second =
     subst (λ (calls : List Call). AtEachMoment (IsDuring calls) o k n) (sym (sweep target new old some)) (during_then (removal New new) (removal Old old) o p k m n does first second)
 
 -- what it does where it is to
-put_back : (target new old : Bool) → target ≡ false → new ≡ true → old ≡ true → recovery target new old ≡ Rename Old Target ∷ Remove New ∷ []
+pub put_back : (target new old : Bool) → target ≡ false → new ≡ true → old ≡ true → recovery target new old ≡ Rename Old Target ∷ Remove New ∷ []
 put_back true new old is there kept = search (rules, is)
 put_back false false old is there kept = search (rules, there)
 put_back false true false is there kept = search (rules, kept)

@@ -41,7 +41,6 @@ pub fn replace<P: Places>(places: &mut P, tree: &[Row<Items<u8>>]) -> Result<(),
 /// whole, with the new tree whole at the new spot and nothing at the target. A look that fails does so before anything
 /// is moved, so after it the original lies at the target. That the old content couldn't be removed at the end is not
 /// reported.
-#[tactic(auto, using(crate::proofs::Counting::grown, crate::proofs::Counting::still_grown))]
 pub fn move_in<P: Places>(places: &mut P, wanted: bool) -> Result<(), Failed>
     requires new { IfSome (P.spots places.old) (λ s. Tells wanted s.new) }
     requires old { IfSome (P.spots places.old) (λ s. s.old ≡ []) }
@@ -70,7 +69,6 @@ pub fn move_in<P: Places>(places: &mut P, wanted: bool) -> Result<(), Failed>
 
 /// Writes the tree to the new spot, unless it is that of nothing. After a failure the spot is cleared where that can
 /// be done.
-#[tactic(auto, using(crate::proofs::Counting::grown, crate::proofs::Counting::still_grown))]
 fn write_new<P: Places>(places: &mut P, tree: &[Row<Items<u8>>]) -> Result<(), Failed>
     requires tree { IsSubListing tree.now }
     requires new { IfSome (P.spots places.old) (λ s. s.new ≡ []) }
@@ -103,7 +101,6 @@ fn clear_new<P: Places>(places: &mut P)
 }
 
 /// Moves what lies at the target to the old spot, and answers whether something lay there. A failure changes nothing.
-#[tactic(auto, using(crate::proofs::Counting::grown, crate::proofs::Counting::still_grown))]
 fn set_aside<P: Places>(places: &mut P) -> Result<bool, Failed>
     requires { IfSome (P.spots places.old) (λ s. s.old ≡ []) }
     ensures ok { IfOk result (λ had. OnSpots (IsSetAside had) (P.spots places.old) (P.spots places.new)) }
@@ -122,7 +119,6 @@ fn set_aside<P: Places>(places: &mut P) -> Result<bool, Failed>
 
 /// Moves the new tree to the target. After a failure what was set aside is moved back, and then the new tree is removed,
 /// where that can be done.
-#[tactic(auto, using(crate::proofs::Counting::grown, crate::proofs::Counting::still_grown))]
 fn put_in_place<P: Places>(places: &mut P, wanted: bool, had: bool) -> Result<(), Failed>
     requires target { IfSome (P.spots places.old) (λ s. s.target ≡ []) }
     requires new { IfSome (P.spots places.old) (λ s. Tells wanted s.new) }
@@ -196,7 +192,6 @@ pub fn recover_stopped<P: Places, Q: Places>(
 }
 
 /// Makes the calls of recovery, by what lies where.
-#[tactic(auto, using(crate::proofs::Counting::grown, crate::proofs::Counting::still_grown))]
 fn tidy<P: Places>(places: &mut P, target: bool, new: bool, old: bool) -> Result<(), Failed>
     requires { IfSome (P.spots places.old) (Looks target new old) }
     ensures counted { MatchResult result (λ _. P.failures places.new ≡ P.failures places.old) (λ _. HasFailed (P.failures places.old) (P.failures places.new)) }
@@ -213,7 +208,6 @@ fn tidy<P: Places>(places: &mut P, target: bool, new: bool, old: bool) -> Result
 }
 
 /// Clears a spot, if something lies there.
-#[tactic(auto, using(crate::proofs::Counting::grown))]
 fn clear_if<P: Places>(places: &mut P, spot: Spot, there: bool) -> Result<(), Failed>
     ensures counted { MatchResult result (λ _. P.failures places.new ≡ P.failures places.old) (λ _. HasFailed (P.failures places.old) (P.failures places.new)) }
     ensures done { MatchResult result (λ _. OnSpots (Does (removal (spot_of spot) there)) (P.spots places.old) (P.spots places.new))
