@@ -86,6 +86,17 @@ read_more (Some tree) p offset n front buffer read short fills = record {
     piece : take n buffer ≡ take (length buffer) (drop (length front) bytes)
     piece = fills.answered ∙ ap (λ z. take (length buffer) (drop offset z)) (same_file fills.bytes bytes (at tree p) fills.file read.told_bytes.1) ∙ ap (λ k. take (length buffer) (drop k bytes)) (sym read.count)
 
+-- a file that is told has no more bytes than can be counted
+pub read_past :
+    (told : Told) (p : Path) (offset n : ℕ) (front buffer : List ℕ)
+    → HasRead told p offset front → n ≤ length buffer → IfSome told (λ tree. Fills (at tree p) offset buffer n) → 2 ^ 64 ≤ offset + n → told ≡ None
+read_past None p offset n front buffer read short fills past = refl
+read_past (Some tree) p offset n front buffer read short fills past =
+    let more = read_more (Some tree) p offset n front buffer read short fills in
+    let count = more.count in
+    let few = more.told_bytes.2 in
+    let part = more.told_bytes.3 in absurd (omega arith)
+
 -- before the first piece
 pub read_none : (told : Told) (p : Path) → IfSome told (λ tree. (bytes : List ℕ) × (at tree p ≡ File bytes) × (length bytes < 2 ^ 64)) → HasRead told p 0 []
 read_none None p file = record { count = refl; told_bytes = tt }

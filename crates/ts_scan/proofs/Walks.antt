@@ -1,8 +1,9 @@
 -- What a scan finds, put together.
-use Rattle.std.proofs.Common.{◌≡◌, ◌≢◌, ℕ, zero, suc, ◌<◌, ◌^◌, Bool, true, false, cond, List, [], ◌∷◌, ◌++◌, length, get_or, Option, Some, None, IfSome, Result, Ok, Err, IfErr, refl, sym, ap, ◌∙◌, subst, inl, inr, append_assoc, append-nil, arith}
+use Rattle.std.proofs.Common.{◌≡◌, ◌≢◌, ◌⊎◌, ℕ, zero, suc, ◌<◌, ◌^◌, Bool, true, false, cond, List, [], ◌∷◌, ◌++◌, length, get_or, Option, Some, None, IfSome, Result, Ok, Err, IfErr, IfOk, refl, sym, ap, ◌∙◌, subst, inl, inr, append_assoc, append-nil, arith}
 use Rattle.std.proofs.lemmas.List.Elements.{recursion_from_All}
+use Rattle.std.proofs.lemmas.Result.{IfErr-at_err}
 use Rattle.std.specs.List.{AllByRecursion}
-use Rattle.std.specs.Result.{IsErrAnd}
+use Rattle.std.specs.Result.{IsErrAnd, IsOkAnd}
 use Rattle.ts_name.specs.Paths.{Name, Path, IsPath, same_path}
 use Rattle.ts_name.proofs.Prefixes.{snoc_not_empty}
 use Rattle.ts_name.proofs.Utf8.{all_parts}
@@ -174,8 +175,25 @@ adds_rest told p done rest all old mid new e up h k =
     subst (λ z. Adds old new (Found told p z)) (sym e) (adds_more told p done rest old mid new (subst InOrder e up) h k)
 
 -- and where the second half was found apart
-pub adds_half : (told : Told) (p : Path) (xs ys all : Children) (old mid more new : Listing Stamp) → all ≡ xs ++ ys → InOrder all → Adds old mid (Found told p xs) → Found told p ys more → new ≡ mid ++ more → Adds old new (Found told p all)
+adds_half : (told : Told) (p : Path) (xs ys all : Children) (old mid more new : Listing Stamp) → all ≡ xs ++ ys → InOrder all → Adds old mid (Found told p xs) → Found told p ys more → new ≡ mid ++ more → Adds old new (Found told p all)
 adds_half told p xs ys all old mid more new e up h k is = adds_rest told p xs ys all old mid new e up h (more, is, k)
+
+pub adds_both :
+    {A B E : Type 0} (front : Result A E) (back : Result B E) (rows : A → Listing Stamp) (items : B → Listing Stamp) (told : Told) (p : Path) (xs ys all : Children) (old new : Listing Stamp)
+    → all ≡ xs ++ ys → InOrder all → IfOk front (λ a. Adds old (rows a) (Found told p xs)) → IfOk back (λ b. Found told p ys (items b))
+    → IsOkAnd front (λ a. IsOkAnd back (λ b. new ≡ rows a ++ items b)) → Adds old new (Found told p all)
+adds_both (Ok a) (Ok b) rows items told p xs ys all old new e up h k is = adds_half told p xs ys all old (rows a) (items b) new e up h k is
+adds_both (Ok a) (Err y) rows items told p xs ys all old new e up h k is = absurd is
+adds_both (Err x) back rows items told p xs ys all old new e up h k is = absurd is
+
+-- and it fails as one of them does
+pub fails_either :
+    {A B C E : Type 0} (front : Result A E) (back : Result B E) (r : Result C E) (P : E → Type 0) (none : E)
+    → P none → IfErr front P → IfErr back P → IfErr r (λ e. (e ≡ none) ⊎ (front ≡ Err e) ⊎ (back ≡ Err e)) → IfErr r P
+fails_either front back (Ok x) P none n h k is = tt
+fails_either front back (Err y) P none n h k (inl e) = subst P (sym e) n
+fails_either front back (Err y) P none n h k (inr (inl e)) = IfErr-at_err P e h
+fails_either front back (Err y) P none n h k (inr (inr e)) = IfErr-at_err P e k
 
 pub adds_file : (told : Told) (p path : Path) (child : Name × Kind) (stamp : Stamp) (old new : Listing Stamp) → IfSome told IsTreeBody → path ≡ p ++ child.0 ∷ [] → IsPath path → IfSome told (λ tree. HasStamp (at tree path) stamp) → new ≡ old ++ record { path = path; content = File stamp } ∷ [] → Adds old new (Found told p (child ∷ []))
 adds_file told p path child stamp old new lawful e is stamped pushed = (

@@ -1,5 +1,6 @@
 //! The rows below a directory, found by several workers.
-ghost use Rattle.std.specs.Prelude.{◌≡◌, ◌∷◌, ◌++◌, [], ◌<◌, IfErr, IfOk, IfSome, OnOk, length, vec_len};
+ghost use Rattle.std.specs.Prelude.{◌≡◌, ◌⊎◌, ◌∷◌, ◌++◌, [], ◌<◌, Err, IfErr, IfOk, IfSome, OnOk, length, vec_len};
+ghost use Rattle.std.specs.Result.{IsOkAnd};
 ghost use Rattle.std.specs.Thread.{IsSend, IsSync};
 ghost use Rattle.ts_name.specs.Paths.{IsPath};
 ghost use Rattle.ts_folder.specs.Folders.{CanBe, InOrder};
@@ -37,12 +38,24 @@ const TRIES: u32 = 10;
 
 /// What a worker carries: the rows found so far, in path order, how many of them have no path with a buffer of its own, and the
 /// buffer through which it reads files.
-#[derive(Drop)]
 pub(crate) struct Work {
     pub(crate) rows: Vec<Row<Stamp>>,
     packed: usize,
     buffer: Vec<u8>,
     ghost room: { 0 < vec_len buffer },
+}
+
+/// Written out, so that a proof of what drops one stays short.
+impl Drop for Work {
+    fn drop(self) {
+        let Work {
+            rows,
+            packed: _,
+            buffer,
+        } = self;
+        drop(rows);
+        drop(buffer);
+    }
 }
 
 impl Work {
@@ -100,7 +113,11 @@ impl Work {
     pub(crate) fn into_rows(self) -> Vec<Row<Stamp>>
         ensures { result.items ≡ self.rows.items }
     {
-        let Work { rows, buffer, .. } = self;
+        let Work {
+            rows,
+            packed: _,
+            buffer,
+        } = self;
         let_go(buffer);
         rows
     }
@@ -219,6 +236,18 @@ where
         found
     };
     let (back, front) = join(rt, theirs, ours);
+    put_together(alloc, front, back)
+}
+
+/// The rows of both parts, where both were found.
+fn put_together(
+    alloc: Global,
+    front: Result<Work, ScanFault>,
+    back: Result<Vec<Row<Stamp>>, ScanFault>,
+) -> Result<Work, ScanFault>
+    ensures found { IfOk result (λ done. IsOkAnd front (λ work. IsOkAnd back (λ more. done.rows.items ≡ work.rows.items ++ more.items))) }
+    ensures fault { IfErr result (λ e. (e ≡ ScanFault.OutOfMemory) ⊎ (front ≡ Err e) ⊎ (back ≡ Err e)) }
+{
     let mut done = front?;
     let more = back?;
     done.append(alloc, more)?;
@@ -274,15 +303,24 @@ where
             Ok(work)
         }
         Opened::Dir(children) => {
-            let Ok(own) = path.copy(alloc) else {
-                return Err(ScanFault::OutOfMemory);
-            };
-            work.push_dir(alloc, own, children.len())?;
+            add_dir(&mut work, alloc, &path, children.len())?;
             let done = scan_children(rt, folder, idle, alloc, &path, &children, work);
             let_go(children);
             done
         }
     }
+}
+
+/// Puts the row of the directory at a path behind these, and makes room for those of its children.
+fn add_dir(work: &mut Work, alloc: Global, path: &Path, children: usize) -> Result<(), ScanFault>
+    ensures found { OnOk result (work.new.rows.items ≡ work.old.rows.items ++ record { path = path.now; content = Dir } ∷ []) }
+    ensures fault { IfErr result (λ e. e ≡ ScanFault.OutOfMemory) }
+{
+    let Ok(own) = path.copy(alloc) else {
+        return Err(ScanFault::OutOfMemory);
+    };
+    work.push_dir(alloc, own, children)?;
+    Ok(())
 }
 
 /// The path of a child, or `TooLong` at its directory.
