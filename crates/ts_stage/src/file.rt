@@ -70,7 +70,7 @@ impl StagedFile {
     {
         let StagedFile { piece } = self;
         let bytes = match piece {
-            Some(piece) => Box::into_inner(piece).kept.into_bytes()?,
+            Some(piece) => Box::into_inner(piece).into_kept().into_bytes()?,
             None => Items::new(Vec::new(alloc)),
         };
         are_bytes(bytes.as_slice());
@@ -130,7 +130,7 @@ fn join(alloc: Global, size: u64, had: &mut Piece, mut piece: Box<Piece>) -> Res
     ensures err { OnErr result (had.new ≡ had.old) }
     ensures back { IfErr result (λ back. back.value ≡ piece.value) }
 {
-    let Piece { kept: more } = Box::replace(&mut piece, Piece::nothing());
+    let more = Box::replace(&mut piece, Piece::nothing()).into_kept();
     match join_kept(alloc, size, &mut had.kept, more) {
         Ok(()) => Ok(()),
         Err(more) => {

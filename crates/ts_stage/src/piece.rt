@@ -1,5 +1,6 @@
 //! What one piece staged.
 ghost use Rattle.std.specs.Prelude.{◌≡◌, true, false};
+ghost use Rattle.ts_stage.specs.Keeping.{staging};
 ghost use Rattle.ts_stage.specs.Stagings.{Staging};
 
 use crate::kept::Kept;
@@ -11,9 +12,16 @@ use ts_model::items::Items;
 /// What one piece staged of its file: its bytes, in memory or stored elsewhere.
 ///
 /// Of a stored file one piece, the last one that was stored, may have what was then read back of the whole file.
-#[derive(Drop)]
 pub struct Piece {
     pub(crate) kept: Kept,
+}
+
+/// Written out, so that a proof of what drops one stays short.
+impl Drop for Piece {
+    fn drop(self) {
+        let Piece { kept } = self;
+        drop(kept);
+    }
 }
 
 impl Model for Piece {
@@ -41,6 +49,14 @@ impl Piece {
         Piece {
             kept: Kept::Stored(Told::nothing()),
         }
+    }
+
+    /// What it keeps.
+    pub(crate) fn into_kept(self) -> Kept
+        ensures { staging result ≡ self }
+    {
+        let Piece { kept } = self;
+        kept
     }
 
     /// These bytes, which are stored elsewhere; and where they were the last of their file that were stored, what was read back
