@@ -8,7 +8,8 @@ done with such a value, or an `impl Drop` written out in the place of a derived 
 
 usage: tools/slow.py CLONE CRATE [COUNT] [--test]
        checks the crate from nothing over the libraries that another clone has built, by one processor, and lists the COUNT
-       slowest functions (30), with the share of it that went into each kind of module
+       slowest functions (30), with the megabytes of their modules, which are the same on any machine, and the share of the time
+       that went into each kind of module
        --test checks its tests, too: a crate that has nothing else is empty without them
        tools/slow.py --watch [COUNT]
        watches the proofs that run on this machine, as those of `rt ci`, and lists the COUNT slowest functions of each that ends
@@ -34,45 +35,54 @@ KINDS = re.compile(r"\.(Lts|Tie|Proof|Goals|Answers\w*|Code|Mir|Named|Reads|View
 
 
 def modules_in(kept):
-    """Returns when each module was written that a check has left below a folder so far, by its file's name."""
+    """Returns when each module was written that a check has left below a folder so far, and its bytes, by its file's name."""
     found = {}
     for at, _, names in os.walk(kept):
         for name in (it for it in names if it.endswith(".oantt")):
             try:
-                found[name] = os.stat(f"{at}/{name}").st_mtime
+                file = os.stat(f"{at}/{name}")
             except FileNotFoundError:
                 # (the check ended meanwhile)
                 continue
+            found[name] = file.st_mtime, file.st_size
     return found
 
 
-def modules_of(crate, found):
-    """Yields for each module of a crate its name, and how many seconds after the one before it came."""
-    files = sorted((written, name) for name, written in found.items())
+def named(crate, modules):
+    """Yields those of some modules that are a crate's, by their names there."""
     own = f"Rattle-{crate}-"
-    for (before, _), (written, name) in zip(files, files[1:]):
+    for name, seconds, size in modules:
         if name.startswith(own):
-            yield name.removeprefix(own).removesuffix(".oantt"), written - before
+            yield name.removeprefix(own).removesuffix(".oantt"), seconds, size
+
+
+def modules_of(found):
+    """Yields for each module its file's name, how many seconds after the one before it came, and its bytes."""
+    files = sorted((written, name, size) for name, (written, size) in found.items())
+    for (before, _, _), (written, name, size) in zip(files, files[1:]):
+        yield name, written - before, size
 
 
 def summed(modules):
-    """Returns the seconds of each function or file, and those of each of its kinds of modules."""
-    found = collections.defaultdict(collections.Counter)
-    for name, seconds in modules:
+    """Returns the seconds of each function or file, by its kinds of modules, and the bytes of each."""
+    found, sizes = collections.defaultdict(collections.Counter), collections.Counter()
+    for name, seconds, size in modules:
         kind = KINDS.search(name)
         function = KINDS.sub("", name).removeprefix("proofs.")
         found[function][kind.group(1) if kind else "itself"] += seconds
-    return found
+        sizes[function] += size
+    return found, sizes
 
 
-def show(found, count):
+def show(found, sizes, count):
     """Prints how long all took, by kinds of modules, and the slowest functions."""
     kinds = sum(found.values(), collections.Counter())
     shares = ", ".join(f"{kind} {seconds:.0f}" for kind, seconds in kinds.most_common(8))
-    print(f"{sum(kinds.values()):7.1f} s in all for {len(found)} functions and files ({shares})")
+    whole = sizes.total() / 1e6
+    print(f"{sum(kinds.values()):7.1f} s, {whole:.1f} MB in all for {len(found)} functions and files ({shares})")
     for function, kinds in sorted(found.items(), key=lambda it: -sum(it[1].values()))[:count]:
         shares = ", ".join(f"{kind} {seconds:.1f}" for kind, seconds in kinds.most_common(3))
-        print(f"{sum(kinds.values()):7.1f}   {function} ({shares})", flush=True)
+        print(f"{sum(kinds.values()):7.1f}  {sizes[function] / 1e6:6.1f} MB  {function} ({shares})", flush=True)
 
 
 def crate_of(names):
@@ -93,7 +103,7 @@ def watch(count):
             crate = crate_of(found)
             if crate:
                 print(f"{crate}:")
-                show(summed(modules_of(crate, found)), count)
+                show(*summed(named(crate, modules_of(found))), count)
         time.sleep(INTERVAL)
 
 
@@ -113,15 +123,16 @@ def spent_by(process):
     return ticks / os.sysconf("SC_CLK_TCK")
 
 
-def measured(crate, kept, words):
-    """Makes a check that keeps its modules below a folder. Returns its status, what it printed, and each module of the crate with
-    the seconds of a processor since the one before it; modules that came between two looks share theirs."""
-    found, modules, before = set(), [], None
+def measured(kept, words):
+    """Makes a check that keeps its modules below a folder. Returns its status, what it printed, and each module's file with the
+    seconds of a processor since the one before it, and its bytes; modules that came between two looks share theirs."""
+    found, modules, before = {}, [], None
     with tempfile.TemporaryFile("w+") as out:
         check = subprocess.Popen(words, stdout=out, stderr=subprocess.STDOUT)
         while check.poll() is None:
-            now, new = spent_by(check.pid), [*{*modules_in(kept)} - found]
-            found.update(new)
+            now, there = spent_by(check.pid), modules_in(kept)
+            new = [name for name in there if name not in found]
+            found.update(there)
             if new:
                 part = 0 if before is None else (now - before) / len(new)
                 before = now
@@ -129,9 +140,7 @@ def measured(crate, kept, words):
             time.sleep(SHORT_INTERVAL)
         out.seek(0)
         said = out.read()
-    own = f"Rattle-{crate}-"
-    modules = [(name.removeprefix(own).removesuffix(".oantt"), part) for name, part in modules if name.startswith(own)]
-    return check.returncode, said, modules
+    return check.returncode, said, [(name, part, found[name][1]) for name, part in modules]
 
 
 def main(words):
@@ -147,10 +156,10 @@ def main(words):
     kept = f"{TOP}/out/kept/{crate}{'_tests' if flags else ''}"
     shutil.rmtree(kept, ignore_errors=True)
     words = [f"{TOP}/tools/check_over.py", clone, crate, "--jobs", "1", *flags]
-    status, said, modules = measured(crate, kept, words)
+    status, said, modules = measured(kept, words)
     if status:
         print(said, end="")
-    show(summed(modules), count)
+    show(*summed(named(crate, modules)), count)
     return status
 
 
