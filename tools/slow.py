@@ -4,7 +4,7 @@
 Each module that a check has read it writes to a file, one after another, so what the check has taken of a processor when a file
 comes tells how long that module took. Most of it goes into what a function borrows and drops (`Lts`): that grows with the values
 that are dropped where a `?` may end it, with all that their types are made of. What helps is a function of its own for what is
-done with such a value, or an `impl Drop` written out in the place of a derived one.
+done with such a value, or an `impl Drop` written out in the place of a derived one, where the type has enums among its parts.
 
 usage: tools/slow.py CLONE CRATE [COUNT] [--test]
        checks the crate from nothing over the libraries that another clone has built, by one processor, and lists the COUNT
@@ -78,7 +78,7 @@ def show(found, sizes, count):
     """Prints how long all took, by kinds of modules, and the slowest functions."""
     kinds = sum(found.values(), collections.Counter())
     shares = ", ".join(f"{kind} {seconds:.0f}" for kind, seconds in kinds.most_common(8))
-    whole = sizes.total() / 1e6
+    whole = sum(sizes.values()) / 1e6
     print(f"{sum(kinds.values()):7.1f} s, {whole:.1f} MB in all for {len(found)} functions and files ({shares})")
     for function, kinds in sorted(found.items(), key=lambda it: -sum(it[1].values()))[:count]:
         shares = ", ".join(f"{kind} {seconds:.1f}" for kind, seconds in kinds.most_common(3))
