@@ -95,6 +95,7 @@ pub(crate) fn open_slots<S: Site>(
 }
 
 /// A board that is laid out and not opened yet: its slots, with the sites in those of the commits.
+#[derive(Drop)]
 pub struct Opening<S> {
     slots: Vec<Slot<S>>,
     /// Room for the sites, should they have to come back.
@@ -104,20 +105,6 @@ pub struct Opening<S> {
     ghost placed: { slots.items ≡ placed plan.value.actions sites.value.items },
     ghost sited: { length sites.value.items ≡ commit_count plan.value.actions },
     ghost room: { (back.items ≡ []) × (length sites.value.items ≤ vec_capacity back) },
-}
-
-/// Written out, so that a proof of what drops one stays short.
-impl<S: Drop> Drop for Opening<S> {
-    fn drop(self) {
-        let Opening {
-            slots,
-            back,
-            plan: _,
-            sites: _,
-        } = self;
-        drop(slots);
-        drop(back);
-    }
 }
 
 impl<S: Site> Opening<S> {
@@ -153,12 +140,7 @@ impl<S: Site> Opening<S> {
     pub fn into_sites(self) -> Vec<S>
         ensures { result.items ≡ self.sites.value.items }
     {
-        let Opening {
-            slots,
-            back,
-            plan: _,
-            sites: _,
-        } = self;
+        let Opening { slots, back, .. } = self;
         sites_from(slots, back)
     }
 
@@ -177,12 +159,7 @@ impl<S: Site> Opening<S> {
         ensures nothing { IfOk result (λ r. (seen r.1 ≡ []) × (mine r.1 ≡ [])) }
         ensures back { IfErr result (λ refused. refused.0.items ≡ self.sites.value.items) }
     {
-        let Opening {
-            slots,
-            back,
-            plan: _,
-            sites: _,
-        } = self;
+        let Opening { slots, back, .. } = self;
         let plan = checked.plan();
         match open_slots(
             alloc,

@@ -38,24 +38,12 @@ const TRIES: u32 = 10;
 
 /// What a worker carries: the rows found so far, in path order, how many of them have no path with a buffer of its own, and the
 /// buffer through which it reads files.
+#[derive(Drop)]
 pub(crate) struct Work {
     pub(crate) rows: Vec<Row<Stamp>>,
     packed: usize,
     buffer: Vec<u8>,
     ghost room: { 0 < vec_len buffer },
-}
-
-/// Written out, so that a proof of what drops one stays short.
-impl Drop for Work {
-    fn drop(self) {
-        let Work {
-            rows,
-            packed: _,
-            buffer,
-        } = self;
-        drop(rows);
-        drop(buffer);
-    }
 }
 
 impl Work {
@@ -113,11 +101,7 @@ impl Work {
     pub(crate) fn into_rows(self) -> Vec<Row<Stamp>>
         ensures { result.items ≡ self.rows.items }
     {
-        let Work {
-            rows,
-            packed: _,
-            buffer,
-        } = self;
+        let Work { rows, buffer, .. } = self;
         let_go(buffer);
         rows
     }
@@ -319,8 +303,7 @@ fn add_dir(work: &mut Work, alloc: Global, path: &Path, children: usize) -> Resu
     let Ok(own) = path.copy(alloc) else {
         return Err(ScanFault::OutOfMemory);
     };
-    work.push_dir(alloc, own, children)?;
-    Ok(())
+    work.push_dir(alloc, own, children)
 }
 
 /// The path of a child, or `TooLong` at its directory.

@@ -14,6 +14,7 @@ use ts_stage::Staged;
 use ts_tree::SubTree;
 
 /// A site over memory whose device fails at the commits that it was told, for tests.
+#[derive(Drop)]
 pub struct FaultySite {
     site: MemSite,
     /// Whether the device fails at each commit, the first one first. It doesn't at later ones.
@@ -23,20 +24,6 @@ pub struct FaultySite {
     /// How many of them the device failed at.
     failures: usize,
     ghost counted: { failures ≤ commits },
-}
-
-/// Written out, so that a proof of what drops one stays short.
-impl Drop for FaultySite {
-    fn drop(self) {
-        let FaultySite {
-            site,
-            fails,
-            commits: _,
-            failures: _,
-        } = self;
-        drop(site);
-        drop(fails);
-    }
 }
 
 impl FaultySite {
@@ -59,13 +46,7 @@ impl FaultySite {
     pub fn into_content(self) -> SubTree
         ensures { result ≡ self.site }
     {
-        let FaultySite {
-            site,
-            fails: _,
-            commits: _,
-            failures: _,
-        } = self;
-        site.into_content()
+        self.site.into_content()
     }
 
     /// Whether the device fails at the next commit, which is made now.

@@ -12,16 +12,9 @@ use ts_tree::SubTree;
 
 /// A site whose content lies in memory. Its device never fails. What it puts in place has to be in memory, too: for all else it
 /// answers out of memory.
+#[derive(Drop)]
 pub struct MemSite {
     content: SubTree,
-}
-
-/// Written out, so that a proof of what drops one stays short.
-impl Drop for MemSite {
-    fn drop(self) {
-        let MemSite { content } = self;
-        drop(content);
-    }
 }
 
 impl Model for MemSite {
