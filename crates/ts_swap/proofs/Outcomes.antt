@@ -5,7 +5,7 @@ use Rattle.std.specs.Prelude.{IfSome, IfOk, IsErr, MatchResult, is_ok}
 use Rattle.ts_model.specs.Trees.{Listing}
 use Rattle.ts_model.specs.Swap.{Spot, spot, Spots, Call, IsThere, Write, Rename, Remove, Target, New, Old, after_call, MayFail, MayStop, recovery}
 use Rattle.ts_swap.specs.Leavings.{AtEachMoment, Counts, Grows, HasFailed, OnSpots, IsDuring, IsSetAside, IsPut, IsBack, IsAside}
-use Rattle.ts_swap.specs.Leavings.{IsOriginal, IsReplaced, IsInSwap, KeepsOthers, Does, Leaves, Looks, Recovers, Stumbles, Tells, removal}
+use Rattle.ts_swap.specs.Leavings.{IsOriginal, IsReplaced, IsInSwap, KeepsOthers, Does, Leaves, Looks, MakesCalls, Recovers, Stumbles, Tells, removal}
 use Rattle.ts_swap.proofs.Counting.{grown}
 use Rattle.ts_swap.proofs.Moments.{stays, weakens}
 use Rattle.ts_swap.proofs.Moving.{as_it_was}
@@ -217,7 +217,7 @@ stumbles_then (call ∷ calls) more s t u first then = inr (stumbles_then calls 
 
 -- one spot, where something lies there
 pub removal_ends : {A E : Type 0} (r : Result A E) (at : Spot) (there : Bool) (o p : Option Spots) → there ≡ true → Leaves (Remove at) o p r
-    → MatchResult r (λ _. OnSpots (Does (removal at there)) o p) (λ _. OnSpots (Stumbles (removal at there)) o p)
+    → MakesCalls (removal at there) o p r
 removal_ends r at false o p is leaves = none_failed is
 removal_ends (Ok x) at true o p is leaves = leaves
 removal_ends (Err e) at true o p is leaves = on_each (λ s left. MayFail s (Remove at) left) (Stumbles (removal at true)) o p (λ s t fails. inl fails) leaves
@@ -240,8 +240,7 @@ sweep_stumbles target new old o p some first =
     (on_each (Stumbles (removal New new)) (Stumbles (removal New new ++ removal Old old)) o p (stumbles_first (removal New new) Old old) first)
 
 pub sweep_ends : {A E : Type 0} (r : Result A E) (target new old : Bool) (o p q : Option Spots) → Sweeps target new old → OnSpots (Does (removal New new)) o p
-    → MatchResult r (λ _. OnSpots (Does (removal Old old)) p q) (λ _. OnSpots (Stumbles (removal Old old)) p q)
-    → MatchResult r (λ _. OnSpots (Does (recovery target new old)) o q) (λ _. OnSpots (Stumbles (recovery target new old)) o q)
+    → MakesCalls (removal Old old) p q r → MakesCalls (recovery target new old) o q r
 sweep_ends (Ok x) target new old o p q some first then =
     subst (λ (calls : List Call). OnSpots (Does calls) o q) (sym (sweep target new old some))
     (on_both (Does (removal New new)) (Does (removal Old old)) (Does (removal New new ++ removal Old old)) o p q (does_then (removal New new) (removal Old old)) first then)
@@ -264,7 +263,7 @@ back_stops target new old o k m absent there kept stops =
 
 pub back_ends : {A E : Type 0} (r : Result A E) (target new old : Bool) (o p q : Option Spots) → target ≡ false → new ≡ true → old ≡ true
     → OnSpots (λ s left. left ≡ after_call s (Rename Old Target)) o p → Leaves (Remove New) p q r
-    → MatchResult r (λ _. OnSpots (Does (recovery target new old)) o q) (λ _. OnSpots (Stumbles (recovery target new old)) o q)
+    → MakesCalls (recovery target new old) o q r
 back_ends (Ok x) target new old o p q absent there kept moved leaves =
     subst (λ (calls : List Call). OnSpots (Does calls) o q) (sym (put_back target new old absent there kept))
     (on_both (λ s left. left ≡ after_call s (Rename Old Target)) (λ s left. left ≡ after_call s (Remove New)) (Does (Rename Old Target ∷ Remove New ∷ [])) o p q
@@ -280,7 +279,7 @@ looks_at target new old None first second third = tt
 looks_at target new old (Some s) first second third = (first, second, third)
 
 pub by_sight : {A E : Type 0} (r : Result A E) (target new old : Bool) (o p : Option Spots) → IfSome o (Looks target new old)
-    → MatchResult r (λ _. OnSpots (Does (recovery target new old)) o p) (λ _. OnSpots (Stumbles (recovery target new old)) o p) → Recovers o p r
+    → MakesCalls (recovery target new old) o p r → Recovers o p r
 by_sight (Ok x) target new old None p looks done = done
 by_sight (Ok x) target new old (Some s) p looks (t, is, does) = (t, is, (target, new, old, looks, does))
 by_sight (Err e) target new old None p looks done = done

@@ -1,11 +1,16 @@
 -- What calls on the spots of a swap leave, and what replacing and recovery leave.
 --     Leaves call old new r           what a single call leaves, where the spots are known
 --     Counts old new r                the count of failures grows by one at a failure, and only there
+--     HasReplaced tree old new        the new tree lies at the target, where the spots are known
 --     Replaces tree old new r         what replacing leaves
 --     MovesIn old new r               what it leaves where what lies at the new spot is put in place
+--     MakesCalls calls old new r      these calls were made, or one of them failed
 --     Recovers old new r              what recovery leaves
 --     IsInSwap original tree s        where a replacement of the original by the tree may stand, stopped or ended
+--     SettlesSwap original tree s left        what stood somewhere in a replacement is settled
 --     AtEachMoment Says old before after      what a stop may have left since then, where the spots are known
+--     LeavesSettled tree start before after old new     recovery settles what a stop in a replacement may have left
+--     LeavesInSwap tree start before after old passed more    and leaves it, at each moment, somewhere in the replacement
 use Rattle.std.specs.Prelude.{◌≡◌, ◌≢◌, ◌⊎◌, ℕ, ◌+◌, ◌<◌, ◌≤◌, Bool, true, false, List, [], ◌∷◌, ◌++◌, Option, Some, None, IfSome, Result, MatchResult}
 use Rattle.std.specs.List.{AllByRecursion}
 use Rattle.ts_model.specs.Trees.{Listing}
@@ -84,8 +89,12 @@ IsSetAside had s left = (left ≡ record { target = []; new = s.new; old = s.tar
 abbrev pub IsPut : Spots → Spots → Type 0
 IsPut s left = left ≡ record { target = s.new; new = []; old = s.old }
 
+-- whatever lay there before
+abbrev pub HasReplaced : Listing (List ℕ) → Option Spots → Option Spots → Type 0
+HasReplaced tree old new = OnSpots (λ _ left. IsReplaced tree left) old new
+
 abbrev pub Replaces : {A E : Type 0} → Listing (List ℕ) → Option Spots → Option Spots → Result A E → Type 0
-Replaces tree old new r = MatchResult r (λ _. OnSpots (λ s left. IsReplaced tree left) old new) (λ _. OnSpots (λ s left. IsOriginal s left ⊎ IsAside tree s left) old new)
+Replaces tree old new r = MatchResult r (λ _. HasReplaced tree old new) (λ _. OnSpots (λ s left. IsOriginal s left ⊎ IsAside tree s left) old new)
 
 -- the same of what lies at the new spot, in place of a tree
 abbrev pub MovesIn : {A E : Type 0} → Option Spots → Option Spots → Result A E → Type 0
@@ -113,6 +122,10 @@ Does calls s left = left ≡ after_calls s calls
 abbrev pub Stumbles : List Call → Spots → Spots → Type 0
 Stumbles [] s left = left ≡ s
 Stumbles (call ∷ calls) s left = MayFail s call left ⊎ Stumbles calls (after_call s call) left
+
+-- all of these calls were made; or one of them failed, after those before it were made
+abbrev pub MakesCalls : {A E : Type 0} → List Call → Option Spots → Option Spots → Result A E → Type 0
+MakesCalls calls old new r = MatchResult r (λ _. OnSpots (Does calls) old new) (λ _. OnSpots (Stumbles calls) old new)
 
 -- what recovery does, it does by what lies where
 abbrev pub BySight : (List Call → Spots → Spots → Type 0) → Spots → Spots → Type 0
@@ -146,6 +159,10 @@ StaysInSwap original tree s left = IsInSwap original tree s → IsInSwap origina
 abbrev pub IsSettled : Listing (List ℕ) → Listing (List ℕ) → Spots → Type 0
 IsSettled original tree s = ((s.target ≡ original) ⊎ (s.target ≡ tree)) × (s.new ≡ []) × (s.old ≡ [])
 
+-- what stood somewhere in the replacement is settled
+abbrev pub SettlesSwap : Listing (List ℕ) → Listing (List ℕ) → Spots → Spots → Type 0
+SettlesSwap original tree s left = IsInSwap original tree s → IsSettled original tree left
+
 -- ---- stops
 
 -- the moments until then, and others after them, of each of which this is said
@@ -172,3 +189,13 @@ IsStopped tree s left = IsInSwap s.target tree left × (IsBetween s.target left 
 -- a stop may have left this: what lay there at the start, or what lay there at a moment since then
 abbrev pub MayHaveLeft : Spots → List Spots → List Spots → Spots → Type 0
 MayHaveLeft start before after s = (s ≡ start) ⊎ ((earlier later : List Spots) × (after ≡ before ++ (earlier ++ s ∷ later)))
+
+-- where the spots that a replacement by the tree began at are known, recovery settles what a stop since then may have left
+abbrev pub LeavesSettled : Listing (List ℕ) → Option Spots → List Spots → List Spots → Option Spots → Option Spots → Type 0
+LeavesSettled tree start before after old new =
+    IfSome start (λ s. OnSpots (λ found left. MayHaveLeft s before after found → IsSettled s.target tree left) old new)
+
+-- and at each moment it leaves it somewhere in the replacement
+abbrev pub LeavesInSwap : Listing (List ℕ) → Option Spots → List Spots → List Spots → Option Spots → List Spots → List Spots → Type 0
+LeavesInSwap tree start before after old passed more =
+    IfSome start (λ s. AtEachMoment (λ found left. MayHaveLeft s before after found → IsInSwap s.target tree left) old passed more)

@@ -4,8 +4,8 @@ ghost use Rattle.ts_model.specs.Swap.{recovery, with_spot};
 ghost use Rattle.ts_model.specs.Swap as model;
 ghost use Rattle.ts_model.specs.Trees.{IsSubListing};
 ghost use Rattle.ts_model.specs.declared.row.Row.{Row};
-ghost use Rattle.ts_swap.specs.Leavings.{AtEachMoment, Does, FailedAtMostOnce, Grows, HasFailed, IsBack, IsDuring, IsInSwap, IsPut, IsReplaced, IsStopped, MayHaveLeft, MovesIn};
-ghost use Rattle.ts_swap.specs.Leavings.{IsSetAside, IsSettled, KeepsOthers, Looks, OnSpots, Recovers, Replaces, Stumbles, Tells, KeepsOriginal, StaysInSwap, removal, spot_of};
+ghost use Rattle.ts_swap.specs.Leavings.{AtEachMoment, FailedAtMostOnce, Grows, HasFailed, HasReplaced, IsBack, IsDuring, IsInSwap, IsPut, IsSetAside, IsStopped, LeavesInSwap};
+ghost use Rattle.ts_swap.specs.Leavings.{KeepsOriginal, KeepsOthers, LeavesSettled, Looks, MakesCalls, MovesIn, OnSpots, Recovers, Replaces, SettlesSwap, StaysInSwap, Tells, removal, spot_of};
 ghost use Rattle.ts_swap.specs.declared.places.Spot.{Spot};
 ghost use Rattle.ts_swap.specs.declared.places.Spot.TheVariants as spot;
 
@@ -155,7 +155,7 @@ pub fn recover<P: Places>(places: &mut P) -> Result<(), Failed>
     ensures fault { IsErr result → ((at : Spot) × P.hides places.old at) ⊎ HasFailed (P.failures places.old) (P.failures places.new) }
     ensures recovered { Recovers (P.spots places.old) (P.spots places.new) result }
     ensures settled { IsOk result → (original tree : List (Row (List ℕ)))
-        → OnSpots (λ s left. IsInSwap original tree s → IsSettled original tree left) (P.spots places.old) (P.spots places.new) }
+        → OnSpots (SettlesSwap original tree) (P.spots places.old) (P.spots places.new) }
     ensures again { (original tree : List (Row (List ℕ))) → OnSpots (StaysInSwap original tree) (P.spots places.old) (P.spots places.new) }
     ensures stops { (original tree : List (Row (List ℕ))) → AtEachMoment (StaysInSwap original tree) (P.spots places.old) (P.moments places.old) (P.moments places.new) }
 {
@@ -178,14 +178,12 @@ pub fn recover_stopped<P: Places, Q: Places>(
     requires new { IfSome (P.spots places.old) (λ s. s.new ≡ []) }
     requires old { IfSome (P.spots places.old) (λ s. s.old ≡ []) }
     ensures fault { IsErr result → ((at : Spot) × Q.hides stopped.old at) ⊎ HasFailed (Q.failures stopped.old) (Q.failures stopped.new) }
-    ensures replaced { OnSpots (λ _ left. IsReplaced tree.now left) (P.spots places.old) (P.spots places.new)
+    ensures replaced { HasReplaced tree.now (P.spots places.old) (P.spots places.new)
         ⊎ ((P.hides places.old spot.Target) ⊎ HasFailed (P.failures places.old) (P.failures places.new)) }
-    ensures settled { IsOk result → IfSome (P.spots places.old)
-        (λ s. OnSpots (λ found left. MayHaveLeft s (P.moments places.old) (P.moments places.new) found → IsSettled s.target tree.now left)
-        (Q.spots stopped.old) (Q.spots stopped.new)) }
-    ensures again { IfSome (P.spots places.old)
-        (λ s. AtEachMoment (λ found left. MayHaveLeft s (P.moments places.old) (P.moments places.new) found → IsInSwap s.target tree.now left)
-        (Q.spots stopped.old) (Q.moments stopped.old) (Q.moments stopped.new)) }
+    ensures settled { IsOk result → LeavesSettled tree.now (P.spots places.old) (P.moments places.old) (P.moments places.new)
+        (Q.spots stopped.old) (Q.spots stopped.new) }
+    ensures again { LeavesInSwap tree.now (P.spots places.old) (P.moments places.old) (P.moments places.new)
+        (Q.spots stopped.old) (Q.moments stopped.old) (Q.moments stopped.new) }
 {
     let _ = replace(places, tree);
     recover(stopped)
@@ -195,8 +193,7 @@ pub fn recover_stopped<P: Places, Q: Places>(
 fn tidy<P: Places>(places: &mut P, target: bool, new: bool, old: bool) -> Result<(), Failed>
     requires { IfSome (P.spots places.old) (Looks target new old) }
     ensures counted { MatchResult result (λ _. P.failures places.new ≡ P.failures places.old) (λ _. HasFailed (P.failures places.old) (P.failures places.new)) }
-    ensures done { MatchResult result (λ _. OnSpots (Does (recovery target new old)) (P.spots places.old) (P.spots places.new))
-        (λ _. OnSpots (Stumbles (recovery target new old)) (P.spots places.old) (P.spots places.new)) }
+    ensures done { MakesCalls (recovery target new old) (P.spots places.old) (P.spots places.new) result }
     ensures stops { AtEachMoment (IsDuring (recovery target new old)) (P.spots places.old) (P.moments places.old) (P.moments places.new) }
 {
     if !target && new && old {
@@ -210,8 +207,7 @@ fn tidy<P: Places>(places: &mut P, target: bool, new: bool, old: bool) -> Result
 /// Clears a spot, if something lies there.
 fn clear_if<P: Places>(places: &mut P, spot: Spot, there: bool) -> Result<(), Failed>
     ensures counted { MatchResult result (λ _. P.failures places.new ≡ P.failures places.old) (λ _. HasFailed (P.failures places.old) (P.failures places.new)) }
-    ensures done { MatchResult result (λ _. OnSpots (Does (removal (spot_of spot) there)) (P.spots places.old) (P.spots places.new))
-        (λ _. OnSpots (Stumbles (removal (spot_of spot) there)) (P.spots places.old) (P.spots places.new)) }
+    ensures done { MakesCalls (removal (spot_of spot) there) (P.spots places.old) (P.spots places.new) result }
     ensures stops { AtEachMoment (IsDuring (removal (spot_of spot) there)) (P.spots places.old) (P.moments places.old) (P.moments places.new) }
 {
     if there { places.remove(spot) } else { Ok(()) }
