@@ -4,9 +4,8 @@ ghost use Rattle.std.specs.Prelude.{◌≡◌, ◌≢◌, ◌⊎◌, ◌↔◌, 
 ghost use Rattle.ts_model.specs.Holds.{Names};
 ghost use Rattle.ts_model.specs.Trees.{Listing};
 ghost use Rattle.ts_model.specs.declared.row.Row.{Row};
-ghost use Rattle.ts_name.specs.Paths.{IsAbove, Path};
-ghost use Rattle.ts_need.specs.Merges.{AreFoundUpto};
-ghost use Rattle.ts_print.specs.Walks.{HasNoneFrom, IsLeft, IsPresent, IsThere, left_count};
+ghost use Rattle.ts_need.specs.Merges.{AreGathered, HasSeen};
+ghost use Rattle.ts_print.specs.Walks.{HasNoneFrom, left_count};
 
 use ts_hold::Holds;
 use ts_model::row::Stamp;
@@ -59,9 +58,8 @@ impl Differences {
 
 /// The differences at the path that a walk has come to and below it. After it the walk has passed all that is below.
 pub fn gather(walk: &mut Triples<'_>, seen: &Triple<'_>, holds: &Holds) -> Differences
-    ensures found { (A F S : Listing Stamp) → IsLeft A F S seen.now.path.now walk.old → IsThere A F S seen.now.path.now seen.now.archive seen.now.first seen.now.second
-        → IsPresent A F S seen.now.path.now
-        → (b : Path) × IsLeft A F S b walk.new × IsAbove seen.now.path.now b × AreFoundUpto A F S holds.now seen.now.path.now b result }
+    ensures found { (A F S : Listing Stamp) → HasSeen A F S seen.now walk.old
+        → AreGathered A F S holds.now seen.now.path.now walk.new result }
     ensures passed { HasNoneFrom seen.now.path.now walk.new }
     ensures shorter { left_count walk.new ≤ left_count walk.old }
 {

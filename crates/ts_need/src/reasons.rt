@@ -2,13 +2,13 @@
 
 ghost use Rattle.std.specs.Option.{option_copied};
 ghost use Rattle.std.specs.Prelude.{◌≡◌, ◌↔◌, ◌≤◌, ◌&&◌, ◌||◌, IsTrue, Some, None, cond, not};
-ghost use Rattle.ts_model.specs.Trees.{IsListing, Listing};
+ghost use Rattle.ts_model.specs.Trees.{Listing};
 ghost use Rattle.ts_model.specs.declared.row.Content.TheVariants.{Dir};
 ghost use Rattle.ts_model.specs.declared.row.Stamp.{Stamp};
 ghost use Rattle.ts_name.specs.Paths.{Path};
-ghost use Rattle.ts_need.specs.Merges.{IsAboveIn, IsAt, IsReasoned};
+ghost use Rattle.ts_need.specs.Merges.{HasComeTo, HasReasoned, IsAboveIn};
 ghost use Rattle.ts_need.specs.Needs.{edge_reason};
-ghost use Rattle.ts_print.specs.Walks.{IsWalkStep, Left, left_count};
+ghost use Rattle.ts_print.specs.Walks.{left_count};
 
 use crate::differences::{Differences, gather};
 use ts_hold::Holds;
@@ -106,10 +106,8 @@ pub fn find_reason<'a>(
     holder: Option<&'a Path>,
     holds: &Holds,
 ) -> Reasoned<'a>
-    ensures found { (A F S : Listing Stamp) (b : Path) (old : Left) → IsListing A → IsListing F → IsListing S
-        → IsAt A F S holds.now b old (option_copied holder.entry) → IsWalkStep seen.now.path.now seen.now.archive seen.now.first seen.now.second old walk.old
-        → (after : Path) × IsAt A F S holds.now after walk.new (option_copied result.holder)
-        × IsReasoned A F S holds.now b seen.now.path.now after result.reason }
+    ensures found { (A F S : Listing Stamp) (b : Path) → HasComeTo A F S holds.now b holder.entry seen.now walk.old
+        → HasReasoned A F S holds.now b seen.now walk.new result }
     ensures shorter { left_count walk.new ≤ left_count walk.old }
 {
     let is_below_holder = is_below(holder, seen.path);

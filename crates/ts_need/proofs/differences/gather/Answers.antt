@@ -6,21 +6,22 @@ use Rattle.ts_need.proofs.differences.gather.Goals as goal
 
 pub loop-next-init : goal.loop-next-init
 loop-next-init c = (
-  λ A F S left there present.
+  λ A F S here.
       let none : AreNone c.none.result = record { first = c.none.ensures.first; second = c.none.ensures.second; apart = c.none.ensures.apart; named = c.none.ensures.named } in
       let add : Add c.args.holds.now c.args.seen.now.path.now c.args.seen.now.archive c.args.seen.now.first c.args.seen.now.second c.none.result c.with-found.result = record { first = c.with-found.ensures.first; second = c.with-found.ensures.second; apart = c.with-found.ensures.apart; named = c.with-found.ensures.named } in (
         c.args.seen.now.path.now,
-        left,
+        here.is_left,
         above_itself c.args.seen.now.path.now,
-        found_begins A F S c.args.holds.now c.args.seen.now.path.now c.args.seen.now.archive c.args.seen.now.first c.args.seen.now.second c.none.result c.with-found.result there present none add,
+        found_begins A F S c.args.holds.now c.args.seen.now.path.now c.args.seen.now.archive c.args.seen.now.first c.args.seen.now.second c.none.result
+            c.with-found.result here.there here.present none add,
       ),
   omega arith,
 )
 
 pub loop-next-preserved : goal.loop-next-preserved
 loop-next-preserved c = (
-  λ A F S left there present.
-      let so_far = c.loop-next.invariant.0 A F S left there present in
+  λ A F S here.
+      let so_far = c.loop-next.invariant.0 A F S here in
       let q = c.in-Some.next.path.now in
       let add : Add c.args.holds.now c.in-Some.next.path.now c.in-Some.next.archive c.in-Some.next.first c.in-Some.next.second c.loop-next.found c.with-found-in-Some.result = record { first = c.with-found-in-Some.ensures.first; second = c.with-found-in-Some.ensures.second; apart = c.with-found-in-Some.ensures.apart; named = c.with-found-in-Some.ensures.named } in (
         q,

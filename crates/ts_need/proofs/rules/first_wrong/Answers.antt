@@ -23,7 +23,8 @@ returns-in-Wrong-clause-answer c =
     let rules = c.args.holds.now in
     let lists = c.walk3-walk.ensures.listings in
     let (b, here, checked) = c.loop-next.invariant in
-    let found = c.find_reason-reasoned.ensures.found A F S b c.loop-next.walk lists.0 lists.1 lists.2 here c.in-Some.ensures.steps in
+    let found = c.find_reason-reasoned.ensures.found A F S b
+    (record { archive = lists.0; first = lists.1; second = lists.2; before = c.loop-next.walk; behind = here; step = c.in-Some.ensures.steps }) in
     let less = step_forward A F S b c.in-Some.seen.path.now _ _ _ c.loop-next.walk c.next.new.self here.is_left c.in-Some.ensures.steps in
     let wrong = c.in-Wrong.ensures in
     answer_wrong (listed_snapshot A F S rules) c.args.entries.now c.broken.result c.loop-next.next c.broken.ensures
@@ -37,7 +38,8 @@ loop-next-preserved-in-Right c =
     let rules = c.args.holds.now in
     let lists = c.walk3-walk.ensures.listings in
     let (b, here, checked) = c.loop-next.invariant in
-    let found = c.find_reason-reasoned.ensures.found A F S b c.loop-next.walk lists.0 lists.1 lists.2 here c.in-Some.ensures.steps in
+    let found = c.find_reason-reasoned.ensures.found A F S b
+    (record { archive = lists.0; first = lists.1; second = lists.2; before = c.loop-next.walk; behind = here; step = c.in-Some.ensures.steps }) in
     let less = step_forward A F S b c.in-Some.seen.path.now _ _ _ c.loop-next.walk c.next.new.self here.is_left c.in-Some.ensures.steps in
     let right = c.in-Right.ensures in
     (found.0, found.1, right_next A F S rules lists.0 lists.1 lists.2 c.args.entries.now c.requires b c.in-Some.seen.path.now found.0 c.find_reason-reasoned.result.reason c.loop-next.next c.loop-next.lacking checked less found.2 (c.loop-next.next + 1) right.0 refl right.1 right.2 right.3)
@@ -50,7 +52,8 @@ loop-next-preserved-in-Lacking c =
     let rules = c.args.holds.now in
     let lists = c.walk3-walk.ensures.listings in
     let (b, here, checked) = c.loop-next.invariant in
-    let found = c.find_reason-reasoned.ensures.found A F S b c.loop-next.walk lists.0 lists.1 lists.2 here c.in-Some.ensures.steps in
+    let found = c.find_reason-reasoned.ensures.found A F S b
+    (record { archive = lists.0; first = lists.1; second = lists.2; before = c.loop-next.walk; behind = here; step = c.in-Some.ensures.steps }) in
     let less = step_forward A F S b c.in-Some.seen.path.now _ _ _ c.loop-next.walk c.next.new.self here.is_left c.in-Some.ensures.steps in
     let lacks = c.in-Lacking.ensures in
     (found.0, found.1, lacks_next A F S rules lists.0 lists.1 lists.2 c.args.entries.now c.requires b c.in-Some.seen.path.now found.0 c.find_reason-reasoned.result.reason c.loop-next.next c.loop-next.lacking checked less found.2 c.or-lacking.result lacks.1 c.or-lacking.ensures lacks.0 lacks.2)
@@ -63,7 +66,8 @@ loop-next-preserved c =
     let rules = c.args.holds.now in
     let lists = c.walk3-walk.ensures.listings in
     let (b, here, checked) = c.loop-next.invariant in
-    let found = c.find_reason-reasoned.ensures.found A F S b c.loop-next.walk lists.0 lists.1 lists.2 here c.in-Some.ensures.steps in
+    let found = c.find_reason-reasoned.ensures.found A F S b
+    (record { archive = lists.0; first = lists.1; second = lists.2; before = c.loop-next.walk; behind = here; step = c.in-Some.ensures.steps }) in
     let less = step_forward A F S b c.in-Some.seen.path.now _ _ _ c.loop-next.walk c.next.new.self here.is_left c.in-Some.ensures.steps in
     (found.0, found.1, none_next A F S rules lists.0 lists.1 lists.2 c.args.entries.now c.requires b c.in-Some.seen.path.now found.0 c.find_reason-reasoned.result.reason c.loop-next.next c.loop-next.lacking checked less found.2 c.in-Nothing.ensures.1)
 
