@@ -2,6 +2,8 @@
 --     about job what end      a file or a folder that a command names, and what is said of it
 --     because job what text hint cause   what is said of it, and why; where that is unknown, the hint in its place
 --     pending_text job what   what is said of a replica in which a stopped run isn't brought to its end yet
+--     unread_text job what path refusal cause   what is said of a path that can't be read, and why
+--     unscanned_text job what path refusal      what is said of a path that can't be scanned, where the system doesn't say why
 --     sentence_of job fault   what is said of a fault of a command
 use Rattle.std.specs.Prelude.{ℕ, Bool, true, false, if◌then◌else◌, List, [], ◌∷◌, codes, decimal, nat_lt}
 use Rattle.ts_name.specs.Paths.{Path, path_text}
@@ -109,14 +111,21 @@ offer_text subject.Folder can_be_held = []
 offer_text other true = codes " It can be left alone with --hold-special."
 offer_text other false = []
 
+-- of a path that can't be read, and why
+abbrev pub unread_text : Job → Subject → Path → Refusal → Cause → List ℕ
+unread_text job what path refusal cause = said (noun what ∷ shown 0 (name_in job what) ∷ shown 0 (path_text path)
+    ∷ codes " can't be read" ∷ reason_text [] cause ∷ offer_text what (can_be_held refusal cause) ∷ [])
+
+-- of a path that can't be scanned, where the system doesn't say why
+abbrev pub unscanned_text : Job → Subject → Path → Refusal → List ℕ
+unscanned_text job what path refusal = said (noun what ∷ shown 0 (name_in job what) ∷ shown 0 (path_text path)
+    ∷ refusal_text what refusal (is_root path) ∷ [])
+
 -- where the system says why, that is said
 abbrev pub scan_text : Job → Subject → ScanFault → Cause → List ℕ
 scan_text job what scan.OutOfMemory cause = memory_text
 scan_text job what (scan.At path refusal) cause =
-    if is_known cause
-    then said (noun what ∷ shown 0 (name_in job what) ∷ shown 0 (path_text path) ∷ codes " can't be read" ∷ reason_text [] cause
-    ∷ offer_text what (can_be_held refusal cause) ∷ [])
-    else said (noun what ∷ shown 0 (name_in job what) ∷ shown 0 (path_text path) ∷ refusal_text what refusal (is_root path) ∷ [])
+    if is_known cause then unread_text job what path refusal cause else unscanned_text job what path refusal
 
 abbrev pub sentence_of : Job → PerformFault → List ℕ
 sentence_of job fault.OutOfMemory = memory_text

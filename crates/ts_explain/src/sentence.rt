@@ -1,11 +1,8 @@
 //! What a fault means, in a sentence that names what it is about.
-ghost use Rattle.std.specs.Prelude.{◌≡◌, ◌∷◌, ◌++◌, [], OnOk, codes};
-ghost use Rattle.ts_explain.specs.Pieces.{reason_text, said};
-ghost use Rattle.ts_name.specs.Paths.{path_text};
-ghost use Rattle.ts_preview.specs.Names.{shown};
-ghost use Rattle.ts_explain.specs.Sentences.{about, bad_line_text, bad_rule_text, because, broken_text, can_be_held, is_root};
-ghost use Rattle.ts_explain.specs.Sentences.{missing_text, new_text, offer_text, pending_text, refusal_text, scan_text, sentence_of, too_deep_text, unreadable_text};
-ghost use Rattle.ts_explain.specs.Subjects.{name_in, noun, why_cause, why_hint, why_text};
+ghost use Rattle.std.specs.Prelude.{◌≡◌, ◌++◌, OnOk};
+ghost use Rattle.ts_explain.specs.Sentences.{about, bad_line_text, bad_rule_text, because, broken_text, can_be_held};
+ghost use Rattle.ts_explain.specs.Sentences.{missing_text, new_text, offer_text, pending_text, refusal_text, scan_text, sentence_of, too_deep_text, unread_text, unreadable_text, unscanned_text};
+ghost use Rattle.ts_explain.specs.Subjects.{why_cause, why_hint, why_text};
 
 use crate::fault::PerformFault;
 use crate::pieces::{Piece, push_pieces};
@@ -275,8 +272,7 @@ fn push_unread<'x>(
     cause: Cause,
     line: &mut Vec<u8>,
 ) -> Result<(), AllocError>
-    ensures { OnOk result (line.new.items ≡ line.old.items ++ said (noun what ∷ shown 0 (name_in job.now what) ∷ shown 0 (path_text path.now)
-        ∷ codes " can't be read" ∷ reason_text [] cause ∷ offer_text what (can_be_held refusal cause) ∷ [])) }
+    ensures { OnOk result (line.new.items ≡ line.old.items ++ unread_text job.now what path.now refusal cause) }
 {
     let pieces = [
         Piece::Words(what.noun()),
@@ -319,8 +315,7 @@ fn push_refusal<'x>(
     refusal: Refusal,
     line: &mut Vec<u8>,
 ) -> Result<(), AllocError>
-    ensures { OnOk result (line.new.items ≡ line.old.items ++ said (noun what ∷ shown 0 (name_in job.now what) ∷ shown 0 (path_text path.now)
-        ∷ refusal_text what refusal (is_root path.now) ∷ [])) }
+    ensures { OnOk result (line.new.items ≡ line.old.items ++ unscanned_text job.now what path.now refusal) }
 {
     let pieces = [
         Piece::Words(what.noun()),
