@@ -5,7 +5,7 @@ ghost use Rattle.ts_check.specs.Places.{IsFirst, Never};
 ghost use Rattle.ts_check.specs.Verdict.{HoldBelow, IsSafe, IsTold};
 ghost use Rattle.ts_check.specs.Waiting.{HasBadPreds};
 ghost use Rattle.ts_check.specs.declared.fault.CheckFault.TheVariants.{Broken};
-ghost use Rattle.ts_model.specs.Plans.{Valid, action_limit, entry_limit, pred_limit};
+ghost use Rattle.ts_model.specs.Plans.{Valid, WithinLimits, action_limit, entry_limit, pred_limit};
 ghost use Rattle.ts_model.specs.Sync.{listed_snapshot};
 ghost use Rattle.ts_model.specs.Trees.{IsListing};
 ghost use Rattle.ts_need.specs.Needs.{AreListings, snapshot_of};
@@ -212,8 +212,7 @@ fn check_entries(
             ensures told { IfErr result (IsTold (listed_snapshot archive.entry.now first.entry.now second.entry.now holds.entry.now) plan.entry.now) }
         { check_reasons(alloc, plan, archive, first, second, holds) },
         || -> Result<Looked, AllocError>
-            requires { (length plan.now.entries ≤ entry_limit) × (length plan.now.actions ≤ action_limit) × (sum_by (λ a. length a.preds) plan.now.actions ≤ pred_limit)
-                × Never (HasBadPreds plan.now) × IsListing first_rows.now × IsListing second_rows.now }
+            requires { WithinLimits plan.now × Never (HasBadPreds plan.now) × IsListing first_rows.now × IsListing second_rows.now }
         { look(rt, alloc, plan, first_rows, second_rows) },
     );
     match reasons {
