@@ -18,7 +18,7 @@ a stored proof, the edit says little of the contract and gets none.
 
 Every edit has to apply, every name has to have an edit, and so has every line of the record. The ten are chosen by the
 commit. Libraries that aren't built, or that are older than their sources, are built first. The gate tries the named edits and
-the ten first, and begins no other once it has tried edits for 30 minutes, or two hours after it began itself: those that it
+the ten first, and begins no other once it has tried edits for 30 minutes, or 75 minutes after it began itself: those that it
 doesn't come to it lists, and counts neither as passed nor as failed.
 """
 import copy
@@ -47,9 +47,10 @@ from statements import statements_of, unfolded_names
 SAMPLE = 10
 FROM_A_CRATE = 5
 # For how many seconds the gate begins edits that have no record, and up to how many seconds after it began itself, as .ci/run says
-# by GATE_BEGAN. It has three hours on two processors for all that it does.
+# by GATE_BEGAN: where all is proved from nothing, which takes most of that, it leaves them to later runs. It has three hours on two
+# processors for all that it does.
 MOST_SECONDS = 30 * 60
-LAST_SECOND = 120 * 60
+LAST_SECOND = 75 * 60
 # A crate's edits are tried over what a check of it without any proved; where there are more, in several lanes.
 MOST_IN_A_LANE = 24
 NAME = re.compile(r"[A-Za-z0-9_-][A-Za-z0-9_.-]*\.edit")
