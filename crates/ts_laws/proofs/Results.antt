@@ -1,17 +1,18 @@
 -- What `trial` answers for a bundle is one: a plan breaks one rule at one place at most, and there is one result at most.
 use Rattle.std.proofs.Common.{◌≡◌, ◌≢◌, ◌⊎◌, ℕ, List, [], ◌∷◌, ◌++◌, codes, decimal, refl, sym, ap, ap₂, ◌∙◌, subst, inl, inr}
 use Rattle.ts_name.specs.Paths.{Path}
-use Rattle.ts_model.specs.Trees.{Listing, Tree, Print, at, print_of, AreApart}
+use Rattle.ts_model.specs.Trees.{Listing, Tree, Print, at}
 use Rattle.ts_model.specs.declared.hold.Rule.{Rule}
 use Rattle.ts_model.specs.Sync.{Snapshot, HasReason, IsSkipped}
 use Rattle.ts_model.specs.Plans.{rule_number}
 use Rattle.ts_model.specs.declared.plan.PlanRule.{PlanRule}
-use Rattle.ts_model.specs.Headline.{FinalArchive, Meets, HasOnePair}
+use Rattle.ts_model.specs.Headline.{FinalArchive}
 use Rattle.ts_model.specs.Texts.{Bundle, IsBundle, text, words}
 use Rattle.ts_model.specs.Trial.{snapshot_of, result_lines, IsRefused, IsResult}
 use Rattle.ts_model.specs.Trees.{IsListing}
 use Rattle.ts_model.specs.declared.row.Stamp.{Stamp}
 use Rattle.ts_model.specs.declared.plan.Reason.{Reason}
+use Rattle.ts_laws.specs.Laws.{OnePairOfListings, snapshot_at}
 use Rattle.ts_laws.proofs.Basics.{Start, IsTree-print, stable}
 use Rattle.ts_name.proofs.Basics.{by_each, at_each}
 use Rattle.ts_laws.proofs.Listings.{IsTree-from_listing}
@@ -23,11 +24,7 @@ use Rattle.ts_model.proofs.Deciding.{same_stamp_at}
 
 -- ---- listings make a lawful snapshot
 
--- the snapshot of a listed archive and two listed replicas
-abbrev pub snapshot_at : Listing Stamp → Listing (List ℕ) → Listing (List ℕ) → List Rule → Snapshot
-snapshot_at archive first second rules = record { archive = at archive; first = print_of (at first); second = print_of (at second); rules = rules }
-
--- it is lawful
+-- the snapshot of a listed archive and two listed replicas is lawful
 pub Start-from_listings : (archive : Listing Stamp) (first second : Listing (List ℕ)) (rules : List Rule) → IsListing archive → IsListing first → IsListing second
     → Start (snapshot_at archive first second rules) (at first) (at second)
 Start-from_listings archive first second rules is_archive is_first is_second =
@@ -42,8 +39,7 @@ Start-from_listings archive first second rules is_archive is_first is_second =
     }
 
 -- so they ask for one pair
-pub one_pair_of_listings : (archive : Listing Stamp) (first second : Listing (List ℕ)) (rules : List Rule) → IsListing archive → IsListing first → IsListing second
-    → AreApart (Meets (at first) (at second) []) → HasOnePair (snapshot_at archive first second rules) (at first) (at second)
+pub one_pair_of_listings : (archive : Listing Stamp) (first second : Listing (List ℕ)) (rules : List Rule) → OnePairOfListings archive first second rules
 one_pair_of_listings archive first second rules is_archive is_first is_second apart =
     one_pair (snapshot_at archive first second rules) (at first) (at second) (Start-from_listings archive first second rules is_archive is_first is_second) apart
 

@@ -1,4 +1,6 @@
 -- The laws that ts_model's definitions don't name themselves.
+--     snapshot_at A F S rules          what a listed archive, listed replicas and hold rules are
+--     OnePairOfListings A F S rules    what the requirements ask of them exists, once
 --     IsReasonDecided s p              whether a path has a reason, and which
 --     EntriesAreReasons s plan         the entries are the paths with a reason, with that reason, each once
 --     DirsAreParents plan              the nearest new directory above an entry is at its parent
@@ -10,13 +12,15 @@
 use Rattle.std.specs.Prelude.{◌≡◌, ◌≢◌, ◌⊎◌, ◌↔◌, ℕ, Bool, not, List, [], ◌∷◌, ◌++◌, length, take, drop, count_by, Contains}
 use Rattle.std.specs.List.{list_any}
 use Rattle.ts_name.specs.Paths.{Name, Path}
-use Rattle.ts_model.specs.Trees.{Tree, listed, sub, print_of, HasContent, AreApart, IsSubListing}
+use Rattle.ts_model.specs.Trees.{Tree, Listing, at, listed, sub, print_of, HasContent, AreApart, IsListing, IsSubListing}
 use Rattle.ts_model.specs.Sync.{Snapshot, IsSnapshot, AreReplicas, replica, TouchesHeld, IsDirty, HasReason, Synced}
 use Rattle.ts_model.specs.Plans.{EntryIs, ActionIs, KindIs, Copies, NearestDir, Wrong, Broken, Valid}
 use Rattle.ts_model.specs.Runs.{Run, Has, HasNot, claims, finishes, fails, releases, IsPieceOf, open_count, Legal, after, start}
-use Rattle.ts_model.specs.Headline.{AllDone, FinalArchive, Meets, Premises}
+use Rattle.ts_model.specs.Headline.{AllDone, FinalArchive, HasOnePair, Meets, Premises}
 use Rattle.ts_model.specs.Resume.{IsClosedPart, archive_of_part, stopped}
 use Rattle.ts_model.specs.declared.row.Content.TheVariants.{File}
+use Rattle.ts_model.specs.declared.hold.Rule.{Rule}
+use Rattle.ts_model.specs.declared.row.Stamp.{Stamp}
 use Rattle.ts_model.specs.declared.plan.Side.{Side}
 use Rattle.ts_model.specs.declared.plan.Side.TheVariants as side
 use Rattle.ts_model.specs.declared.plan.Reason.{Reason}
@@ -29,6 +33,14 @@ use Rattle.ts_model.specs.declared.plan.PlanRule.{PlanRule}
 use Rattle.ts_model.specs.declared.step.Work.{Work}
 use Rattle.ts_model.specs.declared.step.Work.TheVariants.{Staged, Put, Marked}
 use Rattle.ts_model.specs.declared.step.Step.TheVariants.{Act}
+
+abbrev pub snapshot_at : Listing Stamp → Listing (List ℕ) → Listing (List ℕ) → List Rule → Snapshot
+snapshot_at archive first second rules = record { archive = at archive; first = print_of (at first); second = print_of (at second); rules = rules }
+
+abbrev pub OnePairOfListings : Listing Stamp → Listing (List ℕ) → Listing (List ℕ) → List Rule → Type 0
+OnePairOfListings archive first second rules =
+    IsListing archive → IsListing first → IsListing second → AreApart (Meets (at first) (at second) [])
+    → HasOnePair (snapshot_at archive first second rules) (at first) (at second)
 
 -- ---- reasons
 

@@ -3,12 +3,12 @@
 ghost use Rattle.std.specs.Prelude.{◌≡◌, ℕ, List, []};
 ghost use Rattle.ts_laws.specs.Carried.{AreInPlace, IsCarriedOut, LeavesCarried};
 ghost use Rattle.ts_laws.specs.Laws.{ArePrinted, CanFinish, CountsOpen, DirsAreParents, DirtIsDifference, EndsAlike, EntriesAreReasons};
-ghost use Rattle.ts_laws.specs.Laws.{FindsPieces, IsDecided, IsReasonDecided, Keeps, ValidExample};
-ghost use Rattle.ts_model.specs.Headline.{ArchiveAgrees, Completes, FinalArchive, HasOnePair, Meets, NotStuck, OnePair, OriginalOrFinal};
+ghost use Rattle.ts_laws.specs.Laws.{FindsPieces, IsDecided, IsReasonDecided, Keeps, OnePairOfListings, ValidExample};
+ghost use Rattle.ts_model.specs.Headline.{ArchiveAgrees, Completes, FinalArchive, Meets, NotStuck, OnePair, OriginalOrFinal};
 ghost use Rattle.ts_model.specs.Plans.{Valid};
 ghost use Rattle.ts_model.specs.Resume.{ArchiveIsClosed, CanResume, CutsAreLegal};
 ghost use Rattle.ts_model.specs.Sync.{AreReplicas, HasReason, IsSnapshot, Snapshot};
-ghost use Rattle.ts_model.specs.Trees.{AreApart, IsListing, Listing, Print, Tree, at, print_of};
+ghost use Rattle.ts_model.specs.Trees.{AreApart, IsListing, Listing, Print, Tree, at};
 ghost use Rattle.ts_model.specs.declared.hold.Rule.{Rule};
 ghost use Rattle.ts_model.specs.declared.plan.Plan.{Plan};
 ghost use Rattle.ts_model.specs.declared.plan.PlanRule.TheVariants.{EntriesComplete, ReasonsHold};
@@ -105,9 +105,7 @@ pub fn one_pair()
 
 /// Listed replicas and a listed archive ask for one pair.
 pub fn one_pair_of_listings()
-    ensures { (archive : Listing Stamp) (first second : Listing (List ℕ)) (rules : List Rule) → IsListing archive → IsListing first → IsListing second
-        → AreApart (Meets (at first) (at second) [])
-        → HasOnePair (record { archive = at archive; first = print_of (at first); second = print_of (at second); rules = rules }) (at first) (at second) }
+    ensures { (archive : Listing Stamp) (first second : Listing (List ℕ)) (rules : List Rule) → OnePairOfListings archive first second rules }
 {}
 
 /// One archive is final.
