@@ -1,9 +1,7 @@
-ghost use Rattle.std.specs.Prelude.{◌≡◌, ◌<◌, ◌≤◌, IfOk, IfErr, List, OnOk, length};
+ghost use Rattle.std.specs.Prelude.{◌≡◌, ◌<◌, ◌≤◌, IfOk, IfErr, OnOk, length};
 ghost use Rattle.ts_model.specs.Plans.{Valid};
-ghost use Rattle.ts_model.specs.Sync.{listed_snapshot};
 ghost use Rattle.ts_model.specs.Texts.{IsPlan};
-ghost use Rattle.ts_model.specs.declared.hold.Rule.{Rule};
-ghost use Rattle.ts_recon.specs.Reasons.{AreReasons};
+ghost use Rattle.ts_recon.specs.Reasons.{AreReasons, ForEachSnapshotOf};
 ghost use Rattle.ts_model.specs.Plans.{action_limit, entry_limit};
 ghost use Rattle.ts_plan_build.specs.Built.{AreLeft, AreOrdered, IsBuilt, IsKept, IsNearest};
 ghost use Rattle.ts_plan_build.specs.Planned.{IsPastLimit, planned_actions};
@@ -40,10 +38,10 @@ pub fn build(
 ) -> Result<Plan, BuildFault>
     requires { AreOrdered entries.items }
     ensures entries { IfOk result (λ plan. plan.entries ≡ entries.items) }
-    ensures valid { (rules : List Rule) → AreReasons (listed_snapshot archive.now first.now second.now rules) entries.items
-        → IfOk result (λ plan. Valid (listed_snapshot archive.now first.now second.now rules) plan) }
-    ensures fits { (rules : List Rule) → AreReasons (listed_snapshot archive.now first.now second.now rules) entries.items
-        → IfOk result (λ plan. IsPlan plan) }
+    ensures valid { ForEachSnapshotOf archive.now first.now second.now
+        (λ s. AreReasons s entries.items → IfOk result (λ plan. Valid s plan)) }
+    ensures fits { ForEachSnapshotOf archive.now first.now second.now
+        (λ s. AreReasons s entries.items → IfOk result (λ plan. IsPlan plan)) }
     ensures within { OnOk result (¬ IsPastLimit first.now second.now entries.items) }
     ensures past { IfErr result (λ fault. fault ≡ BuildFault.PastLimit → IsPastLimit first.now second.now entries.items) }
 {

@@ -2,11 +2,16 @@
 --     AreReasons s entries     the paths that have a reason, each with it, in path order
 --     IsReasonOf s p found     the reason of p, where it has one
 --     IsSeen s p ..            what stands at p in the archive and the replicas
-use Rattle.std.specs.Prelude.{◌≡◌, ℕ, ◌<◌, Bool, true, false, List, [], ◌∷◌, ◌++◌, length, slice_index_or, Contains, Option, Some, None, MatchOption}
+--     IsSharedDepth s p n      directories of both replicas lead to p exactly where it has at most n names above it
+--     ForEachSnapshotOf a b c Holds
+--                              whatever the hold rules, so it is of the snapshot of these three listings
+use Rattle.std.specs.Prelude.{◌≡◌, ◌↔◌, ℕ, ◌-◌, ◌<◌, ◌≤◌, Bool, true, false, List, [], ◌∷◌, ◌++◌, length, slice_index_or, Contains, Option, Some, None, MatchOption}
 use Rattle.ts_name.specs.Paths.{Path, IsBefore}
-use Rattle.ts_model.specs.Sync.{Snapshot, Because, HasReason}
+use Rattle.ts_model.specs.Sync.{Snapshot, Because, HasReason, IsBelowDirs, listed_snapshot}
+use Rattle.ts_model.specs.Trees.{Listing}
 use Rattle.ts_model.specs.declared.row.Content.{Content}
 use Rattle.ts_model.specs.declared.row.Stamp.{Stamp}
+use Rattle.ts_model.specs.declared.hold.Rule.{Rule}
 use Rattle.ts_print.specs.declared.triples.Triple.{Triple}
 use Rattle.ts_model.specs.declared.plan.Reason.{Reason}
 use Rattle.ts_model.specs.declared.plan.Reason.TheVariants as reason
@@ -46,3 +51,9 @@ IsBecause s p found = MatchOption found ((r : Reason) → ¬ Because s p r) (λ 
 -- the same of what the walk gives
 abbrev pub IsTripleOf : Snapshot → Triple → Type 0
 IsTripleOf s seen = IsSeen s seen.path.now seen.archive seen.first seen.second
+
+abbrev pub IsSharedDepth : Snapshot → Path → ℕ → Type 0
+IsSharedDepth s p shared = IsBelowDirs s.first s.second p ↔ (length p - 1 ≤ shared)
+
+abbrev pub ForEachSnapshotOf : Listing Stamp → Listing Stamp → Listing Stamp → (Snapshot → Type 0) → Type 0
+ForEachSnapshotOf archive first second Holds = (rules : List Rule) → Holds (listed_snapshot archive first second rules)

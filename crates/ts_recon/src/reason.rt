@@ -1,8 +1,8 @@
-ghost use Rattle.std.specs.Prelude.{◌≡◌, ◌↔◌, ◌-◌, ◌≤◌, IsTrue, cond, length, min};
+ghost use Rattle.std.specs.Prelude.{◌≡◌, ◌↔◌, IsTrue};
 ghost use Rattle.ts_dirty.specs.Found.{IsFoundOf};
-ghost use Rattle.ts_model.specs.Sync.{Because, IsBelowDirs, Snapshot};
+ghost use Rattle.ts_model.specs.Sync.{Because, Snapshot};
 ghost use Rattle.ts_model.specs.declared.row.Content.TheVariants.{Dir};
-ghost use Rattle.ts_recon.specs.Reasons.{IsBecause, IsReasonOf, differing_reason, IsTripleOf};
+ghost use Rattle.ts_recon.specs.Reasons.{IsBecause, IsReasonOf, IsSharedDepth, IsTripleOf, differing_reason};
 
 use ts_dirty::{Marks, Near};
 use ts_model::plan::Reason;
@@ -18,7 +18,7 @@ pub(crate) fn reason_at(
     shared: usize,
 ) -> Option<Reason>
     ensures { (s : Snapshot) → IsFoundOf s marks.now → IsTripleOf s seen.now
-        → (IsBelowDirs s.first s.second seen.now.path.now ↔ (length seen.now.path.now - 1 ≤ shared)) → IsReasonOf s seen.now.path.now result }
+        → IsSharedDepth s seen.now.path.now shared → IsReasonOf s seen.now.path.now result }
 {
     if seen.path.depth().saturating_sub(1) <= shared {
         reason_below_dirs(marks, near, seen)

@@ -1,8 +1,6 @@
-ghost use Rattle.std.specs.Prelude.{◌≡◌, ◌-◌, IfOk, List, cond, min};
+ghost use Rattle.std.specs.Prelude.{◌≡◌, ◌-◌, IfOk, cond, min};
 ghost use Rattle.ts_dirty.specs.Found.{IsFoundOf};
-ghost use Rattle.ts_model.specs.Sync.{listed_snapshot};
-ghost use Rattle.ts_model.specs.declared.hold.Rule.{Rule};
-ghost use Rattle.ts_recon.specs.Reasons.{AreReasons, with_reason};
+ghost use Rattle.ts_recon.specs.Reasons.{AreReasons, ForEachSnapshotOf, with_reason};
 
 use crate::reason::{is_shared, reason_at};
 use std::alloc::{AllocError, Global};
@@ -23,8 +21,8 @@ pub fn reasons(
     second: &Print,
     marks: &Marks,
 ) -> Result<Vec<Entry>, AllocError>
-    ensures { (rules : List Rule) → IsFoundOf (listed_snapshot archive.now first.now second.now rules) marks.now
-        → IfOk result (λ entries. AreReasons (listed_snapshot archive.now first.now second.now rules) entries.items) }
+    ensures { ForEachSnapshotOf archive.now first.now second.now
+        (λ s. IsFoundOf s marks.now → IfOk result (λ entries. AreReasons s entries.items)) }
 {
     let mut entries = Vec::new(alloc);
     // how many names of the path that the walk is at lead down directories of both replicas
