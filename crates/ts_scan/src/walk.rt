@@ -199,8 +199,7 @@ where
     let theirs = || -> Result<Vec<Row<Stamp>>, ScanFault>
         requires { IsSync R.row × IsSync F.row × IsSend F.File.row × InOrder second.now × IfSome (F.tells folder.now) IsTreeBody }
         ensures found { IfOk result (λ rows. Found (F.tells folder.entry.now) path.entry.now second.entry.now rows.items) }
-        ensures fault { IfSome (F.tells folder.entry.now) (λ tree. AreThere (at tree) path.entry.now second.entry.now)
-            → IfErr result (MayFail (F.lets folder.entry.now) (F.tells folder.entry.now)) }
+        ensures fault { FailsAsTold (F.lets folder.entry.now) (F.tells folder.entry.now) (λ tree. AreThere tree path.entry.now second.entry.now) result }
     {
         let work = Work::new(alloc, second.len().max(LEAST_ROOM))?;
         let found = scan_children(rt, folder, idle, alloc, path, second, work);
