@@ -1,6 +1,7 @@
 -- A board is opened for what was checked.
 --     terms_for content k sites    the terms of a board for this checked plan and the sites of its commits
 --     IsFromCheck t k              the terms are those of this checked plan
+--     ReplacesPrint content before old new made    what a site tells in its slot before and after, where it had this print
 --     ReplacesTarget, DiffersFromTarget    what a commit's site tells, against the target's print of the commit
 --     PutsInPlace content staged old new R what the act of a commit has put in place of what was staged, by its site's slot before and after; R says
 --                                          of it what was replaced
@@ -8,6 +9,7 @@ use Rattle.std.specs.Prelude.{◌≡◌, ℕ, List, Option}
 use Rattle.ts_check.specs.Checkup.{Checkup, IsTargetPart}
 use Rattle.ts_model.specs.Trees.{Listing}
 use Rattle.ts_print.specs.Parts.{Part}
+use Rattle.ts_model.specs.declared.row.Stamp.{Stamp}
 use Rattle.ts_model.specs.declared.step.Work.TheVariants.{Put}
 use Rattle.ts_stage.specs.Assemblies.{Assembly}
 use Rattle.ts_site.specs.Sites.{Differs, IsPutFor, Replaces}
@@ -22,6 +24,10 @@ IsFromCheck t k = (t.plan ≡ k.plan) × (t.first ≡ k.first) × (t.second ≡ 
 -- the sites are those of the commits, in order
 abbrev pub terms_for : {S : Type 0} → (S → Option (Listing (List ℕ))) → Checkup → List S → Terms
 terms_for content k sites = opening_terms content k.plan k.first k.second sites
+
+-- where the site in the slot tells its content, it had this print, and is now what was made
+abbrev pub ReplacesPrint : {S : Type 0} → (S → Option (Listing (List ℕ))) → Listing Stamp → Slot S → Slot S → Listing (List ℕ) → Type 0
+ReplacesPrint content before old new made = Replaces (content_of content old) (content_of content new) before made
 
 -- where the site in the slot tells its content, it had the print of the target's part of the commit, and is now what was made
 abbrev pub ReplacesTarget : {S : Type 0} → (S → Option (Listing (List ℕ))) → Checkup → ℕ → Slot S → Slot S → Listing (List ℕ) → Type 0

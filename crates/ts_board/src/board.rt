@@ -5,10 +5,10 @@ ghost use Rattle.ts_board.specs.Terms.{AreSited, Suits, IsTold, content_of, fail
 ghost use Rattle.ts_board.specs.declared.law.Terms.{Terms};
 ghost use Rattle.ts_board.specs.declared.law.Slot.TheVariants.{Empty};
 ghost use Rattle.ts_model.specs.declared.step.Work.TheVariants as work;
-ghost use Rattle.ts_site.specs.Sites.{Differs, RefusesMisfits, Replaces};
+ghost use Rattle.ts_site.specs.Sites.{Differs, RefusesMisfits};
 ghost use Rattle.ts_check.specs.Checkup.{IsCommit, IsSourcePart};
 ghost use Rattle.ts_print.specs.Parts.{Part};
-ghost use Rattle.ts_board.specs.Checks.{DiffersFromTarget, IsFromCheck, PutsInPlace, ReplacesTarget};
+ghost use Rattle.ts_board.specs.Checks.{DiffersFromTarget, IsFromCheck, PutsInPlace, ReplacesPrint, ReplacesTarget};
 ghost use Rattle.ts_model.specs.declared.step.Step.TheVariants.{Act};
 
 use crate::law::{Key, Law, Slot, View};
@@ -87,7 +87,7 @@ impl<S: Site> Held<S> {
         ensures action { self.new.action ≡ self.old.action }
         ensures acted { OnOk result (self.new.acted ≡ true) }
         ensures put { OnOk result (PutsInPlace S.content staged self.old.slot self.new.slot
-            (Replaces (content_of S.content self.old.slot) (content_of S.content self.new.slot) before.now.rows)) }
+            (ReplacesPrint S.content before.now.rows self.old.slot self.new.slot)) }
         ensures misfit { RefusesMisfits (content_of S.content self.old.slot) staged (IsErrOf result SiteFault.Misfit) }
         ensures changed { IsErrOf result SiteFault.Changed → Differs (content_of S.content self.old.slot) before.now.rows }
         ensures device { IsErrOf result SiteFault.Device → failures_of S.failures self.old.slot < failures_of S.failures self.new.slot }
