@@ -3,15 +3,22 @@
 --     HasWorkers rows n         n threads are asked for
 --     HasCheckpoint rows every  the archive is asked for after so many actions of a thread, or nothing is said of that
 --     Gives reading command     the reading gives the command
+--     given_rows matches        the values that clap's matches have, by their names
+--     IsAnswerTo words message  clap may answer the words with this message
 use Rattle.std.specs.Prelude.{◌≡◌, ◌≢◌, ◌⊎◌, ◌↔◌, ◌≤◌, ℕ, IsTrue, List, Option, Some, None, false, true, codes, option_map}
 use Rattle.std.specs.Str.Parse.{IsNumeral, digits_value, without_leading_plus}
-use Rattle.clap.specs.Words.{Row, Text, first_of, kind_of, takes, subcommand_of}
+use Rattle.clap.specs.Words.{Row, Text, first_of, found_of, kind_of, rows_of, takes, subcommand_of}
+use Rattle.clap.specs.declared.error.Error.{Error}
+use Rattle.clap.specs.declared.parser.matches.ArgMatches.{ArgMatches}
 use Rattle.clap.specs.declared.error.kind.ErrorKind.TheVariants as kind
 use Rattle.ts_command.specs.CommandLine.{command_line}
 use Rattle.ts_command.specs.declared.job.Pair.{Pair}
 use Rattle.ts_command.specs.declared.job.Job.{Job}
 use Rattle.ts_command.specs.declared.job.Job.TheVariants as job
 use Rattle.ts_command.specs.declared.job.Command.{Command}
+
+abbrev pub given_rows : ArgMatches → List Row
+given_rows matches = rows_of (found_of matches)
 
 -- a file or a folder is named so
 abbrev pub Names : Text → List Row → Text → Type 0
@@ -77,6 +84,10 @@ Gives (Some (name, rows)) command =
 
 abbrev pub reading_of_words : List Text → Option (Text × List Row)
 reading_of_words words = subcommand_of command_line words
+
+-- words that clap takes have a message only where memory ran out
+abbrev pub IsAnswerTo : List Text → Error → Type 0
+IsAnswerTo words message = takes command_line words ≡ true → kind_of message ≡ kind.OutOfMemory
 
 -- the words ask for help or the version, and are no command
 abbrev pub AsksToTell : List Text → Job → Type 0

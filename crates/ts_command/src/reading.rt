@@ -1,9 +1,9 @@
 //! From words to commands.
 ghost use Rattle.std.specs.Prelude.{◌≡◌, ◌≢◌, ◌≤◌, ◌↔◌, ℕ, List, Option, Some, codes, true, map, IfErr, IfNone, IfOk, IfSome, IsTrue, option_map};
-ghost use Rattle.clap.specs.Words.{first_of, found_of, kind_of, rows_of, subcommand_rows_of, takes};
+ghost use Rattle.clap.specs.Words.{first_of, subcommand_rows_of, takes};
 ghost use Rattle.ts_command.specs.CommandLine.{command_line};
 ghost use Rattle.ts_command.specs.Readings.{AreWorkers, AsksToTell, Gives, HasCheckpoint, HasWorkers, IsAsked};
-ghost use Rattle.ts_command.specs.Readings.{IsEvery, IsFlagged, IsJob, IsNoCommand, IsPair};
+ghost use Rattle.ts_command.specs.Readings.{IsAnswerTo, IsEvery, IsFlagged, IsJob, IsNoCommand, IsPair, given_rows};
 ghost use Rattle.ts_command.specs.declared.fault.CommandFault.TheVariants.{OutOfMemory};
 ghost use Rattle.ts_command.specs.declared.job.Command.{Command};
 ghost use Rattle.ts_command.specs.declared.job.Job.{Job};
@@ -63,9 +63,8 @@ fn without_value(alloc: Global) -> Result<CommandFault, CommandFault>
 
 /// What is answered where clap gives no matches: help and version are printed, all else is a mistake in the words.
 fn tell<'a>(message: clap::Error) -> Result<Command<'a>, CommandFault>
-    ensures asked { (words : List (List ℕ)) → (takes command_line words ≡ true → kind_of message ≡ ErrorKind.OutOfMemory)
-        → IfOk result (λ command. AsksToTell words command.job) }
-    ensures usage { (words : List (List ℕ)) → (takes command_line words ≡ true → kind_of message ≡ ErrorKind.OutOfMemory)
+    ensures asked { (words : List (List ℕ)) → IsAnswerTo words message → IfOk result (λ command. AsksToTell words command.job) }
+    ensures usage { (words : List (List ℕ)) → IsAnswerTo words message
         → IfErr result (λ e. e ≢ OutOfMemory → takes command_line words ≢ true) }
 {
     match message.kind() {
@@ -105,15 +104,15 @@ fn read_command<'a>(matches: &ArgMatches<'a>) -> Option<Command<'a>>
 
 /// The value of this name.
 fn value<'a>(matches: &ArgMatches<'a>, id: &str) -> Option<&'a str>
-    ensures { option_map (λ s. s.now) result ≡ first_of id.now (rows_of (found_of matches.now)) }
+    ensures { option_map (λ s. s.now) result ≡ first_of id.now (given_rows matches.now) }
 {
     matches.get_str(id)
 }
 
 /// How many threads are asked for.
 fn read_workers(matches: &ArgMatches<'_>) -> Option<u32>
-    ensures some { IfSome result (HasWorkers (rows_of (found_of matches.now))) }
-    ensures none { IfNone result ((n : ℕ) → ¬ HasWorkers (rows_of (found_of matches.now)) n) }
+    ensures some { IfSome result (HasWorkers (given_rows matches.now)) }
+    ensures none { IfNone result ((n : ℕ) → ¬ HasWorkers (given_rows matches.now) n) }
 {
     match value(matches, "workers") {
         None => Some(USUAL_WORKERS),
@@ -134,8 +133,8 @@ fn read_count(text: &str) -> Option<u32>
 
 /// After how many actions of a thread the archive is to be written, where that is asked for.
 fn read_checkpoint(matches: &ArgMatches<'_>) -> Option<Option<u32>>
-    ensures some { IfSome result (HasCheckpoint (rows_of (found_of matches.now))) }
-    ensures none { IfNone result ((every : Option ℕ) → ¬ HasCheckpoint (rows_of (found_of matches.now)) every) }
+    ensures some { IfSome result (HasCheckpoint (given_rows matches.now)) }
+    ensures none { IfNone result ((every : Option ℕ) → ¬ HasCheckpoint (given_rows matches.now) every) }
 {
     match value(matches, "checkpoint") {
         None => Some(None),
@@ -159,8 +158,8 @@ fn read_every(text: &str) -> Option<u32>
 
 /// The job of this name.
 fn read_job<'a>(name: &str, matches: &ArgMatches<'a>) -> Option<Job<'a>>
-    ensures some { IfSome result (IsJob name.now (rows_of (found_of matches.now))) }
-    ensures none { IfNone result ((job : Job) → ¬ IsJob name.now (rows_of (found_of matches.now)) job) }
+    ensures some { IfSome result (IsJob name.now (given_rows matches.now)) }
+    ensures none { IfNone result ((job : Job) → ¬ IsJob name.now (given_rows matches.now) job) }
 {
     match name {
         "trial" => Some(Job::Trial),
@@ -176,9 +175,9 @@ fn read_job<'a>(name: &str, matches: &ArgMatches<'a>) -> Option<Job<'a>>
 
 /// The job of this name, where it works on a pair.
 fn paired_job<'a>(name: &str, matches: &ArgMatches<'a>, pair: Pair<'a>) -> Option<Job<'a>>
-    ensures some { IsPair (rows_of (found_of matches.now)) pair.entry → IfSome result (IsJob name.now (rows_of (found_of matches.now))) }
+    ensures some { IsPair (given_rows matches.now) pair.entry → IfSome result (IsJob name.now (given_rows matches.now)) }
     ensures none { name.now ≢ codes "trial" → name.now ≢ codes "scan" → name.now ≢ codes "show"
-        → IfNone result ((job : Job) → ¬ IsJob name.now (rows_of (found_of matches.now)) job) }
+        → IfNone result ((job : Job) → ¬ IsJob name.now (given_rows matches.now) job) }
 {
     match name {
         "plan" => Some(Job::Plan { pair }),
@@ -201,7 +200,7 @@ fn paired_job<'a>(name: &str, matches: &ArgMatches<'a>, pair: Pair<'a>) -> Optio
 
 /// Whether the flag of this name is among the words.
 fn is_flagged(matches: &ArgMatches<'_>, id: &str) -> bool
-    ensures { IsTrue result ↔ IsFlagged id.now (rows_of (found_of matches.now)) }
+    ensures { IsTrue result ↔ IsFlagged id.now (given_rows matches.now) }
 {
     match value(matches, id) {
         Some(text) => text == "true",
@@ -211,8 +210,8 @@ fn is_flagged(matches: &ArgMatches<'_>, id: &str) -> bool
 
 /// The pair that a command works on.
 fn read_pair<'a>(matches: &ArgMatches<'a>) -> Option<Pair<'a>>
-    ensures some { IfSome result (IsPair (rows_of (found_of matches.now))) }
-    ensures none { IfNone result ((pair : Pair) → ¬ IsPair (rows_of (found_of matches.now)) pair) }
+    ensures some { IfSome result (IsPair (given_rows matches.now)) }
+    ensures none { IfNone result ((pair : Pair) → ¬ IsPair (given_rows matches.now) pair) }
 {
     Some(Pair {
         first: value(matches, "FIRST")?,
