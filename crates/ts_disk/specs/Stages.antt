@@ -3,14 +3,18 @@
 --     root_from first second from           of two replicas' roots, that of the replica that is copied into
 --     IsCopiedTo entry first second root    the replica with this root is the one that the entry is copied into
 --     IsStoredAt entry n root path place    the place of the file at this whole path, which entry n copies
+--     IsStagePlace entry n first second path place
+--                                           the own directory, the stage and the file of this path that entry n is stored at
 --     IsSourceOf entry first second path place    the file at this whole path, which the entry copies, is copied from this place
 --     cause_number cause                    the number by which a cause is kept
 --     failure_number failure                the number by which it is kept why an entry failed, where 0 is that it didn't
 use Rattle.std.specs.Prelude.{◌≡◌, ◌++◌, ◌+◌, ℕ, List, Some, codes, decimal}
+use Rattle.std.specs.String.{string_bytes}
 use Rattle.ts_cause.specs.declared.cause.Cause.{Cause}
 use Rattle.ts_cause.specs.declared.cause.Cause.TheVariants as cause
 use Rattle.ts_disk.specs.declared.stage.Failure.{Failure}
 use Rattle.ts_disk.specs.declared.stage.Failure.TheVariants as failure
+use Rattle.ts_disk.specs.declared.stage.StagePlace.{StagePlace}
 use Rattle.ts_model.specs.Plans.{source}
 use Rattle.ts_model.specs.declared.plan.Entry.{Entry}
 use Rattle.ts_model.specs.declared.plan.Side.{Side}
@@ -37,6 +41,14 @@ IsCopiedTo entry first second root = (from : Side) × (source entry.reason ≡ S
 -- below its stage the file at this whole path stands as it does below the entry's path
 abbrev pub IsStoredAt : Entry → ℕ → List ℕ → Path → List ℕ → Type 0
 IsStoredAt entry number root path place = (rest : Path) × (path ≡ entry.path ++ rest) × (place ≡ stage_text root number ++ place_text rest)
+
+-- where entry n, copied into one of two replicas with these roots, and the file at this whole path are stored
+pub record IsStagePlace (entry : Entry) (number : ℕ) (first second : List ℕ) (path : Path) (place : StagePlace) : Type 0 where
+  pub root : List ℕ
+  pub copied : IsCopiedTo entry first second root
+  pub own : string_bytes place.own ≡ root ++ codes "/.twosync"
+  pub stage : string_bytes place.stage ≡ stage_text root number
+  pub file : IsStoredAt entry number root path (string_bytes place.file)
 
 -- of two replicas with these roots it is the one that the entry is copied from, and the file stands at its path there
 abbrev pub IsSourceOf : Entry → List ℕ → List ℕ → Path → List ℕ → Type 0

@@ -1,8 +1,8 @@
 //! The stage of a run over a pair on a disk: pieces store what they read in the replica that it is copied into.
-ghost use Rattle.std.specs.Prelude.{◌≡◌, ◌≢◌, ◌++◌, ℕ, List, IfErr, IfNone, IfOk, IfSome, Some, codes, length};
+ghost use Rattle.std.specs.Prelude.{◌≡◌, ◌≢◌, IfErr, IfNone, IfOk, IfSome, Some, length};
 ghost use Rattle.std.specs.String.{string_bytes};
 ghost use Rattle.ts_cause.specs.declared.cause.Cause.{Cause};
-ghost use Rattle.ts_disk.specs.Stages.{IsCopiedTo, IsSourceOf, IsStoredAt, cause_number, failure_number, root_from, root_of, stage_text};
+ghost use Rattle.ts_disk.specs.Stages.{IsSourceOf, IsStagePlace, cause_number, failure_number, root_from, root_of};
 ghost use Rattle.ts_disk.specs.declared.stage.Failure.{Failure};
 ghost use Rattle.ts_model.specs.Plans.{source};
 ghost use Rattle.ts_model.specs.declared.plan.Side.{Side};
@@ -175,10 +175,8 @@ impl<R: Drop> DiskStage<R> {
         path: &Path,
     ) -> Result<Option<StagePlace>, AllocError>
         ensures none { IfOk result (λ found. IfNone found ((from : Side) → source entry.now.reason ≡ Some from → ¬ IsAbove entry.now.path path.now)) }
-        ensures stage { IfOk result (λ found. IfSome found (λ place. (root : List ℕ)
-            × IsCopiedTo entry.now (string_bytes self.now.first) (string_bytes self.now.second) root
-            × (string_bytes place.own ≡ root ++ codes "/.twosync") × (string_bytes place.stage ≡ stage_text root number)
-            × IsStoredAt entry.now number root path.now (string_bytes place.file))) }
+        ensures stage { IfOk result (λ found. IfSome found
+            (IsStagePlace entry.now number (string_bytes self.now.first) (string_bytes self.now.second) path.now)) }
     {
         let Some(from) = entry.reason.source() else {
             return Ok(None);

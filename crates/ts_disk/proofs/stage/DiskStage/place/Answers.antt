@@ -13,7 +13,13 @@ returns-clause-stage g c =
     let there = rw c.in-Some-2.is at c.in_ok-rest.ensures.value in
     let split = below_gives entry.path c.args.path.now rest (sym there) in
     let file = c.in_ok-file.ensures ∙ ap (λ at. at ++ place_text rest) (c.as_str-2.ensures.value ∙ stage) in
-    (root, (c.in-Some.from, sym c.source.ensures ∙ c.in-Some.is, c.root_from.ensures), c.in_ok-own.ensures, stage, (rest, split, file))
+    record {
+      root = root;
+      copied = (c.in-Some.from, sym c.source.ensures ∙ c.in-Some.is, c.root_from.ensures);
+      own = c.in_ok-own.ensures;
+      stage = stage;
+      file = (rest, split, file);
+    }
 
 pub returns-in_default-2-clause-none : goal.returns-in_default-2-clause-none
 returns-in_default-2-clause-none g c from is = not_above c.args.entry.now.path c.args.path.now (sym c.in_ok-rest.ensures.value ∙ c.in_default-2.is)
