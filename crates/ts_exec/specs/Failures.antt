@@ -3,6 +3,7 @@
 --     setting_for ..      that of a run, by the sites of its commits at the start
 --     setting_until ..    the same of a run that may be stopped
 --     setting_over ..     the same of a run over a stage that may fail
+--     run_setting ..      the same of a run over such a stage that may be stopped, too
 --     TellsTree x from    the folder of this side tells a tree, of the print that the plan was checked with
 --     TellsSite x c       the site of this commit told its content at the start
 --     AreRead x r         in these steps, what pieces staged is what their folders tell
@@ -92,6 +93,9 @@ or_jammed may x = record x { jams = may }
 
 abbrev pub setting_over : {S F File P : Type 0} → sites.Ghosts S → folders.Ghosts F File → stages.Ghosts P → Checkup → F → F → List S → P → Setting
 setting_over site folder stages k first second starts stage = or_jammed (stages.fails stage) (setting_for site folder k first second starts)
+
+abbrev pub run_setting : {S F File P T : Type 0} → sites.Ghosts S → folders.Ghosts F File → stages.Ghosts P → stopping.Ghosts T → Checkup → F → F → List S → P → T → Setting
+run_setting site folder stages stopped k first second starts stage stop = or_jammed (stages.fails stage) (setting_until site folder stopped k first second starts stop)
 
 -- the entry is copied
 abbrev pub IsCopied : Plan → ℕ → Type 0

@@ -9,6 +9,7 @@
 --     IsKept k before run after    what was stored since are archives of closed parts of the run, each within the next
 --     StaysKept k run old more new whatever was stored first, if that holds of the old store it still holds of the new one, when more of the run was seen
 --     IsKeptOutcome ..             what came of a plan, and of the very same run what its keeper has stored
+--     IsKeptBy kept keeping end .. the same, where the run began with this keeping and gave its keeper back as this one
 use Rattle.std.specs.Prelude.{◌≡◌, ◌⊎◌, ℕ, Bool, true, false, List, [], ◌∷◌, ◌++◌, Option, Some, None, length}
 use Rattle.ts_model.specs.Trees.{Listing, at}
 use Rattle.ts_model.specs.Plans.{KindIs}
@@ -21,6 +22,7 @@ use Rattle.ts_site.specs.declared.site.Site.{Ghosts}
 use Rattle.ts_check.specs.Checkup.{Checkup, snapshot_of}
 use Rattle.ts_exec.specs.Failures.{Setting}
 use Rattle.ts_exec.specs.Outcomes.{IsOutcomeOf}
+use Rattle.ts_exec.specs.declared.keeping.Keeping.{Keeping}
 use Rattle.ts_exec.specs.declared.outcome.Outcome.{Outcome}
 
 abbrev pub Store : Type 0
@@ -58,3 +60,6 @@ StaysKept k run old more new = (before : Store) → IsKept k before run old → 
 
 abbrev pub IsKeptOutcome : {S : Type 0} {site : Ghosts S} → Setting → Store → Store → Outcome S site → Type 0
 IsKeptOutcome x before after outcome = (of : IsOutcomeOf x outcome) × IsKept x.checkup before of.run after
+
+abbrev pub IsKeptBy : {S K : Type 0} {site : Ghosts S} → (K → Store) → Keeping K → K → Setting → Outcome S site → Type 0
+IsKeptBy kept keeping end x outcome = IsKeptOutcome x (kept keeping.keeper) (kept end) outcome

@@ -4,8 +4,8 @@ ghost use Rattle.ts_board.specs.Archives.{HasEnded};
 ghost use Rattle.ts_board.specs.Calls.{HasPlaces, IsPassAt, IsPassOf, IsWhole, mine, seen, table_of, terms_of, words_of};
 ghost use Rattle.ts_board.specs.Checks.{terms_for};
 ghost use Rattle.ts_board.specs.Terms.{commit_count};
-ghost use Rattle.ts_exec.specs.Failures.{or_jammed, setting_for, setting_over, setting_until};
-ghost use Rattle.ts_exec.specs.Stores.{IsKeptOutcome, StaysKept};
+ghost use Rattle.ts_exec.specs.Failures.{run_setting, setting_for, setting_over, setting_until};
+ghost use Rattle.ts_exec.specs.Stores.{IsKeptBy, IsKeptOutcome, StaysKept};
 ghost use Rattle.ts_exec.specs.Outcomes.{IsOutcomeOf, IsSteady, MisfitsAreUntold, OnlyMemoryRanOut};
 ghost use Rattle.ts_exec.specs.Tidy.{AreFresh, HasRoomFor, IsSwept, IsTidy, Noted};
 ghost use Rattle.ts_exec.specs.Sharing.{setting_of};
@@ -385,9 +385,8 @@ where
     F::File: Send,
     requires few { workers ≤ 64 }
     requires sites { length sites.items ≡ commit_count checked.now.plan.actions }
-    ensures outcome { IfOk result.0 (IsKeptOutcome
-        (or_jammed (P.fails stage.now) (setting_until S.Site F.Folder G.Stop checked.now first.now second.now sites.items gate.now))
-        (K.kept keeping.keeper) (K.kept result.1)) }
+    ensures outcome { IfOk result.0 (IsKeptBy K.kept keeping result.1
+        (run_setting S.Site F.Folder P.Stage G.Stop checked.now first.now second.now sites.items stage.now gate.now)) }
     ensures misfits { IfOk result.0 (λ o. MisfitsAreUntold (setting_over S.Site F.Folder P.Stage checked.now first.now second.now sites.items stage.now) o.results.items) }
     ensures steady { IfOk result.0 (λ o. IsSteady (setting_over S.Site F.Folder P.Stage checked.now first.now second.now sites.items stage.now)
         → OnlyMemoryRanOut o.results.items) }
