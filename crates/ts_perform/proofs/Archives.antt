@@ -5,9 +5,9 @@ use Rattle.ts_command.specs.declared.job.Pair.{Pair}
 use Rattle.ts_model.specs.Trees.{Listing}
 use Rattle.ts_model.specs.declared.hold.Rule.{Rule}
 use Rattle.ts_model.specs.declared.row.Stamp.{Stamp}
-use Rattle.ts_perform.specs.Inputs.{AreRulesFor, Finds, IsArchiveAt, IsArchiveIn, IsArchiveOf, IsFoundOrEmpty, IsHeldFor, IsSeenFor}
-use Rattle.ts_perform.specs.Specials.{FindsSpecial}
-use Rattle.ts_perform.specs.Stands.{AreScans, IsAt}
+use Rattle.ts_perform.specs.Inputs.{AreRulesFor, IsArchiveAt, IsArchiveIn, IsArchiveOf, IsFoundOrEmpty, IsHeldFor, IsSeenFor}
+use Rattle.ts_perform.specs.Worlds.{Finds, World}
+use Rattle.ts_perform.specs.Stands.{AreScans}
 use Rattle.ts_perform.specs.declared.inputs.Held.{Held}
 use Rattle.ts_perform.specs.declared.inputs.Scanned.{Scanned}
 
@@ -26,17 +26,18 @@ archive_at finds name file decoded rows at spells (inr (none, empty)) =
     inr (archive_found finds name file None at (subst (λ d. IfOk d (IsArchiveOf file)) none spells), empty)
 
 -- a snapshot of the archive, of the rules that were read, and of both scans
-pub seen : {F : Type 0} (is_at : IsAt F) (tells : F → Option (Listing (List ℕ))) (finds : Finds) (finds_special : FindsSpecial) (pair : Pair) (held : Held)
+pub seen : {S F P A L : Type 0} (w : World S F P A L) (pair : Pair) (held : Held)
     (archive : Listing Stamp) (scanned : Scanned) (rows : Listing Stamp) (rules : List Rule) (first second : Listing Stamp)
-    → IsArchiveAt finds pair.archive.now archive → IsHeldFor finds finds_special pair held → AreScans is_at tells pair held.special scanned.first scanned.second
+    → IsArchiveAt w.finds pair.archive.now archive → IsHeldFor w.finds w.finds_special pair held
+    → AreScans w.is_at w.tells pair held.special scanned.first scanned.second
     → rows ≡ archive → rules ≡ held.holds → first ≡ scanned.first → second ≡ scanned.second
-    → IsSeenFor is_at tells finds finds_special pair rows rules first second
-seen is_at tells finds finds_special pair held archive scanned rows rules first second read is_held scans same_rows same_rules same_first same_second = record {
+    → IsSeenFor w pair rows rules first second
+seen w pair held archive scanned rows rules first second read is_held scans same_rows same_rules same_first same_second = record {
   special = held.special;
   found = is_held.found;
   read = record {
-    archive = subst (λ z. IsArchiveAt finds pair.archive.now z) (sym same_rows) read;
-    holds = subst (λ z. AreRulesFor finds pair held.special z) (sym same_rules) is_held.rules;
+    archive = subst (λ z. IsArchiveAt w.finds pair.archive.now z) (sym same_rows) read;
+    holds = subst (λ z. AreRulesFor w.finds pair held.special z) (sym same_rules) is_held.rules;
   };
-  scans = subst (λ z. AreScans is_at tells pair held.special first z) (sym same_second) (subst (λ z. AreScans is_at tells pair held.special z scanned.second) (sym same_first) scans);
+  scans = subst (λ z. AreScans w.is_at w.tells pair held.special first z) (sym same_second) (subst (λ z. AreScans w.is_at w.tells pair held.special z scanned.second) (sym same_first) scans);
 }

@@ -20,11 +20,9 @@ use Rattle.ts_preview.specs.declared.outlook.Outlook.{Outlook}
 use Rattle.ts_report.specs.Reports.{status_of}
 use Rattle.ts_preview.specs.declared.writing.Form.{Form}
 use Rattle.ts_perform.specs.Previewing.{IsPreviewAt, IsPreviewOf}
-use Rattle.ts_perform.specs.Inputs.{Finds, IsSeenFor}
-use Rattle.ts_perform.specs.Specials.{FindsSpecial}
-use Rattle.ts_perform.specs.Stands.{IsAt}
+use Rattle.ts_perform.specs.Inputs.{IsSeenFor}
+use Rattle.ts_perform.specs.Worlds.{World}
 use Rattle.ts_command.specs.declared.job.Pair.{Pair}
-use Rattle.ts_model.specs.Trees.{Listing}
 use Rattle.ts_perform.specs.Snapshots.{IsPlanned, IsUnchecked, Judges, Prints, checkup_of, valid_text}
 use Rattle.ts_perform.specs.declared.snapshot.Snapshot.{Snapshot}
 use Rattle.ts_perform.specs.Trials.{IsQuiet}
@@ -84,10 +82,9 @@ preview_begun s plan form all old new e planned each begun =
     (text_quiet e, inr (text (preview_lines form all), status_of (best_totals all), (plan, (all, planned, each, refl, refl)), begun))
 
 -- what is printed for a snapshot is printed for the pair that it was read for
-pub preview_at : {F : Type 0} (is_at : IsAt F) (tells : F → Option (Listing (List ℕ))) (finds : Finds) (finds_special : FindsSpecial) (pair : Pair) (s : Snapshot) (form : Form)
-    (old new : Option (List ℕ)) (r : Result ℕ PerformFault) → IsSeenFor is_at tells finds finds_special pair s.archive s.holds s.first s.second
-    → Prints (IsPreviewOf s form) old new r → Prints (IsPreviewAt is_at tells finds finds_special pair form) old new r
-preview_at is_at tells finds finds_special pair s form old new (Ok status) seen (written, (plan, is), added) = (written, (checkup_of s plan, seen, is), added)
-preview_at is_at tells finds finds_special pair s form old new (Err e) seen (quiet, inl same) = (quiet, inl same)
-preview_at is_at tells finds finds_special pair s form old new (Err e) seen (quiet, inr (written, status, (plan, is), begun)) =
+pub preview_at : {S F P A L : Type 0} (w : World S F P A L) (pair : Pair) (s : Snapshot) (form : Form) (old new : Option (List ℕ)) (r : Result ℕ PerformFault)
+    → IsSeenFor w pair s.archive s.holds s.first s.second → Prints (IsPreviewOf s form) old new r → Prints (IsPreviewAt w pair form) old new r
+preview_at w pair s form old new (Ok status) seen (written, (plan, is), added) = (written, (checkup_of s plan, seen, is), added)
+preview_at w pair s form old new (Err e) seen (quiet, inl same) = (quiet, inl same)
+preview_at w pair s form old new (Err e) seen (quiet, inr (written, status, (plan, is), begun)) =
     (quiet, inr (written, status, (checkup_of s plan, seen, is), begun))

@@ -1,5 +1,4 @@
 -- What commands read from files.
---     finds name found                what is found by this name: nothing, or a file, with its bytes where it tells them
 --     IsReadAt finds Spells name x    x was read from a file that was found by this name, whose bytes spell it where the file tells them
 --     IsArchiveOf file found          the bytes of a file spell it, where the file tells them; or there is no file, and nothing was found
 --     IsArchiveIn finds name found    the same of the file that was found by this name
@@ -9,7 +8,7 @@
 --     IsReadFor finds pair special rows rules  the archive and the rules of a pair
 --     IsFoundOrEmpty decoded rows     the archive that was decoded; or there is none, and these are no paths
 --     IsHeldFor finds finds_special pair held  the rules of a pair, and the special paths that they name
---     IsSeenFor .. pair rows rules first second  the same with scans of both replicas, which have stand-ins at the special paths that the rules name
+--     IsSeenFor w pair rows rules first second  the same with scans of both replicas, which have stand-ins at the special paths that the rules name
 --     scanned_of pair first second    what the scans of a pair's replicas give; where neither gives a print, the fault is that of the first
 use Rattle.std.specs.Prelude.{◌≡◌, ◌⊎◌, ℕ, List, [], ◌++◌, Option, Some, None, IfSome, Result, Ok, Err}
 use Rattle.std.specs.Borrow.{Bor}
@@ -26,11 +25,9 @@ use Rattle.ts_perform.specs.Lengths.{fault_below}
 use Rattle.ts_perform.specs.declared.inputs.Held.{Held}
 use Rattle.ts_perform.specs.declared.inputs.Scanned.{Scanned}
 use Rattle.ts_perform.specs.Specials.{AreSpecials, FindsSpecial, rules_of}
-use Rattle.ts_perform.specs.Stands.{AreScans, IsAt}
+use Rattle.ts_perform.specs.Stands.{AreScans}
+use Rattle.ts_perform.specs.Worlds.{Finds, World}
 use Rattle.ts_perform.specs.declared.special.SpecialPaths.{SpecialPaths}
-
-abbrev pub Finds : Type 1
-Finds = List ℕ → Option (Option (List ℕ)) → Type 0
 
 abbrev pub IsReadAt : {X : Type 0} → Finds → (List ℕ → X → Type 0) → List ℕ → X → Type 0
 IsReadAt finds Spells name x = (bytes : Option (List ℕ)) × finds name (Some bytes) × IfSome bytes (λ text. Spells text x)
@@ -68,12 +65,12 @@ pub record IsHeldFor (finds : Finds) (finds_special : FindsSpecial) (pair : Pair
 abbrev pub IsFoundOrEmpty : Result (Option (Listing Stamp)) ArchiveFault → Listing Stamp → Type 0
 IsFoundOrEmpty decoded rows = (decoded ≡ Ok (Some rows)) ⊎ ((decoded ≡ Ok None) × (rows ≡ []))
 
-pub record IsSeenFor {F : Type 0} (is_at : IsAt F) (tells : F → Option (Listing (List ℕ))) (finds : Finds) (finds_special : FindsSpecial)
-    (pair : Pair) (rows : Listing Stamp) (rules : List Rule) (first second : Listing Stamp) : Type 0 where
+pub record IsSeenFor {S F P A L : Type 0} (w : World S F P A L) (pair : Pair) (rows : Listing Stamp) (rules : List Rule)
+    (first second : Listing Stamp) : Type 0 where
   pub special : SpecialPaths
-  pub found : AreSpecials finds_special pair special
-  pub read : IsReadFor finds pair special rows rules
-  pub scans : AreScans is_at tells pair special first second
+  pub found : AreSpecials w.finds_special pair special
+  pub read : IsReadFor w.finds pair special rows rules
+  pub scans : AreScans w.is_at w.tells pair special first second
 
 abbrev pub scanned_of : Pair → Result (Listing Stamp) ScanFault → Result (Listing Stamp) ScanFault → Result Scanned PerformFault
 scanned_of pair (Err e) second = Err (fault_below pair.first.now First e)

@@ -15,3 +15,4 @@ pub mod Spacing
 pub mod Specials
 pub mod Stands
 pub mod Trials
+pub mod Worlds

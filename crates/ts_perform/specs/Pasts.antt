@@ -3,13 +3,14 @@
 --     IsOneNew first second                    just one of them took part, and a run into both of them wasn't stopped
 --     SaysOneNew took stopped first second one whether that is so, by what is said of two locks
 --     new_one first, SaysNew ..                which one is new, where just one is
---     IsOfBoth .. pair rows                    where it is so of the locks of the pair's replicas, the archive names no path
-use Rattle.std.specs.Prelude.{◌≡◌, ◌≢◌, ◌↔◌, ℕ, Bool, false, if◌then◌else◌, List, [], Option, Some, None, IsTrue}
+--     IsOfBoth w pair rows                     where it is so of the locks of the pair's replicas, the archive names no path
+use Rattle.std.specs.Prelude.{◌≡◌, ◌≢◌, ◌↔◌, Bool, false, if◌then◌else◌, [], Option, Some, None, IsTrue}
 use Rattle.ts_command.specs.declared.job.Pair.{Pair}
 use Rattle.ts_model.specs.Trees.{Listing}
 use Rattle.ts_model.specs.declared.row.Stamp.{Stamp}
 use Rattle.ts_explain.specs.declared.subject.Subject.{Subject}
 use Rattle.ts_explain.specs.declared.subject.Subject.TheVariants.{First, Second}
+use Rattle.ts_perform.specs.Worlds.{World}
 use Rattle.ts_perform.specs.declared.past.Past.{Past}
 
 abbrev pub IsPastOf : {L : Type 0} → (took stopped : L → Bool → Type 0) → Option L → Past → Type 0
@@ -32,12 +33,11 @@ SaysOneNew took stopped first second one =
     (of_first : Past) × (of_second : Past) × IsPastOf took stopped first of_first × IsPastOf took stopped second of_second
     × (IsTrue one ↔ IsOneNew of_first of_second)
 
-pub record IsOfBoth {L : Type 0} (is_locked : Option L → List ℕ → Type 0) (took stopped : L → Bool → Type 0) (pair : Pair)
-    (rows : Listing Stamp) : Type 0 where
+pub record IsOfBoth {S F P A L : Type 0} (w : World S F P A L) (pair : Pair) (rows : Listing Stamp) : Type 0 where
   pub first : Option L
   pub second : Option L
-  pub locked_first : is_locked first pair.first.now
-  pub locked_second : is_locked second pair.second.now
+  pub locked_first : w.is_locked first pair.first.now
+  pub locked_second : w.is_locked second pair.second.now
   pub one : Bool
-  pub says : SaysOneNew took stopped first second one
+  pub says : SaysOneNew w.took w.stopped first second one
   pub empty : IsTrue one → rows ≡ []

@@ -3,12 +3,11 @@
 --     IsPreview k form written status          what would become of each entry of a plan that `resume` makes, in this form; with the
 --                                              status of a report in which all is done but what is skipped
 --     IsPreviewOf s form written status        the same of some plan for this snapshot
---     IsPreviewAt .. pair form written status  the same of scans of a pair's replicas, and of the archive and the rules that were read for it
-use Rattle.std.specs.Prelude.{◌≡◌, ℕ, Bool, if◌then◌else◌, List, Option}
+--     IsPreviewAt w pair form written status  the same of scans of a pair's replicas, and of the archive and the rules that were read for it
+use Rattle.std.specs.Prelude.{◌≡◌, ℕ, Bool, if◌then◌else◌, List}
 use Rattle.ts_check.specs.Checkup.{Checkup}
 use Rattle.ts_command.specs.declared.job.Pair.{Pair}
 use Rattle.ts_model.specs.Texts.{text}
-use Rattle.ts_model.specs.Trees.{Listing}
 use Rattle.ts_model.specs.declared.plan.Plan.{Plan}
 use Rattle.ts_preview.specs.Outlooks.{AreOutlooks}
 use Rattle.ts_preview.specs.Previews.{preview_lines}
@@ -17,10 +16,9 @@ use Rattle.ts_preview.specs.declared.outlook.Outlook.{Outlook}
 use Rattle.ts_preview.specs.declared.writing.Form.{Form}
 use Rattle.ts_preview.specs.declared.writing.Form.TheVariants.{People, Coloured, Json}
 use Rattle.ts_report.specs.Reports.{status_of}
-use Rattle.ts_perform.specs.Inputs.{Finds, IsSeenFor}
+use Rattle.ts_perform.specs.Inputs.{IsSeenFor}
 use Rattle.ts_perform.specs.Snapshots.{IsPlanned, checkup_of}
-use Rattle.ts_perform.specs.Specials.{FindsSpecial}
-use Rattle.ts_perform.specs.Stands.{IsAt}
+use Rattle.ts_perform.specs.Worlds.{World}
 use Rattle.ts_perform.specs.declared.snapshot.Snapshot.{Snapshot}
 
 abbrev pub form_of : (coloured json : Bool) → Form
@@ -34,7 +32,5 @@ IsPreview k form written status =
 abbrev pub IsPreviewOf : Snapshot → Form → List ℕ → ℕ → Type 0
 IsPreviewOf s form written status = (plan : Plan) × IsPreview (checkup_of s plan) form written status
 
-abbrev pub IsPreviewAt : {F : Type 0} → IsAt F → (F → Option (Listing (List ℕ))) → Finds → FindsSpecial → Pair → Form → List ℕ → ℕ → Type 0
-IsPreviewAt is_at tells finds finds_special pair form written status =
-    (k : Checkup) × IsSeenFor is_at tells finds finds_special pair k.archive k.rules k.first k.second
-    × IsPreview k form written status
+abbrev pub IsPreviewAt : {S F P A L : Type 0} → World S F P A L → Pair → Form → List ℕ → ℕ → Type 0
+IsPreviewAt w pair form written status = (k : Checkup) × IsSeenFor w pair k.archive k.rules k.first k.second × IsPreview k form written status

@@ -7,9 +7,10 @@
 --     Came                                      what came of a plan: the plan and what it was checked against, how its actions ended, and why, why the new archive wasn't written, if it wasn't, and what else is to be said
 --     report_of, faults_of, status_after        what is then reported, on standard output and standard error, and the exit status
 --     HasReported came                          both were written; or one of them could be written in part, and the status is 2
---     IsCarriedOut .. pair came                 the plan is valid for the scans of the pair's replicas, and the results are those of a run of it there, whose archive was written
---     IsRun .. pair name came                   the same of a plan that was read from a file
---     IsSynced .. pair came                     the same of a plan that `resume` made, and not where just one replica took part before
+--     IsRunOf w first second k results words slots  these are of one run, whose commits were made where they stand
+--     IsCarriedOut w pair came                  the plan is valid for the scans of the pair's replicas, and the results are those of a run of it there, whose archive was written
+--     IsRun w pair name came                    the same of a plan that was read from a file
+--     IsSynced w pair came                      the same of a plan that `resume` made, and not where just one replica took part before
 --     RanQuietly Is                             a plan was run, `Is` is said of what came of it, and all was reported; or nothing was written
 --     Ran Is                                    the same, but what recovery has to say of an earlier run's swaps may be reported where nothing was run
 --     Refuses fault                             a broken plan is reported on standard output, every other fault on standard error
@@ -20,6 +21,7 @@ use Rattle.std.specs.Io.KnownBytes.{Appends}
 use Rattle.std.specs.String.{string_bytes}
 use Rattle.ts_name.specs.Paths.{Path}
 use Rattle.ts_board.specs.Archives.{LeftArchive}
+use Rattle.ts_board.specs.Terms.{placed, terms_with}
 use Rattle.ts_board.specs.declared.law.Slot.{Slot}
 use Rattle.ts_cause.specs.declared.cause.Cause.{Cause}
 use Rattle.ts_cause.specs.declared.cause.Cause.TheVariants.{Unknown}
@@ -31,11 +33,11 @@ use Rattle.ts_command.specs.declared.job.Pair.{Pair}
 use Rattle.ts_command.specs.declared.job.Job.TheVariants as job
 use Rattle.ts_disk.specs.declared.notice.Notice.{Notice}
 use Rattle.ts_disk.specs.declared.notice.Notice.TheVariants as notice
+use Rattle.ts_exec.specs.Failures.{or_jammed, setting_with}
 use Rattle.ts_exec.specs.Faults.{fault_number as act_number}
+use Rattle.ts_exec.specs.Outcomes.{IsOutcome}
 use Rattle.ts_exec.specs.declared.outcome.ActionResult.{ActionResult}
 use Rattle.ts_exec.specs.declared.outcome.ActionResult.TheVariants as ended
-use Rattle.ts_folder.specs.declared.fault.Trouble.{Trouble}
-use Rattle.ts_folder.specs.declared.folder.Call.{Call}
 use Rattle.ts_model.specs.Plans.{Broken, Valid}
 use Rattle.ts_model.specs.Texts.{IsPlanText, Line, text}
 use Rattle.ts_model.specs.Trees.{Listing}
@@ -55,13 +57,13 @@ use Rattle.ts_explain.specs.Sentences.{sentence_of}
 use Rattle.ts_explain.specs.declared.skipped.Skipped.{Skipped}
 use Rattle.ts_perform.specs.Failures.{failure_text, notice_text}
 use Rattle.ts_perform.specs.Faults.{kept_line, mount_line}
-use Rattle.ts_perform.specs.Inputs.{Finds, IsReadAt, IsSeenFor}
+use Rattle.ts_perform.specs.Inputs.{IsReadAt, IsSeenFor}
 use Rattle.ts_perform.specs.Pasts.{IsOfBoth}
 use Rattle.ts_perform.specs.Skips.{asked_skips}
 use Rattle.ts_perform.specs.Snapshots.{IsBegun, IsBrokenAt, IsPlanned, IsValidAt, IsValidBegun, valid_text}
-use Rattle.ts_perform.specs.Specials.{FindsSpecial}
-use Rattle.ts_perform.specs.Stands.{IsAt, IsRunOf, IsStaged, Stand}
+use Rattle.ts_perform.specs.Stands.{AreAtStands}
 use Rattle.ts_perform.specs.Trials.{IsQuiet}
+use Rattle.ts_perform.specs.Worlds.{World}
 use Rattle.ts_explain.specs.declared.fault.PerformFault.{PerformFault}
 use Rattle.ts_explain.specs.declared.fault.PerformFault.TheVariants as fault
 
@@ -166,44 +168,50 @@ HasReported command came old new old_faults new_faults status =
 abbrev pub HasKept : {A : Type 0} → (A → Listing Stamp → Type 0) → Checkup → List ℕ → A → Type 0
 HasKept has k words place = (rows : Listing Stamp) × LeftArchive k words rows × has place rows
 
+-- the sites with which the run began, each at its stand, the folders that it read, each at its root and without stand-ins, and the stage of its
+-- pieces, which was asked for by both roots in their order
+pub record IsRunOf {S F P A L : Type 0} (w : World S F P A L) (first second : List ℕ) (checkup : Checkup) (results : List ActionResult) (words : List ℕ)
+    (slots : List (Slot S)) : Type 0 where
+  pub sites : List S
+  pub stands : AreAtStands w.stand first second checkup.plan sites
+  pub from_first : F
+  pub from_second : F
+  pub at_first : w.is_at from_first first []
+  pub at_second : w.is_at from_second second []
+  pub stage : P
+  pub staged : w.is_staged stage first second
+  pub outcome :
+      let t = terms_with w.content checkup.plan checkup.first checkup.second (placed checkup.plan.actions sites) in
+      IsOutcome w.content (or_jammed (w.fails stage) (setting_with w.failures w.tells w.lets checkup from_first from_second t.told)) t results words slots
+
 -- the plan is valid for the archive and the rules that were read for the pair, and the scans of its replicas; the results are those of
 -- one run of it, whose commits were made where they stand; and the archive that this run left was written in the place that has its name,
 -- unless it is lost
-pub record IsCarriedOut {S P F A : Type 0} (stand : S → Stand) (content : S → Option (Listing (List ℕ))) (failures : S → ℕ)
-    (fails : P → Type 0) (is_staged : IsStaged P) (is_at : IsAt F) (tells : F → Option (Listing (List ℕ))) (lets : F → Call → Path → Trouble → Type 0)
-    (is_named : A → List ℕ → Type 0) (has : A → Listing Stamp → Type 0) (finds : Finds) (finds_special : FindsSpecial) (pair : Pair) (came : Came) : Type 0 where
-  pub seen : IsSeenFor is_at tells finds finds_special pair came.checkup.archive came.checkup.rules came.checkup.first came.checkup.second
+pub record IsCarriedOut {S F P A L : Type 0} (w : World S F P A L) (pair : Pair) (came : Came) : Type 0 where
+  pub seen : IsSeenFor w pair came.checkup.archive came.checkup.rules came.checkup.first came.checkup.second
   pub valid : Valid (snapshot_of came.checkup) came.checkup.plan
   pub safe : IsSafe (snapshot_of came.checkup) came.checkup.plan
   pub words : List ℕ
   pub slots : List (Slot S)
-  pub run : IsRunOf stand content failures fails is_staged is_at tells lets pair.first.now pair.second.now came.checkup came.results words slots
-  pub archive : IfNone came.lost ((place : A) × is_named place pair.archive.now × HasKept has came.checkup words place)
+  pub run : IsRunOf w pair.first.now pair.second.now came.checkup came.results words slots
+  pub archive : IfNone came.lost ((place : A) × w.is_named place pair.archive.now × HasKept w.has came.checkup words place)
 
 -- the same of this plan, with what it was checked against
-pub record IsCarriedOutFor {S P F A : Type 0} (k : Checkup) (stand : S → Stand) (content : S → Option (Listing (List ℕ))) (failures : S → ℕ)
-    (fails : P → Type 0) (is_staged : IsStaged P) (is_at : IsAt F) (tells : F → Option (Listing (List ℕ))) (lets : F → Call → Path → Trouble → Type 0)
-    (is_named : A → List ℕ → Type 0) (has : A → Listing Stamp → Type 0) (finds : Finds) (finds_special : FindsSpecial) (pair : Pair) (came : Came) : Type 0 where
+pub record IsCarriedOutFor {S F P A L : Type 0} (w : World S F P A L) (k : Checkup) (pair : Pair) (came : Came) : Type 0 where
   pub checkup : came.checkup ≡ k
-  pub carried_out : IsCarriedOut stand content failures fails is_staged is_at tells lets is_named has finds finds_special pair came
+  pub carried_out : IsCarriedOut w pair came
 
 -- the same of the plan that was read from the file of this name
-pub record IsRun {S P F A : Type 0} (stand : S → Stand) (content : S → Option (Listing (List ℕ))) (failures : S → ℕ)
-    (fails : P → Type 0) (is_staged : IsStaged P) (is_at : IsAt F) (tells : F → Option (Listing (List ℕ))) (lets : F → Call → Path → Trouble → Type 0)
-    (is_named : A → List ℕ → Type 0) (has : A → Listing Stamp → Type 0) (finds : Finds) (finds_special : FindsSpecial) (pair : Pair) (name : List ℕ)
-    (came : Came) : Type 0 where
-  pub plan : IsReadAt finds IsPlanText name came.checkup.plan
-  pub carried_out : IsCarriedOut stand content failures fails is_staged is_at tells lets is_named has finds finds_special pair came
+pub record IsRun {S F P A L : Type 0} (w : World S F P A L) (pair : Pair) (name : List ℕ) (came : Came) : Type 0 where
+  pub plan : IsReadAt w.finds IsPlanText name came.checkup.plan
+  pub carried_out : IsCarriedOut w pair came
 
 -- the same of a plan that `resume` made for the archive, the rules and the scans; and where just one replica took part before, the archive
 -- names no path
-pub record IsSynced {S P F A L : Type 0} (stand : S → Stand) (content : S → Option (Listing (List ℕ))) (failures : S → ℕ)
-    (fails : P → Type 0) (is_staged : IsStaged P) (is_at : IsAt F) (tells : F → Option (Listing (List ℕ))) (lets : F → Call → Path → Trouble → Type 0)
-    (is_named : A → List ℕ → Type 0) (has : A → Listing Stamp → Type 0) (finds : Finds) (finds_special : FindsSpecial)
-    (is_locked : Option L → List ℕ → Type 0) (took stopped : L → Bool → Type 0) (pair : Pair) (came : Came) : Type 0 where
+pub record IsSynced {S F P A L : Type 0} (w : World S F P A L) (pair : Pair) (came : Came) : Type 0 where
   pub planned : IsPlanned came.checkup
-  pub both : IsOfBoth is_locked took stopped pair came.checkup.archive
-  pub carried_out : IsCarriedOut stand content failures fails is_staged is_at tells lets is_named has finds finds_special pair came
+  pub both : IsOfBoth w pair came.checkup.archive
+  pub carried_out : IsCarriedOut w pair came
 
 -- ---- what is answered
 

@@ -5,7 +5,8 @@
 --     IsUnchecked k fault            why a plan isn't taken: memory ran out, or it breaks this rule first, and here
 --     IsPrintout k written status    the text of a plan that `resume` makes, with status 0
 --     IsPrintoutOf s written status  the same of some plan for this snapshot
---     IsCheckupAt .. pair name k     the plan that was read from this file, with the archive, the prints and the rules of a pair
+--     IsPrintoutAt w pair written status  the same of scans of a pair's replicas, and of the archive and the rules that were read for it
+--     IsCheckupAt w pair name k     the plan that was read from this file, with the archive, the prints and the rules of a pair
 --     Judges Is old new result       a plan of which `Is` is said is valid, and its line was written; or it breaks a rule, or there was a fault
 --     Prints Says old new result     a text with this said of it and of the status was written; or there was a fault, and nothing or a beginning of one was
 --     PrintsAlone Says ..            the same, and nothing was written to standard error
@@ -20,11 +21,9 @@ use Rattle.ts_check.specs.Checkup.{Checkup, snapshot_of}
 use Rattle.ts_plan_build.specs.Planned.{IsPastLimit}
 use Rattle.ts_plan_build.specs.Resumed.{EndsAsBegun, IsTooMuch}
 use Rattle.ts_command.specs.declared.job.Pair.{Pair}
-use Rattle.ts_model.specs.Trees.{Listing}
-use Rattle.ts_perform.specs.Inputs.{Finds, IsReadAt, IsSeenFor}
-use Rattle.ts_perform.specs.Specials.{FindsSpecial}
-use Rattle.ts_perform.specs.Stands.{IsAt}
+use Rattle.ts_perform.specs.Inputs.{IsReadAt, IsSeenFor}
 use Rattle.ts_perform.specs.Trials.{IsQuiet}
+use Rattle.ts_perform.specs.Worlds.{World}
 use Rattle.ts_explain.specs.declared.fault.PerformFault.{PerformFault}
 use Rattle.ts_explain.specs.declared.fault.PerformFault.TheVariants as fault
 use Rattle.ts_perform.specs.declared.snapshot.Snapshot.{Snapshot}
@@ -51,16 +50,13 @@ abbrev pub IsPrintoutOf : Snapshot → List ℕ → ℕ → Type 0
 IsPrintoutOf s written status = (plan : Plan) × IsPrintout (checkup_of s plan) written status
 
 -- the same of scans of a pair's replicas, and of the archive and the rules that were read for it
-abbrev pub IsPrintoutAt : {F : Type 0} → IsAt F → (F → Option (Listing (List ℕ))) → Finds → FindsSpecial → Pair → List ℕ → ℕ → Type 0
-IsPrintoutAt is_at tells finds finds_special pair written status =
-    (k : Checkup) × IsSeenFor is_at tells finds finds_special pair k.archive k.rules k.first k.second
-    × IsPrintout k written status
+abbrev pub IsPrintoutAt : {S F P A L : Type 0} → World S F P A L → Pair → List ℕ → ℕ → Type 0
+IsPrintoutAt w pair written status = (k : Checkup) × IsSeenFor w pair k.archive k.rules k.first k.second × IsPrintout k written status
 
 -- scans of a pair's replicas, the archive and the rules that were read for it, and the plan that was read from the file of this name
-pub record IsCheckupAt {F : Type 0} (is_at : IsAt F) (tells : F → Option (Listing (List ℕ))) (finds : Finds) (finds_special : FindsSpecial) (pair : Pair)
-    (name : List ℕ) (k : Checkup) : Type 0 where
-  pub seen : IsSeenFor is_at tells finds finds_special pair k.archive k.rules k.first k.second
-  pub plan : IsReadAt finds IsPlanText name k.plan
+pub record IsCheckupAt {S F P A L : Type 0} (w : World S F P A L) (pair : Pair) (name : List ℕ) (k : Checkup) : Type 0 where
+  pub seen : IsSeenFor w pair k.archive k.rules k.first k.second
+  pub plan : IsReadAt w.finds IsPlanText name k.plan
 
 abbrev pub valid_text : List ℕ
 valid_text = text (codes "valid" ∷ [])

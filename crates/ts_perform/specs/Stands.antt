@@ -5,19 +5,11 @@
 --     AreAtStands stand first second plan sites   the sites' commits are made where those of the plan are, one after another
 --     IsScanOf is_at tells root special print   the print was made of a folder that was asked for by this root, with stand-ins at these paths
 --     AreScans is_at tells pair special ..      the two prints were, each of its own root, with its own stand-ins
---     IsRunOf                     results, words and slots are those of one run, whose commits were made where they stand
 use Rattle.std.specs.Prelude.{◌≡◌, ℕ, List, [], ◌∷◌, Option, Some, None, IfSome, map, slice_get}
 use Rattle.ts_name.specs.Paths.{Path}
-use Rattle.ts_board.specs.Terms.{placed, terms_with}
-use Rattle.ts_board.specs.declared.law.Slot.{Slot}
-use Rattle.ts_check.specs.Checkup.{Checkup}
-use Rattle.ts_exec.specs.Failures.{of_side, or_jammed, setting_with}
-use Rattle.ts_exec.specs.Outcomes.{IsOutcome}
-use Rattle.ts_exec.specs.declared.outcome.ActionResult.{ActionResult}
+use Rattle.ts_exec.specs.Failures.{of_side}
 use Rattle.ts_command.specs.declared.job.Pair.{Pair}
 use Rattle.ts_perform.specs.declared.special.SpecialPaths.{SpecialPaths}
-use Rattle.ts_folder.specs.declared.fault.Trouble.{Trouble}
-use Rattle.ts_folder.specs.declared.folder.Call.{Call}
 use Rattle.ts_model.specs.Plans.{other, source}
 use Rattle.ts_model.specs.Trees.{Listing, at, print_of}
 use Rattle.ts_model.specs.declared.plan.Action.{Action}
@@ -84,21 +76,3 @@ pub record AreScans {F : Type 0} (is_at : IsAt F) (tells : F → Option (Listing
     (first second : Listing Stamp) : Type 0 where
   pub of_first : IsScanOf is_at tells pair.first.now special.first first
   pub of_second : IsScanOf is_at tells pair.second.now special.second second
-
--- the sites with which the run began, each at its stand, the folders that it read, each at its root and without stand-ins, and the stage of its
--- pieces, which was asked for by both roots in their order
-pub record IsRunOf {S P F : Type 0} (stand : S → Stand) (content : S → Option (Listing (List ℕ))) (failures : S → ℕ)
-    (fails : P → Type 0) (is_staged : IsStaged P) (is_at : IsAt F)
-    (tells : F → Option (Listing (List ℕ))) (lets : F → Call → Path → Trouble → Type 0) (first second : List ℕ) (checkup : Checkup)
-    (results : List ActionResult) (words : List ℕ) (slots : List (Slot S)) : Type 0 where
-  pub sites : List S
-  pub stands : AreAtStands stand first second checkup.plan sites
-  pub from_first : F
-  pub from_second : F
-  pub at_first : is_at from_first first []
-  pub at_second : is_at from_second second []
-  pub stage : P
-  pub staged : is_staged stage first second
-  pub outcome :
-      let t = terms_with content checkup.plan checkup.first checkup.second (placed checkup.plan.actions sites) in
-      IsOutcome content (or_jammed (fails stage) (setting_with failures tells lets checkup from_first from_second t.told)) t results words slots

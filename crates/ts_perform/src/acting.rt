@@ -8,8 +8,10 @@ ghost use Rattle.ts_board.specs.Terms.{commit_count};
 ghost use Rattle.ts_exec.specs.Failures.{of_side};
 ghost use Rattle.ts_perform.specs.Puts.{put_path, put_paths};
 ghost use Rattle.ts_perform.specs.Runs.{HasKept};
-ghost use Rattle.ts_perform.specs.Stands.{AreAtStands, IsRunOf, source_root, target_root};
+ghost use Rattle.ts_perform.specs.Stands.{AreAtStands, source_root, target_root};
 ghost use Rattle.ts_perform.specs.Trials.{IsQuiet};
+ghost use Rattle.ts_perform.specs.Runs.{IsRunOf};
+ghost use Rattle.ts_perform.specs.Worlds.{world};
 
 use crate::counting::{Folders, run_counted};
 use crate::disk::{Disk, Machine};
@@ -44,7 +46,7 @@ pub(crate) fn act<R: Machine>(
     ensures words { IfOk result (λ came. length checked.now.plan.actions ≤ slots_len came.0.closed.row.words) }
     ensures slots { IfOk result (λ came. length checked.now.plan.actions ≤ slots_len came.0.closed.row.slots) }
     ensures ended { IfOk result (λ came. HasEnded checked.now (words_of came.0.closed)) }
-    ensures stands { IfOk result (λ came. IsRunOf R.stand R.Site.content R.Site.failures R.Stage.fails R.is_staged R.is_at R.Folder.tells R.Folder.lets
+    ensures stands { IfOk result (λ came. IsRunOf (world R.Disk R.Site.Site R.Folder.Folder R.Stage.Stage)
         task.now.pair.now.first.now task.now.pair.now.second.now checked.now came.0.results.items (words_of came.0.closed) (slots_of came.0.closed)) }
     ensures quiet { IfErr result IsQuiet }
 {

@@ -112,7 +112,8 @@ pub(crate) fn run_counted<R: Machine, K: Keeper>(
     requires few { workers ≤ 64 }
     requires every { (1 ≤ every) × (every ≤ 1048576) }
     requires sites { length sites.items ≡ commit_count checked.now.plan.actions }
-    ensures outcome { IfOk result (IsOutcomeOf (setting_over R.Site.Site R.Folder.Folder R.Stage.Stage checked.now folders.now.first.now folders.now.second.now sites.items stage.now)) }
+    ensures outcome { IfOk result (IsOutcomeOf (setting_over R.Site.Site R.Folder.Folder R.Stage.Stage
+        checked.now folders.now.first.now folders.now.second.now sites.items stage.now)) }
     ensures ended { IfOk result (λ o. HasEnded checked.now (words_of o.closed)) }
     ensures wide { IfOk result (λ o. HasPlaces o.closed (length checked.now.plan.actions)) }
     ensures quiet { IfErr result IsQuiet }

@@ -8,6 +8,7 @@ ghost use Rattle.ts_perform.specs.Printouts.{IsBodyOf, IsScanText, IsShown, IsTo
 ghost use Rattle.ts_perform.specs.Runs.{AnswersOne, AnswersRun, IsRun, IsSynced, Ran, Refuses};
 ghost use Rattle.ts_perform.specs.Snapshots.{IsCheckupAt, IsPrintoutAt, Judges, Prints, PrintsAlone};
 ghost use Rattle.ts_perform.specs.Trials.{Answers, IfApart, IsQuiet};
+ghost use Rattle.ts_perform.specs.Worlds.{world};
 ghost use Rattle.ts_trial.specs.Answers.{WritesOne};
 
 use crate::answers::write_refusal;
@@ -47,23 +48,22 @@ pub fn perform<R: Machine, I: Source + SaysCause + Drop, O: Sink + SaysCause, E:
         (O.holds out.old) (O.holds out.new) (E.holds err.old) (E.holds err.new) result) }
     ensures trial { command.now.job ≡ Job.Trial → IfApart (I.holds input) (λ bytes. Answers (Trial bytes)
         (O.holds out.old) (O.holds out.new) result) }
-    ensures scan { IfScan command.now.job (λ root. AnswersOne command.now (IsScanText R.is_at R.Folder.tells root)
+    ensures scan { IfScan command.now.job (λ root. AnswersOne command.now (IsScanText (world R.Disk R.Site.Site R.Folder.Folder R.Stage.Stage) root)
         (O.holds out.old) (O.holds out.new) (E.holds err.old) (E.holds err.new) result) }
     ensures show { IfShow command.now.job (λ name. AnswersOne command.now (IsShown R.finds name)
         (O.holds out.old) (O.holds out.new) (E.holds err.old) (E.holds err.new) result) }
-    ensures plan { IfPlan command.now.job (λ pair. AnswersPending R.awaits command.now pair (IsPrintoutAt R.is_at R.Folder.tells R.finds R.finds_special pair)
+    ensures plan { IfPlan command.now.job (λ pair. AnswersPending R.awaits command.now pair
+        (IsPrintoutAt (world R.Disk R.Site.Site R.Folder.Folder R.Stage.Stage) pair)
         (O.holds out.old) (O.holds out.new) (E.holds err.old) (E.holds err.new) result) }
     ensures preview { IfPreview command.now.job (λ pair json. AnswersPending R.awaits command.now pair
-        (IsPreviewAt R.is_at R.Folder.tells R.finds R.finds_special pair (form_of command.now.coloured json))
+        (IsPreviewAt (world R.Disk R.Site.Site R.Folder.Folder R.Stage.Stage) pair (form_of command.now.coloured json))
         (O.holds out.old) (O.holds out.new) (E.holds err.old) (E.holds err.new) result) }
-    ensures check { IfCheck command.now.job (λ pair plan. AnswersVerdictPending R.awaits command.now pair (IsCheckupAt R.is_at R.Folder.tells R.finds R.finds_special pair plan)
+    ensures check { IfCheck command.now.job (λ pair plan. AnswersVerdictPending R.awaits command.now pair
+        (IsCheckupAt (world R.Disk R.Site.Site R.Folder.Folder R.Stage.Stage) pair plan)
         (O.holds out.old) (O.holds out.new) (E.holds err.old) (E.holds err.new) result) }
-    ensures run { IfRun command.now.job (λ pair plan. AnswersRun command.now (IsRun
-        R.stand R.Site.content R.Site.failures R.Stage.fails R.is_staged R.is_at R.Folder.tells R.Folder.lets R.is_named R.has R.finds R.finds_special pair plan)
+    ensures run { IfRun command.now.job (λ pair plan. AnswersRun command.now (IsRun (world R.Disk R.Site.Site R.Folder.Folder R.Stage.Stage) pair plan)
         (O.holds out.old) (O.holds out.new) (E.holds err.old) (E.holds err.new) result) }
-    ensures sync { IfSync command.now.job (λ pair. AnswersRun command.now (IsSynced
-        R.stand R.Site.content R.Site.failures R.Stage.fails R.is_staged R.is_at R.Folder.tells R.Folder.lets R.is_named R.has
-        R.finds R.finds_special R.is_locked R.took R.stopped pair)
+    ensures sync { IfSync command.now.job (λ pair. AnswersRun command.now (IsSynced (world R.Disk R.Site.Site R.Folder.Folder R.Stage.Stage) pair)
         (O.holds out.old) (O.holds out.new) (E.holds err.old) (E.holds err.new) result) }
 {
     match answer(rt, command, input, out, err) {
@@ -113,23 +113,22 @@ fn answer<R: Machine, I: Source + SaysCause + Drop, O: Sink, E: Sink>(
     ensures trial { command.now.job ≡ Job.Trial → IfApart (I.holds input) (λ bytes. WritesOne (Trial bytes)
         (O.holds out.old) (O.holds out.new) result) }
     ensures quiet { command.now.job ≡ Job.Trial → IfErr result IsQuiet }
-    ensures scan { IfScan command.now.job (λ root. PrintsAlone (IsScanText R.is_at R.Folder.tells root)
+    ensures scan { IfScan command.now.job (λ root. PrintsAlone (IsScanText (world R.Disk R.Site.Site R.Folder.Folder R.Stage.Stage) root)
         (O.holds out.old) (O.holds out.new) (E.holds err.old) (E.holds err.new) result) }
     ensures show { IfShow command.now.job (λ name. PrintsAlone (IsShown R.finds name)
         (O.holds out.old) (O.holds out.new) (E.holds err.old) (E.holds err.new) result) }
-    ensures plan { IfPlan command.now.job (λ pair. PrintsPending R.awaits command.now pair (IsPrintoutAt R.is_at R.Folder.tells R.finds R.finds_special pair)
+    ensures plan { IfPlan command.now.job (λ pair. PrintsPending R.awaits command.now pair
+        (IsPrintoutAt (world R.Disk R.Site.Site R.Folder.Folder R.Stage.Stage) pair)
         (O.holds out.old) (O.holds out.new) (E.holds err.old) (E.holds err.new) result) }
     ensures preview { IfPreview command.now.job (λ pair json. PrintsPending R.awaits command.now pair
-        (IsPreviewAt R.is_at R.Folder.tells R.finds R.finds_special pair (form_of command.now.coloured json))
+        (IsPreviewAt (world R.Disk R.Site.Site R.Folder.Folder R.Stage.Stage) pair (form_of command.now.coloured json))
         (O.holds out.old) (O.holds out.new) (E.holds err.old) (E.holds err.new) result) }
-    ensures check { IfCheck command.now.job (λ pair plan. JudgesPending R.awaits command.now pair (IsCheckupAt R.is_at R.Folder.tells R.finds R.finds_special pair plan)
+    ensures check { IfCheck command.now.job (λ pair plan. JudgesPending R.awaits command.now pair
+        (IsCheckupAt (world R.Disk R.Site.Site R.Folder.Folder R.Stage.Stage) pair plan)
         (O.holds out.old) (O.holds out.new) (E.holds err.old) (E.holds err.new) result) }
-    ensures run { IfRun command.now.job (λ pair plan. Ran command.now (IsRun
-        R.stand R.Site.content R.Site.failures R.Stage.fails R.is_staged R.is_at R.Folder.tells R.Folder.lets R.is_named R.has R.finds R.finds_special pair plan)
+    ensures run { IfRun command.now.job (λ pair plan. Ran command.now (IsRun (world R.Disk R.Site.Site R.Folder.Folder R.Stage.Stage) pair plan)
         (O.holds out.old) (O.holds out.new) (E.holds err.old) (E.holds err.new) result) }
-    ensures sync { IfSync command.now.job (λ pair. Ran command.now (IsSynced
-        R.stand R.Site.content R.Site.failures R.Stage.fails R.is_staged R.is_at R.Folder.tells R.Folder.lets R.is_named R.has
-        R.finds R.finds_special R.is_locked R.took R.stopped pair)
+    ensures sync { IfSync command.now.job (λ pair. Ran command.now (IsSynced (world R.Disk R.Site.Site R.Folder.Folder R.Stage.Stage) pair)
         (O.holds out.old) (O.holds out.new) (E.holds err.old) (E.holds err.new) result) }
 {
     let workers = command.workers;
@@ -201,7 +200,7 @@ fn print_scan<R: Machine, O: Sink>(
     folder: &str,
     out: &mut O,
 ) -> Result<u8, PerformFault>
-    ensures { Prints (IsScanText R.is_at R.Folder.tells folder.now) (O.holds out.old) (O.holds out.new) result }
+    ensures { Prints (IsScanText (world R.Disk R.Site.Site R.Folder.Folder R.Stage.Stage) folder.now) (O.holds out.old) (O.holds out.new) result }
 {
     let print = match scan_folder(rt, progress, folder, command.workers) {
         Ok(print) => print,
@@ -245,7 +244,7 @@ fn print_body<O: Sink>(alloc: Global, archive: &Print, out: &mut O) -> Result<u8
 
 /// Prints a plan for the pair.
 fn print_plan<R: Machine, O: Sink>(task: &Task<'_, R>, out: &mut O) -> Result<u8, PerformFault>
-    ensures { Prints (IsPrintoutAt R.is_at R.Folder.tells R.finds R.finds_special task.now.pair.now) (O.holds out.old) (O.holds out.new) result }
+    ensures { Prints (IsPrintoutAt (world R.Disk R.Site.Site R.Folder.Folder R.Stage.Stage) task.now.pair.now) (O.holds out.old) (O.holds out.new) result }
 {
     let snapshot = Snapshot::read(task)?;
     snapshot.print_plan(task.rt.alloc(), out)
@@ -257,7 +256,7 @@ fn check_plan<R: Machine, O: Sink>(
     plan: &str,
     out: &mut O,
 ) -> Result<u8, PerformFault>
-    ensures { Judges (IsCheckupAt R.is_at R.Folder.tells R.finds R.finds_special task.now.pair.now plan.now)
+    ensures { Judges (IsCheckupAt (world R.Disk R.Site.Site R.Folder.Folder R.Stage.Stage) task.now.pair.now plan.now)
         (O.holds out.old) (O.holds out.new) result }
 {
     let (snapshot, plan) = Snapshot::read_for(task, plan)?;

@@ -2,6 +2,7 @@
 ghost use Rattle.std.specs.Prelude.{◌≡◌};
 ghost use Rattle.ts_perform.specs.Previewing.{IsPreviewAt, IsPreviewOf, form_of};
 ghost use Rattle.ts_perform.specs.Snapshots.{IsPlanned, Prints, checkup_of};
+ghost use Rattle.ts_perform.specs.Worlds.{world};
 
 use crate::disk::Machine;
 use crate::fault::{PerformFault, on_output};
@@ -68,7 +69,7 @@ pub(crate) fn preview<R: Machine, O: Sink>(
     form: Form,
     out: &mut O,
 ) -> Result<u8, PerformFault>
-    ensures { Prints (IsPreviewAt R.is_at R.Folder.tells R.finds R.finds_special task.now.pair.now form) (O.holds out.old) (O.holds out.new) result }
+    ensures { Prints (IsPreviewAt (world R.Disk R.Site.Site R.Folder.Folder R.Stage.Stage) task.now.pair.now form) (O.holds out.old) (O.holds out.new) result }
 {
     let snapshot = Snapshot::read(task)?;
     snapshot.print_preview(task.rt.alloc(), task.pair, form, out)

@@ -99,7 +99,8 @@ pub(crate) fn report_all<O: Sink, E: Sink>(
     requires count { length ended.now.results.items ≡ length checked.now.plan.actions }
     ensures report { Writes (O.holds out.old) (O.holds out.new) (run_report checked.now.plan ended.now.results.items) result }
     ensures faults { Writes (E.holds err.old) (E.holds err.new)
-        (text (run_faults command.now checked.now.plan ended.now.results.items causes.now (lost_by kept) ++ remark_lines command.now remarks.now.notices.now remarks.now.skips.now)) result }
+        (text (run_faults command.now checked.now.plan ended.now.results.items causes.now (lost_by kept)
+        ++ remark_lines command.now remarks.now.notices.now remarks.now.skips.now)) result }
     ensures status { IfOk result (λ status. status ≡ run_status checked.now.plan ended.now.results.items (lost_by kept)) }
 {
     let status = report_outcome(alloc, command, checked, ended, causes, kept, out, err)?;

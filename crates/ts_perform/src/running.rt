@@ -6,6 +6,7 @@ ghost use Rattle.ts_perform.specs.Pasts.{IsPastOf, SaysNew, SaysOneNew};
 ghost use Rattle.ts_perform.specs.Runs.{BeginsNotices, IsCarriedOutFor, IsRun, IsSynced, Ran, RanQuietly};
 ghost use Rattle.ts_perform.specs.Snapshots.{checkup_of, IsPlanned};
 ghost use Rattle.ts_perform.specs.Trials.{IsQuiet};
+ghost use Rattle.ts_perform.specs.Worlds.{world};
 
 use crate::acting::{act, keep_archive, replica};
 use crate::causes::causes_of;
@@ -43,8 +44,7 @@ impl<R: Machine> Task<'_, R> {
         out: &mut O,
         err: &mut E,
     ) -> Result<u8, PerformFault>
-        ensures ran { Ran self.now.command.now (IsRun
-            R.stand R.Site.content R.Site.failures R.Stage.fails R.is_staged R.is_at R.Folder.tells R.Folder.lets R.is_named R.has R.finds R.finds_special self.now.pair.now plan.now)
+        ensures ran { Ran self.now.command.now (IsRun (world R.Disk R.Site.Site R.Folder.Folder R.Stage.Stage) self.now.pair.now plan.now)
             (O.holds out.old) (O.holds out.new) (E.holds err.old) (E.holds err.new) result }
     {
         let mut claims = self.claim()?;
@@ -60,9 +60,7 @@ impl<R: Machine> Task<'_, R> {
         out: &mut O,
         err: &mut E,
     ) -> Result<u8, PerformFault>
-        ensures ran { Ran self.now.command.now (IsSynced
-            R.stand R.Site.content R.Site.failures R.Stage.fails R.is_staged R.is_at R.Folder.tells R.Folder.lets R.is_named R.has
-            R.finds R.finds_special R.is_locked R.took R.stopped self.now.pair.now)
+        ensures ran { Ran self.now.command.now (IsSynced (world R.Disk R.Site.Site R.Folder.Folder R.Stage.Stage) self.now.pair.now)
             (O.holds out.old) (O.holds out.new) (E.holds err.old) (E.holds err.new) result }
     {
         let mut claims = self.claim()?;
@@ -237,8 +235,7 @@ impl<R: Machine> Task<'_, R> {
         out: &mut O,
         err: &mut E,
     ) -> Result<u8, PerformFault>
-        ensures ran { RanQuietly self.now.command.now (IsRun
-            R.stand R.Site.content R.Site.failures R.Stage.fails R.is_staged R.is_at R.Folder.tells R.Folder.lets R.is_named R.has R.finds R.finds_special self.now.pair.now plan.now)
+        ensures ran { RanQuietly self.now.command.now (IsRun (world R.Disk R.Site.Site R.Folder.Folder R.Stage.Stage) self.now.pair.now plan.now)
             (O.holds out.old) (O.holds out.new) (E.holds err.old) (E.holds err.new) result }
     {
         self.recover(notices)?;
@@ -257,9 +254,7 @@ impl<R: Machine> Task<'_, R> {
     ) -> Result<u8, PerformFault>
         requires first { R.is_locked claims.old.first self.now.pair.now.first.now }
         requires second { R.is_locked claims.old.second self.now.pair.now.second.now }
-        ensures ran { RanQuietly self.now.command.now (IsSynced
-            R.stand R.Site.content R.Site.failures R.Stage.fails R.is_staged R.is_at R.Folder.tells R.Folder.lets R.is_named R.has
-            R.finds R.finds_special R.is_locked R.took R.stopped self.now.pair.now)
+        ensures ran { RanQuietly self.now.command.now (IsSynced (world R.Disk R.Site.Site R.Folder.Folder R.Stage.Stage) self.now.pair.now)
             (O.holds out.old) (O.holds out.new) (E.holds err.old) (E.holds err.new) result }
     {
         self.recover(notices)?;
@@ -282,10 +277,10 @@ impl<R: Machine> Task<'_, R> {
         err: &mut E,
     ) -> Result<u8, PerformFault>
         requires plan { IsPlan plan.now }
-        requires seen { IsSeenFor R.is_at R.Folder.tells R.finds R.finds_special self.now.pair.now
+        requires seen { IsSeenFor (world R.Disk R.Site.Site R.Folder.Folder R.Stage.Stage) self.now.pair.now
             snapshot.now.archive snapshot.now.holds snapshot.now.first snapshot.now.second }
-        ensures ran { RanQuietly self.now.command.now (IsCarriedOutFor (checkup_of snapshot.now plan.now)
-            R.stand R.Site.content R.Site.failures R.Stage.fails R.is_staged R.is_at R.Folder.tells R.Folder.lets R.is_named R.has R.finds R.finds_special self.now.pair.now)
+        ensures ran { RanQuietly self.now.command.now (IsCarriedOutFor (world R.Disk R.Site.Site R.Folder.Folder R.Stage.Stage)
+            (checkup_of snapshot.now plan.now) self.now.pair.now)
             (O.holds out.old) (O.holds out.new) (E.holds err.old) (E.holds err.new) result }
     {
         let alloc = self.rt.alloc();
