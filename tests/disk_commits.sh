@@ -194,6 +194,28 @@ left() {
   fi
 }
 
+# killed_after NAME EDIT: makes the edit right before the target is set aside, and kills the run right after it was: nobody has
+# looked at what lies aside then. The run after that leaves what was saved where it was.
+killed_after() {
+  local name="$1, from $from" side=enter end
+  call_of "$(aside)"
+  : >log
+  strace -D -qq -f -o log -e signal=none -e inject="$call:delay_enter=3000000:delay_exit=120000000:when=$number" \
+    "$program" "${sync[@]}" --workers 1 >out 2>err &
+  child=$!
+  end=$((SECONDS + 60))
+  until is_held || [ "$SECONDS" -ge "$end" ] || ! kill -0 "$child" 2>/dev/null; do sleep 0.005; done
+  edit_now "$2"
+  holds_true "$name: the edit comes in time" test ! -e "$to/.twosync/old-0"
+  until_there "$to/.twosync/old-0"
+  holds_true "$name: it is killed with the target aside" test -e "$to/.twosync/old-0" -a ! -e "$to/f"
+  kill -KILL "$child" "$(awk '/^TracerPid:/ { print $2 }' "/proc/$child/status")" 2>/dev/null
+  wait "$child" 2>/dev/null
+  expect "$name: the run after that" 1 $'skip conflict /f\ntotal 1 done 0 skipped 1 failed 0 blocked 0' '' "${sync[@]}"
+  holds_true "$name: what was saved is there" diff -r -x .twosync "$to" wanted
+  holds_true "$name: nothing is left in .twosync" test -z "$(find first/.twosync second/.twosync -mindepth 1)"
+}
+
 # changes KIND: what the source became: another file, a folder, nothing
 changes() {
   rm -rf "$from/f"
@@ -299,6 +321,14 @@ for role in "${roles[@]}"; do
     held_at "a deletion, while nothing is there ($edit)" "$(aside)" exit "[ ! -e $to/f ]" "edit_$edit"
     holds_true "a deletion, while nothing is there ($edit), from $from: it stays" diff -r -x .twosync "$to" wanted
   done
+  for edit in by_renaming other_length; do
+    had file
+    changes nothing
+    killed_after "a deletion that is killed ($edit)" "edit_$edit"
+  done
+  had folder
+  changes nothing
+  killed_after 'the deletion of a folder that is killed' edit_inside
   # a link to a folder outside takes the place of the target's folder between the look and the call, which follows it: a look
   # after the call notices that, and nothing outside has changed at the end
   edit_link() { mv "$to/d" "$to/was" && ln -s ../outside "$to/d"; }

@@ -9,14 +9,16 @@ ghost use Rattle.ts_swap.specs.Leavings.{Counts};
 
 use crate::fault::DiskFault;
 use crate::leftover::{Aside, move_to_free, remove_at};
+use crate::modes::PRIVATE_FILE;
 use crate::names::{KEPT, MADE};
 use crate::place::{
     Standing, are_one, is_same, kind_at, look_at, make_own, metadata_at, own_place, stage_place,
 };
 use crate::staging::{Bits, write_tree};
 use std::alloc::Global;
-use std::fs::{Files, Metadata};
+use std::fs::{Files, Metadata, OpenOptions};
 use std::io::ErrorKind;
+use std::os::unix::fs::OpenOptionsExt;
 use std::{fs, io};
 use ts_cause::{Cause, cause_of};
 use ts_model::items::Items;
@@ -228,6 +230,15 @@ impl<R: Files + AllocGlobal + Clone + Drop> DiskPlaces<R> {
                 remove_at(&self.files, self.place(spot))
             }
         }
+    }
+
+    /// Puts an empty file at the new spot, where nothing stands. As long as it is there, recovery takes what lies aside for
+    /// something that has to go back.
+    pub(crate) fn mark(&self) -> io::Result<()> {
+        let mut options = OpenOptions::new();
+        options.write(true).create_new(true).mode(PRIVATE_FILE);
+        let _mark = options.open(&self.files, self.place(Spot::New))?;
+        Ok(())
     }
 
     /// Removes what stands at a spot, or renames it to a free `.twosync/trash-N` where it can't be removed.

@@ -120,7 +120,7 @@ impl<'a> Replacement<'a> {
     /// Puts what is staged at the new spot, and moves it to the target from there. What is at the target goes where nothing is
     /// staged. After a failure it is told what was refused, and `settle` brings the swap to its end.
     pub(crate) fn replace(&mut self) -> Result<(), Failed> {
-        let is_wanted = !self.staged.wanted().is_empty();
+        let is_wanted = !self.is_deletion();
         if is_wanted {
             self.put_together()?;
         }
@@ -153,12 +153,16 @@ impl<'a> Replacement<'a> {
     }
 
     /// Compares what lies at the target, and moves it aside. Where that was changed in between, it is put back; and where
-    /// something else has come there by then, it is kept.
+    /// something else has come there by then, it is kept. Of a deletion a mark says until it was looked at that it isn't to be
+    /// removed: a stop in between would look like one that ended.
     fn set_aside(&mut self) -> io::Result<()>
         ensures { self.new.places.failures ≡ self.old.places.failures }
     {
         self.compare()?;
         self.places.make_own()?;
+        if self.is_deletion() {
+            self.places.mark()?;
+        }
         match self.places.move_over(Spot::Target, Spot::Old) {
             Ok(()) => {}
             // it went after it was compared
@@ -207,6 +211,22 @@ impl<'a> Replacement<'a> {
         Err(self.refuse(refusal))
     }
 
+    /// Whether nothing comes to the target.
+    fn is_deletion(&self) -> bool {
+        self.staged.wanted().is_empty()
+    }
+
+    /// Whether what lies aside may be removed: it is what was compared, and no mark says any more that it has to go back.
+    fn may_go(&self) -> io::Result<bool> {
+        if !self.is_untouched()? {
+            return Ok(false);
+        }
+        if self.is_deletion() {
+            self.places.clear(Spot::New)?;
+        }
+        Ok(true)
+    }
+
     /// Whether what lies aside is what was compared.
     fn is_untouched(&self) -> io::Result<bool> {
         let aside = self.places.place(Spot::Old);
@@ -236,7 +256,7 @@ impl<'a> Replacement<'a> {
     fn remove_aside(&mut self) -> io::Result<()>
         ensures { self.new.places.failures ≡ self.old.places.failures }
     {
-        match self.is_untouched() {
+        match self.may_go() {
             Ok(true) => self.places.clear(Spot::Old),
             Ok(false) => {
                 self.is_late = true;
@@ -302,7 +322,7 @@ impl<'a> Replacement<'a> {
     /// Puts back what was changed aside after the new tree was put in place, unless others have taken the target by then. What
     /// they made of the new tree meanwhile is kept.
     fn put_back(&mut self) {
-        let is_gone = self.staged.wanted().is_empty();
+        let is_gone = self.is_deletion();
         let is_ours = !is_gone
             && self.is_as_staged(Spot::Target)
             && self.places.move_over(Spot::Target, Spot::New).is_ok();
@@ -310,7 +330,9 @@ impl<'a> Replacement<'a> {
         if !is_free || self.places.move_over(Spot::Old, Spot::Target).is_err() {
             let _ = self.places.keep_for_notice(Spot::Old);
         }
-        if is_ours {
+        if is_gone {
+            let _ = self.remove_new();
+        } else if is_ours {
             if self.is_as_staged(Spot::New) {
                 let _ = self.places.clear(Spot::New);
             } else {
@@ -333,17 +355,15 @@ impl<'a> Replacement<'a> {
     }
 
     /// Moves the original back to the target, or keeps it where it can't go back, since others have taken the target or its
-    /// directory is gone. Where that fails the original stays aside and the new tree in its place, for recovery; where there
-    /// is no new tree, recovery would take what lies aside for something to be removed, so it is kept.
+    /// directory is gone. Where that fails the original stays aside and the new tree, or a mark, in its place, for recovery; what
+    /// was to be deleted is kept rather.
     fn go_back(&self) -> bool {
         match self.places.move_over(Spot::Old, Spot::Target) {
             Ok(()) => true,
             Err(e) if is_taken(&e) || e.kind() == ErrorKind::NotFound => {
                 self.places.drop_name(Spot::Old) || self.places.keep_for_notice(Spot::Old).is_ok()
             }
-            Err(_) => {
-                self.staged.wanted().is_empty() && self.places.keep_for_notice(Spot::Old).is_ok()
-            }
+            Err(_) => { self.is_deletion() && self.places.keep_for_notice(Spot::Old).is_ok() }
         }
     }
 
