@@ -25,7 +25,7 @@ fn plan_place(alloc: Global, root: &str) -> Result<String, AllocError>
 }
 
 /// Writes the plan to `.twosync/plan` in a replica's root, in place of the file that is there: first whole under another name,
-/// `.twosync/plan.new`. It has reached the device when the call ends. After a fault nothing is left under that other name, where it
+/// `.twosync/plan.new`. It has reached the device when the call ends, and so has the directory's own name. After a fault nothing is left under that other name, where it
 /// can be removed.
 pub fn save_plan<R: Files>(
     files: &R,
@@ -40,7 +40,8 @@ pub fn save_plan<R: Files>(
     let place = plan_place(alloc, root)?;
     let new = format!(in alloc; "{place}.new")?;
     put_plan(files, alloc, new.as_str(), place.as_str(), plan)?;
-    flush_dir(files, own.as_str()).map_err(failed)
+    flush_dir(files, own.as_str()).map_err(failed)?;
+    flush_dir(files, root).map_err(failed)
 }
 
 /// Writes a plan whole at one place, and renames it to another. After a fault nothing is left at the former, where it can be removed.
