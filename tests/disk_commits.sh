@@ -329,6 +329,18 @@ for role in "${roles[@]}"; do
   had folder
   changes nothing
   killed_after 'the deletion of a folder that is killed' edit_inside
+  # somebody who works in a deleted folder makes a file there while it is being removed
+  had folder
+  changes nothing
+  calls=rmdir
+  edit_aside() { printf mine >"$to/.twosync/old-0/new"; }
+  held_at 'made in a deleted folder' 'old-0"' enter "[ ! -e $to/.twosync/old-0/x ]" edit_aside
+  calls=rename,renameat,renameat2,link,linkat
+  answered "made in a deleted folder, from $from" 0 "done $from /f"$'\n'"$one" \
+    "twosync: kept /f as $to/.twosync/left-0" "$held_status"
+  holds_true "made in a deleted folder, from $from: it stays" test "$(cat "$to/.twosync/left-0/new")" = mine
+  expect "made in a deleted folder, from $from: the run after that" 0 'total 0 done 0 skipped 0 failed 0 blocked 0' '' "${sync[@]}"
+  holds_true "made in a deleted folder, from $from: it still stays" test "$(cat "$to/.twosync/left-0/new")" = mine
   # a link to a folder outside takes the place of the target's folder between the look and the call, which follows it: a look
   # after the call notices that, and nothing outside has changed at the end
   edit_link() { mv "$to/d" "$to/was" && ln -s ../outside "$to/d"; }

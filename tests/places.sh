@@ -92,6 +92,20 @@ twosync: mount /m" "${sync[@]}"
     done
     # from it, all can be copied
     unmount
+    # below a folder that is deleted: the folder is kept with it, and what comes to it later stays
+    fresh
+    mkdir -p "$to/d/m"
+    mount -t tmpfs -o size=1m tmpfs "$to/d/m" && mounted=$to/d/m
+    printf new >"$to/d/m/x"
+    "$program" "${sync[@]}" >/dev/null 2>&1
+    rm -r "${from:?}/d"
+    expect "a mount in a deleted folder, from $from" 0 "done $from /d"$'\n'"$one" \
+      "twosync: kept /d as $to/.twosync/left-0" "${sync[@]}"
+    mounted=$to/.twosync/left-0/m
+    printf later >"$mounted/y"
+    expect "a mount in a deleted folder, from $from: the run after that" 0 'total 0 done 0 skipped 0 failed 0 blocked 0' '' "${sync[@]}"
+    holds_true "a mount in a deleted folder, from $from: what came to it later" test "$(cat "$mounted/y")" = later
+    unmount
     fresh
     mkdir "$from/m"
     mount -t tmpfs -o size=1m tmpfs "$from/m" && mounted=$from/m

@@ -116,13 +116,24 @@ pub(crate) fn remove_at<R: Files + AllocGlobal + Clone + Drop>(
     }
 }
 
-/// Removes a directory of the program's own, and all below it.
+/// Removes a directory of the program's own, and all below it. It is tried once more only where permissions were in the way: what
+/// came there meanwhile isn't removed.
 fn remove_tree<R: Files + AllocGlobal + Clone + Drop>(files: &R, top: &str) -> io::Result<()> {
-    if fs::remove_dir_all(files, top).is_ok() {
-        return Ok(());
+    match fs::remove_dir_all(files, top) {
+        Err(e) if e.kind() == ErrorKind::PermissionDenied => {}
+        removed => return removed,
     }
     let _ = open_up(files, top);
     fs::remove_dir_all(files, top)
+}
+
+/// Whether a directory couldn't be removed since others have something in it: another file system is mounted there, or something
+/// came to it while all else was removed.
+pub(crate) fn is_of_others(e: &io::Error) -> bool {
+    match e.kind() {
+        ErrorKind::ResourceBusy | ErrorKind::DirectoryNotEmpty => true,
+        _ => false,
+    }
 }
 
 /// Gives the owner every permission for the directories of a tree of the program's own, as it takes to remove what is in

@@ -8,7 +8,7 @@ ghost use Rattle.ts_disk.specs.Swaps.{place_of};
 ghost use Rattle.ts_swap.specs.Leavings.{Counts};
 
 use crate::fault::DiskFault;
-use crate::leftover::{Aside, move_to_free, remove_at};
+use crate::leftover::{Aside, is_of_others, move_to_free, remove_at};
 use crate::modes::PRIVATE_FILE;
 use crate::names::{KEPT, MADE};
 use crate::place::{
@@ -241,16 +241,27 @@ impl<R: Files + AllocGlobal + Clone + Drop> DiskPlaces<R> {
         Ok(())
     }
 
-    /// Removes what stands at a spot, or renames it to a free `.twosync/trash-N` where it can't be removed.
+    /// Removes what stands at a spot, or renames it to a free `.twosync/trash-N` where it can't be removed. Where others have
+    /// something in it, it becomes a `left-N`, which no run removes.
     fn clear_or_discard(&mut self, spot: Spot) -> io::Result<()>
         ensures { self.new.failures ≡ self.old.failures }
     {
-        if self.clear(spot).is_ok() {
-            return Ok(());
-        }
-        let _place = self.move_to_free(spot, "trash")?;
+        let stem = match self.clear(spot) {
+            Ok(()) => return Ok(()),
+            Err(e) if is_of_others(&e) => "left",
+            Err(_) => "trash",
+        };
+        let _place = self.move_to_free(spot, stem)?;
         self.has_trash = true;
         Ok(())
+    }
+
+    /// Removes what stands at a spot. Where others have something in it, it is kept for now.
+    pub(crate) fn clear_or_keep(&self, spot: Spot) -> io::Result<()> {
+        match self.clear(spot) {
+            Err(e) if is_of_others(&e) => self.keep_for_notice(spot),
+            cleared => cleared,
+        }
     }
 
     /// Keeps what stands at a spot as `.twosync/left-N`, where `N` is the first number that is free: what can't go back to its

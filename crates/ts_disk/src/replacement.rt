@@ -257,7 +257,7 @@ impl<'a> Replacement<'a> {
         ensures { self.new.places.failures ≡ self.old.places.failures }
     {
         match self.may_go() {
-            Ok(true) => self.places.clear(Spot::Old),
+            Ok(true) => self.places.clear_or_keep(Spot::Old),
             Ok(false) => {
                 self.is_late = true;
                 Err(self.refuse(Refusal::Changed))
