@@ -25,8 +25,8 @@ fn plan_place(alloc: Global, root: &str) -> Result<String, AllocError>
 }
 
 /// Writes the plan to `.twosync/plan` in a replica's root, in place of the file that is there: first whole under another name,
-/// `.twosync/plan.new`. It has reached the device when the call ends, and so has the directory's own name. After a fault nothing is left under that other name, where it
-/// can be removed.
+/// `.twosync/plan.new`. It has reached the device when the call ends, and so has the directory's own name. After a fault nothing is
+/// left under that other name, where it can be removed.
 pub fn save_plan<R: Files>(
     files: &R,
     alloc: Global,
