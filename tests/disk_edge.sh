@@ -78,6 +78,83 @@ mkdir second/.twosync/new-0
 a_plan first | tee first/.twosync/plan >second/.twosync/plan
 refused 'a spot of the plan and one that is none' 8 "${sync[@]}"
 
+# ---- a directory .twosync that belongs to somebody else
+# Whoever owns it may put a plan there, by which the next run would bring a file of theirs to its place.
+# of_nobody REPLICA WHAT: the directory of the program in a replica belongs to another user, with what that one has put there
+of_nobody() {
+  both_at
+  printf b >first/f
+  case $2 in
+  'no other .twosync') rm -r first/.twosync second/.twosync && mkdir -m 700 "$1/.twosync" ;;
+  'open to all') chmod 777 "$1/.twosync" ;;
+  'marked as unused') chmod 1700 "$1/.twosync" ;;
+  *'a plan'*) a_plan first >"$1/.twosync/plan" ;;
+  esac
+  case $2 in *old-0*) printf theirs >"$1/.twosync/old-0" ;; esac
+  case $2 in *new-0*) printf theirs >"$1/.twosync/new-0" ;; esac
+  case $2 in *'a lock'*) : >"$1/.twosync/lock" ;; esac
+  chown -R nobody "$1/.twosync"
+  a_plan first >plan
+}
+# owners: whose all is that lies here, with the modes of .twosync, too
+owners() { find first second archive -printf '%p %y %m %U %G\n' | LC_ALL=C sort; }
+if [ "$(id -u)" = 0 ] && mkdir -p probe && chown nobody probe 2>/dev/null; then
+  for replica in first second; do
+    for what in nothing 'open to all' 'marked as unused' 'a plan' 'a plan and old-0' 'a plan, old-0 and new-0' old-0 'a lock' \
+      'a plan, old-0 and a lock' 'no other .twosync'; do
+      for words in 'sync first second archive' 'run first second archive plan'; do
+        of_nobody "$replica" "$what"
+        owners >state.owners
+        # shellcheck disable=SC2086
+        refused "$replica/.twosync is another user's, $what: ${words%% *}" '5 /.twosync' $words
+        holds_true "$replica/.twosync is another user's, $what: ${words%% *}: owners and modes" cmp -s state.owners <(owners)
+      done
+    done
+  done
+  # whose replica it is doesn't matter, and neither does whose the files in it are
+  both_at
+  printf b >first/f
+  chown nobody first second first/f second/f archive
+  expect "the replicas are another user's, but not .twosync" 0 $'done first /f\n'"$one" '' "${sync[@]}"
+  alike "the replicas are another user's, but not .twosync"
+else
+  echo "skipped: this user may give nothing away, so another user's .twosync is not tried"
+fi
+rm -rf probe
+if may_be_refused; then
+  # one who isn't root has a .twosync that belongs to him
+  mkdir theirs
+  chmod 777 theirs
+  cd theirs || exit 1
+  "${as[@]}" bash -c 'mkdir first second && mkdir -m 700 first/.twosync second/.twosync && printf a >first/f && : >first/.twosync/lock'
+  before=("${as[@]}")
+  expect "a user's own .twosync, and a lock that was left there" 0 $'done first /f\n'"$one" '' "${sync[@]}"
+  before=()
+  alike "a user's own .twosync, and a lock that was left there"
+  cd ..
+  rm -r theirs
+else
+  echo "skipped: no other user to run as, so that one's own .twosync is not tried"
+fi
+# What a run of the same user has left when it was killed is no reason to refuse the next one.
+for role in 'first second' 'second first'; do
+  read -r from to <<<"$role"
+  fresh
+  seq 400 | split -l 1 -a 2 - "$from/f"
+  "$program" "${sync[@]}" >out 2>err &
+  child=$!
+  until_plan
+  kill -KILL "$child"
+  wait "$child" 2>/dev/null
+  for replica in first second; do
+    holds_true "killed, from $from: a lock is left in $replica" test -f "$replica/.twosync/lock"
+  done
+  expect "killed, from $from: the next run" 0 "$(for file in "$from"/f*; do echo "done $from /${file##*/}"; done)
+total 400 done 400 skipped 0 failed 0 blocked 0" '' "${sync[@]}"
+  alike "killed, from $from: the next run"
+  holds_true "killed, from $from: all files are there" test "$(find "$to" -type f | wc -l)" = 400
+done
+
 # ---- leftovers of other entries, where this run's entry 0 is one that stays as it is
 # The conflict: /c was changed in the first replica, and deleted in the second.
 for reason in conflict held; do
