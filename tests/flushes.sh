@@ -1,6 +1,6 @@
 #!/usr/bin/env bash
-# The order of flushes, for the day when the power fails: what a run has put in place is on the disk before the archive says
-# so, and the plan is there before the first target is touched. It is read from a trace of the program's calls.
+# The order of flushes, for the day when the power fails: what the archive newly says is on the disk in both replicas before it
+# says so, and the plan is there before the first target is touched. It is read from a trace of the program's calls.
 # usage: tests/flushes.sh [PROGRAM]
 set -u
 cd "$(dirname "$0")/.." || exit 1
@@ -11,9 +11,11 @@ needs_strace flushes 'the order of flushes is not looked at'
 # Reads a trace, and tells for each thing that has to hold whether it does: `ok WHAT`, or `bad WHAT: WHERE`. The words are
 # the folder of the run, and the targets that the run has to touch.
 # A thing is a file or a folder, by whatever names it goes. It is dirty from a change of its bytes or its names to its next
-# flush; a flush counts for what was changed before it began.
+# flush; a flush counts for what was changed before it began. What was there before the run was changed just before: so what an
+# archive says of it, and the archive before didn't, needs a flush, too, on whichever side it is. Each archive is read from the
+# calls that write it.
 cat >judge.py <<'E'
-import re, sys
+import os, re, sys
 
 log, work, *targets = sys.argv[1:]
 REPLICAS = [work + "/first", work + "/second"]
@@ -21,6 +23,7 @@ ARCHIVE = work + "/archive"
 FLUSHES = {"fsync", "fdatasync"}
 WRITES = {"write", "writev", "pwrite64", "pwritev", "pwritev2", "ftruncate", "sendfile", "copy_file_range", "splice"}
 TEXT = re.compile(r'"((?:[^"\\]|\\.)*)"')
+NEW = ARCHIVE + ".new"
 
 
 class Thing:
@@ -109,6 +112,43 @@ def calls():
             yield match.group(1), match.group(2), match.group(4), start, number
 
 
+def rows(text):
+    """The lines of an archive by the paths that they name, or None where the text is no whole archive."""
+    lines = text.split("\n")
+    if len(lines) < 3 or lines[0] != "twosync-archive 1" or not lines[-2].startswith("end %d " % (len(lines) - 3)):
+        return None
+    return {line.split(" ")[1]: line for line in lines[1:-2]}
+
+
+def above(path):
+    return path.rsplit("/", 1)[0]
+
+
+def news(old, new):
+    """What a new archive says that the one before it didn't: the paths of its own, and the folders in which something came, changed
+    or went. The top has no line."""
+    own = [path for path in new if new[path] != old.get(path)]
+    gone = [path for path in old if path not in new]
+    folders = {above(path) for path in own + gone}
+    return own, sorted(path for path in folders if path == "" or new.get(path, "").startswith("d "))
+
+
+def all_flushed(paths, kind=None, named=None):
+    """Whether these paths were flushed in both replicas, of those that an archive names alone the ones of a kind; and the places
+    that weren't."""
+    places = [r + path for r in REPLICAS for path in paths if kind is None or named[path].startswith(kind)]
+    missing = [place for place in places if not synced and (place not in things or things[place].flushed < 0)]
+    return not missing, " ".join(missing[:6])
+
+
+def text_of(rest):
+    """What a call writes, as strace spells it."""
+    return TEXT.search(rest).group(1).encode("ascii").decode("unicode_escape")
+
+
+synced = False  # all was flushed at once
+written = ""  # the text of the archive that is being written
+vouched = rows(open(work + "/archive.before").read()) if os.path.exists(work + "/archive.before") else {}
 plan_at = {r: 0 for r in REPLICAS}  # 0: not there, 1: renamed, 2: and flushed
 archive_at = None
 touched = set()
@@ -122,6 +162,8 @@ for name, rest, result, start, end in calls():
                 thing(parent(place), True).changed = end
         elif "O_TRUNC" in rest:
             thing(place).changed = end
+        if place == NEW and "O_CREAT" in rest:
+            written = ""
     elif name in ("mkdir", "mkdirat"):
         place = places(rest)[0]
         thing(place, True).changed = end
@@ -131,6 +173,8 @@ for name, rest, result, start, end in calls():
         at = re.findall(r"\d+<([^>]*)>", rest)[-1 if name in ("copy_file_range", "splice") else 0]
         if at.startswith("/"):
             thing(at).changed = end
+        if at == NEW:
+            written = written + text_of(rest) if name == "write" else ""
     elif name in FLUSHES and descriptor:
         flushed = thing(descriptor.group(1))
         flushed.flushed = max(flushed.flushed, start)
@@ -138,6 +182,7 @@ for name, rest, result, start, end in calls():
             if descriptor.group(1) == root + "/.twosync" and plan_at[root] == 1:
                 plan_at[root] = 2
     elif name in ("sync", "syncfs"):
+        synced = True
         for each in things.values():
             each.flushed = max(each.flushed, start)
         plan_at = {r: 2 if at else 0 for r, at in plan_at.items()}
@@ -173,6 +218,13 @@ for name, rest, result, start, end in calls():
             hold("files are flushed before the archive is renamed", not files, " ".join(files[:3]))
             hold("folders are flushed before the archive is renamed", not inner, " ".join(inner[:3]))
             hold("the replicas' own folders are flushed before the archive is renamed", not tops, " ".join(tops))
+            new_rows = rows(written)
+            hold("the text of the archive is seen", new_rows is not None, written[:60])
+            own, folders = news(vouched, new_rows or {})
+            hold("the files that it newly names are flushed before, in both replicas", *all_flushed(own, "f", new_rows))
+            hold("the folders that it newly names are flushed before, in both replicas", *all_flushed(own, "d", new_rows))
+            hold("the folders that newly have or lack something are flushed before, in both replicas", *all_flushed(folders))
+            vouched = new_rows or {}
             archive_at = end
         if name.startswith("rename"):
             for place in below(new):
@@ -195,7 +247,10 @@ WANTED = [
     "both plans are in place before a target is touched", "their folders are flushed before a target is touched",
     "the archive is written beside its place", "the archive is flushed before it is renamed",
     "files are flushed before the archive is renamed", "folders are flushed before the archive is renamed",
-    "the replicas' own folders are flushed before the archive is renamed",
+    "the replicas' own folders are flushed before the archive is renamed", "the text of the archive is seen",
+    "the files that it newly names are flushed before, in both replicas",
+    "the folders that it newly names are flushed before, in both replicas",
+    "the folders that newly have or lack something are flushed before, in both replicas",
 ]
 for what in WANTED:
     hold(what, what in seen, "it never comes to that")
@@ -212,14 +267,16 @@ judged() {
   local name=$1 status=$3 got verdict what workers
   read -ra workers <<<"$2"
   shift 3
-  strace -qq -f -y -s 1 -e signal=none -e trace="$calls" -o log "$program" "${sync[@]}" --workers "${workers[@]}" >out 2>err
+  rm -f archive.before
+  [ ! -e archive ] || cp archive archive.before
+  strace -qq -f -y -s 8192 -e signal=none -e trace="$calls" -o log "$program" "${sync[@]}" --workers "${workers[@]}" >out 2>err
   got=$?
   holds_true "$name: its status is $got" test "$got" = "$status" -a ! -s err
   python3 judge.py log "$(pwd -P)" "$@" >judged
   while read -r verdict what; do
     if [ "$verdict" = ok ]; then ok; else bad "$name: $what"; fi
   done <judged
-  holds_true "$name: the trace was judged" test "$(wc -l <judged)" = 13
+  holds_true "$name: the trace was judged" test "$(wc -l <judged)" = 17
 }
 
 # each checkpoint of one worker's run is judged as the last archive is
@@ -233,7 +290,14 @@ for workers in 1 4 '1 --checkpoint 1'; do
   printf b >first/both/x
   printf c >second/h/i/c
   head -c 70000 /dev/urandom >second/both/y
-  judged "a first sync by $workers" "$workers" 0 second/d second/large second/both/x first/h first/both/y
+  : >second/nothing
+  # what both have already isn't copied, and is new to the archive all the same
+  for replica in first second; do
+    mkdir -p "$replica/same/in" "$replica/gone/in"
+    for name in top same/x same/empty same/in/y gone/x gone/in/y; do printf '%s' "$name" >"$replica/$name"; done
+    : >"$replica/same/empty"
+  done
+  judged "a first sync by $workers" "$workers" 0 second/d second/large second/both/x first/h first/both/y first/nothing
   alike "a first sync by $workers"
   printf changed >first/d/e/one
   rm first/d/empty
@@ -246,6 +310,14 @@ for workers in 1 4 '1 --checkpoint 1'; do
   printf file >second/h
   printf new >second/new
   rm second/both/x
+  # both change alike, lose the same, and make of it the same of another kind
+  for replica in first second; do
+    printf changed >"$replica/same/x"
+    rm -r "$replica/gone" "$replica/top" "$replica/same/in" "$replica/same/empty"
+    mkdir -p "$replica/top/in"
+    printf y >"$replica/top/in/y"
+    printf in >"$replica/same/in"
+  done
   judged "changes by $workers" "$workers" 0 second/d/e/one second/d/empty second/d/g second/large \
     first/both/y first/h first/new first/both/x
   alike "changes by $workers"
