@@ -170,6 +170,68 @@ until_plan() {
   until_stopped
 }
 
+# ---- a run that is held up at one of its system calls
+# The calls by which things move. `calls` are those among which one is looked for.
+moving=rename,renameat,renameat2,link,linkat
+calls=$moving
+
+# trace_copy WORDS..: runs `sync` by one worker on a copy of the pair as it stands, with these words behind it; its calls are in `log`
+trace_copy() {
+  rm -rf copy
+  mkdir copy
+  cp -a first second archive copy
+  (cd copy && strace -qq -f -y -o ../log -e trace="$calls" "$program" "${sync[@]}" --workers 1 "$@" >/dev/null 2>&1)
+  rm -rf copy
+}
+# find_call PATTERN: finds the first call in `log` that has this pattern: its name, and which one of that name it is
+find_call() {
+  read -r call number <<<"$(awk -v pattern="$1" '{
+    name = $2
+    sub(/[(].*/, "", name)
+    count[name]++
+    if ($0 ~ pattern) { print name, count[name]; exit }
+  }' log)"
+}
+# call_of PATTERN WORDS..: finds the call of a whole run that has this pattern
+call_of() {
+  local pattern=$1
+  shift
+  trace_copy "$@"
+  find_call "$pattern"
+}
+
+# is_held: that call is the run's last one, and has no result yet where the run is held up before it
+is_held() {
+  local last
+  [ "$(grep -cs " $call(" log)" = "$number" ] || return 1
+  last=$(tail -n 1 log)
+  [[ $last = *" $call("* ]] && { [ "$side" = exit ] || [[ $last != *' = '* ]]; }
+}
+
+# hold_up SIDE CONDITION WORDS..: starts the run that was tried on a copy, and waits, a minute at most, until it is held up
+# before (enter) or after (exit) the call that was found, and the condition holds. It stands until `let_go`, and not for a
+# time, in which a slow machine might not come to what is done meanwhile.
+hold_up() {
+  local condition=$2 end
+  side=$1
+  shift 2
+  : >log
+  strace -D -qq -f -o log -e signal=none -e inject="$call:delay_$side=120000000:when=$number" \
+    "$program" "${sync[@]}" --workers 1 "$@" >out 2>err &
+  child=$!
+  end=$((SECONDS + 60))
+  until { is_held && eval "$condition"; } || [ "$SECONDS" -ge "$end" ] || ! kill -0 "$child" 2>/dev/null; do sleep 0.005; done
+}
+# let_go: ends the tracer of that run, so that it goes on, and waits for its end; its status is in `held_status`
+let_go() {
+  local tracer
+  tracer=$(awk '/^TracerPid:/ { print $2 }' "/proc/$child/status")
+  [ "${tracer:-0}" = 0 ] || kill -KILL "$tracer"
+  wait "$child"
+  # shellcheck disable=SC2034
+  held_status=$?
+}
+
 # Who may do everything may read and write everything, so what must be refused runs as nobody.
 as=(env)
 # shellcheck disable=SC2034

@@ -121,39 +121,14 @@ for role in 'first second' 'second first'; do
 done
 
 # ---- edits between the steps of a commit, which is held up at one of its calls
-calls=rename,renameat,renameat2,link,linkat
-
-# call_of PATTERN: finds the call of a whole run that has this pattern, on a copy: its name, and which one of that name it is
-call_of() {
-  rm -rf copy
-  mkdir copy
-  cp -a first second archive copy
-  (cd copy && strace -qq -f -o ../log -e trace="$calls" "$program" "${sync[@]}" --workers 1 >/dev/null 2>&1)
-  read -r call number <<<"$(awk -v pattern="$1" '{
-    name = $2
-    sub(/[(].*/, "", name)
-    count[name]++
-    if ($0 ~ pattern) { print name, count[name]; exit }
-  }' log)"
-  rm -rf copy
-}
 # What is looked for: the target is put aside; the new tree is put in its place.
 aside() { echo "\"[^\"]*$to/[.]twosync/old-0\"[^\"]*\$"; }
 place() { echo "new-0\".*\"[^\"]*$to/${1:-f}\"[^\"]*\$"; }
 
-# is_held: that call is the run's last one, and has no result yet where the run is held up before it
-is_held() {
-  local last
-  [ "$(grep -cs " $call(" log)" = "$number" ] || return 1
-  last=$(tail -n 1 log)
-  [[ $last = *" $call("* ]] && { [ "$side" = exit ] || [[ $last != *' = '* ]]; }
-}
-
 # held_at NAME PATTERN SIDE CONDITION EDIT: makes the edit while the run is held up before (enter) or after (exit) the call
-# that has the pattern, when the condition holds. The run goes on once its tracer is gone, and not after a time, in which a
-# slow machine might not come to the edit.
+# that has the pattern, when the condition holds
 held_at() {
-  local name="$1, from $from" side=$3 end tracer
+  local name="$1, from $from"
   held_status=none
   call_of "$2"
   if [ -z "${call:-}" ]; then
@@ -161,18 +136,10 @@ held_at() {
     return
   fi
   [ "$5" != edit_of_same_time ] || touch "$to/f"
-  : >log
-  strace -D -qq -f -o log -e signal=none -e inject="$call:delay_$side=120000000:when=$number" \
-    "$program" "${sync[@]}" --workers 1 >out 2>err &
-  child=$!
-  end=$((SECONDS + 60))
-  until { is_held && eval "$4"; } || [ "$SECONDS" -ge "$end" ] || ! kill -0 "$child" 2>/dev/null; do sleep 0.005; done
+  hold_up "$3" "$4"
   edit_now "$5"
   holds_true "$name: the edit comes in time" is_held
-  tracer=$(awk '/^TracerPid:/ { print $2 }' "/proc/$child/status")
-  [ "${tracer:-0}" = 0 ] || kill -KILL "$tracer"
-  wait "$child"
-  held_status=$?
+  let_go
 }
 # failed_with_14 NAME [KEPT]: the entry has failed, and where something is kept its place is reported
 failed_with_14() {
@@ -197,7 +164,8 @@ left() {
 # killed_after NAME EDIT: makes the edit right before the target is set aside, and kills the run right after it was: nobody has
 # looked at what lies aside then. The run after that leaves what was saved where it was.
 killed_after() {
-  local name="$1, from $from" side=enter end
+  local name="$1, from $from" end
+  side=enter
   call_of "$(aside)"
   : >log
   strace -D -qq -f -o log -e signal=none -e inject="$call:delay_enter=3000000:delay_exit=120000000:when=$number" \
@@ -335,7 +303,7 @@ for role in "${roles[@]}"; do
   calls=rmdir
   edit_aside() { printf mine >"$to/.twosync/old-0/new"; }
   held_at 'made in a deleted folder' 'old-0"' enter "[ ! -e $to/.twosync/old-0/x ]" edit_aside
-  calls=rename,renameat,renameat2,link,linkat
+  calls=$moving
   answered "made in a deleted folder, from $from" 0 "done $from /f"$'\n'"$one" \
     "twosync: kept /f as $to/.twosync/left-0" "$held_status"
   holds_true "made in a deleted folder, from $from: it stays" test "$(cat "$to/.twosync/left-0/new")" = mine
