@@ -49,6 +49,7 @@ f /d/f 4 $S_OLD" >archive
 # The edits. Each is made in the replica `to`, and what is saved has the text `mine` somewhere.
 edit_other_length() { printf 'mine, longer' >"$to/f"; }
 edit_same_length() { printf mine >"$to/f"; }
+# The same length and the time that the file had, years ago: what tells is the time at which that was set.
 edit_of_old_time() { printf mine >"$to/f" && touch -d '2001-02-03 04:05:06' "$to/f"; }
 # The same length and the same time, which was just now: only a look at the bytes can tell.
 edit_of_same_time() { touch -r "$to/f" stamp && printf mine >"$to/f" && touch -r stamp "$to/f"; }
@@ -57,10 +58,13 @@ edit_to_folder() { rm "$to/f" && mkdir "$to/f" && printf mine >"$to/f/x"; }
 edit_new_file() { printf mine >"$to/f"; }
 edit_new_folder() { mkdir "$to/f" && printf mine >"$to/f/x"; }
 edit_inside() { printf mine >"$to/f/y"; }
+edit_inside_of_old_time() { printf mine >"$to/f/y" && touch -d '2001-02-03 04:05:06' "$to/f/y"; }
 edit_added() { printf mine >"$to/f/w"; }
 edit_removed() { rm "$to/f/y" && printf mine >"$to/f/z"; }
 edit_added_below() { mkdir "$to/f/d" && printf mine >"$to/f/d/d"; }
 edit_by_handle() { printf mine >&7; }
+# No edit of bytes: the file had the mode 644.
+edit_mode() { chmod "$change" "$to/f"; }
 
 # kept NAME: the replica is just what the edit left, and nothing is left of the commit
 kept() {
@@ -220,7 +224,7 @@ for role in "${roles[@]}"; do
   read -r from to <<<"$role"
   for new in file folder nothing; do
     # after the target was compared and before it is set aside
-    for edit in other_length same_length of_same_time by_renaming to_folder; do
+    for edit in other_length same_length of_same_time of_old_time by_renaming to_folder; do
       had file
       changes $new
       held_at "a file, new $new, before it is set aside ($edit)" "$(aside)" enter true "edit_$edit"
@@ -236,8 +240,20 @@ for role in "${roles[@]}"; do
     failed_with_14 "a file, new $new, by a handle when it is aside"
     found "a file, new $new, by a handle when it is aside" old.mine
   done
+  # somebody sets the target's mode after it was read and before it is set aside: the new file has what was set last
+  for change in '600 600' '640 640' 'u+x 744'; do
+    read -r change mode <<<"$change"
+    had file
+    changes file
+    held_at "a mode set before it is set aside ($change)" "$(aside)" enter true edit_mode
+    answered "a mode set before it is set aside ($change), from $from" 0 "done $from /f"$'\n'"$one" '' "$held_status"
+    holds_true "a mode set before it is set aside ($change), from $from: it is $(stat -c %a "$to/f")" \
+      test "$(stat -c %a "$to/f")" = "$mode"
+    holds_true "a mode set before it is set aside ($change), from $from: the content" test "$(cat "$to/f")" = 'theirs, new'
+    alike "a mode set before it is set aside ($change), from $from"
+  done
   for new in file nothing; do
-    for edit in inside added removed added_below; do
+    for edit in inside inside_of_old_time added removed added_below; do
       had folder
       changes $new
       held_at "a folder, new $new, before it is set aside ($edit)" "$(aside)" enter true "edit_$edit"
