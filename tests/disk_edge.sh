@@ -96,18 +96,36 @@ of_nobody() {
   chown -R nobody "$1/.twosync"
   a_plan first >plan
 }
-# owners: whose all is that lies here, with the modes of .twosync, too
-owners() { find first second archive -printf '%p %y %m %U %G\n' | LC_ALL=C sort; }
+# all_here: all that lies here, with its owners and the modes of .twosync, but for a lock, which may be made and removed
+all_here() {
+  {
+    state
+    find first second archive -printf '%p %y %m %U %G\n' | LC_ALL=C sort
+  } | grep -v '/[.]twosync/lock'
+}
+# refused_at_own NAME WORDS..: the program refuses these words because of the owner of .twosync, and changes nothing
+refused_at_own() {
+  local name=$1
+  shift
+  all_here >state.before
+  before=(timeout 10)
+  expect "$name" 3 '' 'twosync: fault 5 /.twosync' "$@"
+  before=()
+  all_here >state.after
+  if cmp -s state.before state.after; then
+    ok
+  else
+    bad "$name: something has changed: $(diff state.before state.after | grep '^[<>]' | cut -c1-100 | head -n 3 | tr '\n' ' ')"
+  fi
+}
 if [ "$(id -u)" = 0 ] && mkdir -p probe && chown nobody probe 2>/dev/null; then
   for replica in first second; do
     for what in nothing 'open to all' 'marked as unused' 'a plan' 'a plan and old-0' 'a plan, old-0 and new-0' old-0 'a lock' \
       'a plan, old-0 and a lock' 'no other .twosync'; do
       for words in 'sync first second archive' 'run first second archive plan'; do
         of_nobody "$replica" "$what"
-        owners >state.owners
         # shellcheck disable=SC2086
-        refused "$replica/.twosync is another user's, $what: ${words%% *}" '5 /.twosync' $words
-        holds_true "$replica/.twosync is another user's, $what: ${words%% *}: owners and modes" cmp -s state.owners <(owners)
+        refused_at_own "$replica/.twosync is another user's, $what: ${words%% *}" $words
       done
     done
   done
@@ -149,8 +167,12 @@ for role in 'first second' 'second first'; do
   for replica in first second; do
     holds_true "killed, from $from: a lock is left in $replica" test -f "$replica/.twosync/lock"
   done
-  expect "killed, from $from: the next run" 0 "$(for file in "$from"/f*; do echo "done $from /${file##*/}"; done)
-total 400 done 400 skipped 0 failed 0 blocked 0" '' "${sync[@]}"
+  "$program" "${sync[@]}" >report 2>err
+  got=$?
+  # what was put in place before the kill is in both
+  sed "s/^done same /done $from /" report >out
+  answered "killed, from $from: the next run" 0 "$(for file in "$from"/f*; do echo "done $from /${file##*/}"; done)
+total 400 done 400 skipped 0 failed 0 blocked 0" '' "$got"
   alike "killed, from $from: the next run"
   holds_true "killed, from $from: all files are there" test "$(find "$to" -type f | wc -l)" = 400
 done
