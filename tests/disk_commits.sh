@@ -63,6 +63,7 @@ edit_added() { printf mine >"$to/f/w"; }
 edit_removed() { rm "$to/f/y" && printf mine >"$to/f/z"; }
 edit_added_below() { mkdir "$to/f/d" && printf mine >"$to/f/d/d"; }
 edit_by_handle() { printf mine >&7; }
+edit_by_handle_of_old_time() { printf mine >&7 && touch -d '2001-02-03 04:05:06' /proc/self/fd/7; }
 # No edit of bytes: the file had the mode 644.
 edit_mode() { chmod "$change" "$to/f"; }
 
@@ -239,9 +240,17 @@ for role in "${roles[@]}"; do
     exec 7>&-
     failed_with_14 "a file, new $new, by a handle when it is aside"
     found "a file, new $new, by a handle when it is aside" old.mine
+    had file
+    changes $new
+    exec 7<>"$to/f"
+    held_at "a file, new $new, by a handle when it is aside (of_old_time)" "$(aside)" exit "[ ! -e $to/f ]" \
+      edit_by_handle_of_old_time
+    exec 7>&-
+    failed_with_14 "a file, new $new, by a handle when it is aside (of_old_time)"
+    found "a file, new $new, by a handle when it is aside (of_old_time)" mine
   done
   # somebody sets the target's mode after it was read and before it is set aside: the new file has what was set last
-  for change in '600 600' '640 640' 'u+x 744'; do
+  for change in '600 600' '640 640' 'u+x 744' '4711 711'; do
     read -r change mode <<<"$change"
     had file
     changes file
@@ -288,6 +297,14 @@ for role in "${roles[@]}"; do
     exec 7>&-
     failed_with_14 "a file, new $new, by a handle when the new one is there"
     found "a file, new $new, by a handle when the new one is there" old.mine
+    had file
+    changes $new
+    exec 7<>"$to/f"
+    held_at "a file, new $new, by a handle when the new one is there (of_old_time)" "$(place)" exit \
+      "grep -qrs theirs $to/f" edit_by_handle_of_old_time
+    exec 7>&-
+    failed_with_14 "a file, new $new, by a handle when the new one is there (of_old_time)"
+    found "a file, new $new, by a handle when the new one is there (of_old_time)" mine
     # a second one that can't be put back gets a number of its own
     had file
     changes $new
@@ -305,7 +322,7 @@ for role in "${roles[@]}"; do
     held_at "a deletion, while nothing is there ($edit)" "$(aside)" exit "[ ! -e $to/f ]" "edit_$edit"
     holds_true "a deletion, while nothing is there ($edit), from $from: it stays" diff -r -x .twosync "$to" wanted
   done
-  for edit in by_renaming other_length; do
+  for edit in by_renaming other_length of_old_time; do
     had file
     changes nothing
     killed_after "a deletion that is killed ($edit)" "edit_$edit"
