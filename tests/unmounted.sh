@@ -153,14 +153,19 @@ for role in 'first second' 'second first'; do
       "before the other way's commit|new-4\".*\"[^\"]*$from/other\"|enter|true" \
       "after the last commit|new-4\".*\"[^\"]*$from/other\"|exit|[ -e $from/other ]"; do
       IFS='|' read -r what pattern side condition <<<"$step"
-      name="$lost goes away $what, from $from"
-      had
-      calls=$moving,mkdir,mkdirat
-      call_of "$pattern"
-      goes_away "$name" "$side" "$condition"
-      ended_with_9 "$name"
-      holds_true "$name: no archive was written" cmp -s archive archive.before
-      saved "$name"
+      # without other archives than the last one, and with one after each action
+      for every in '' 1; do
+        name="$lost goes away $what, from $from${every:+, with checkpoints}"
+        words=()
+        [ -z "$every" ] || words=(--checkpoint "$every")
+        had
+        calls=$moving,mkdir,mkdirat
+        call_of "$pattern" "${words[@]}"
+        goes_away "$name" "$side" "$condition" "${words[@]}"
+        ended_with_9 "$name"
+        [ -n "$every" ] || holds_true "$name: no archive was written" cmp -s archive archive.before
+        saved "$name"
+      done
     done
     # after all was flushed, and before the archive is written: the last one, and one that a run writes meanwhile
     for back in 0 1 3; do
