@@ -16,11 +16,12 @@ use ts_name::Path;
 use ts_print::SubPrint;
 
 /// Whether what was moved aside is still the part that was compared: the same files, with the sizes and times that were seen,
-/// and nothing else. The bytes are read again where a change may not show in a file's time.
+/// and nothing else. The bytes of a file are read again unless the system says that nothing of it was changed since: those of one that
+/// was itself moved always are, and from then on its look is the one from before they were read.
 pub(crate) fn is_untouched<R: Files + AllocGlobal>(
     files: &R,
     before: &SubPrint<'_>,
-    looks: &[Option<Look>],
+    looks: &mut [Option<Look>],
     aside: &str,
 ) -> io::Result<bool> {
     let rows = before.rows();
@@ -38,7 +39,7 @@ pub(crate) fn is_untouched<R: Files + AllocGlobal>(
 fn is_row_untouched<R: Files + AllocGlobal>(
     files: &R,
     row: &Row<Stamp>,
-    look: &Option<Look>,
+    look: &mut Option<Look>,
     place: &str,
     found: &mut u64,
 ) -> io::Result<bool> {
@@ -125,14 +126,18 @@ fn is_file_untouched<R: Files + AllocGlobal>(
     files: &R,
     place: &str,
     stamp: &Stamp,
-    look: &Look,
+    look: &mut Look,
 ) -> io::Result<bool> {
-    match metadata_at(files, place)? {
-        Some(metadata) if metadata.is_file() && look.is_same(&metadata) => {
-            Ok(!look.is_recent() || digest_at(files, place)? == stamp.digest)
-        }
-        _ => Ok(false),
+    let metadata = match metadata_at(files, place)? {
+        Some(metadata) if metadata.is_file() && look.is_same(&metadata) => metadata,
+        _ => return Ok(false),
+    };
+    if look.is_settled(&metadata) {
+        return Ok(true);
     }
+    let is_same = digest_at(files, place)? == stamp.digest;
+    look.renew(&metadata);
+    Ok(is_same)
 }
 
 /// The SHA-256 of a file.

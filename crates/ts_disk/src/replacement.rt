@@ -217,7 +217,9 @@ impl<'a> Replacement<'a> {
     }
 
     /// Whether what lies aside may be removed: it is what was compared, and no mark says any more that it has to go back.
-    fn may_go(&self) -> io::Result<bool> {
+    fn may_go(&mut self) -> io::Result<bool>
+        ensures { self.new.places.failures ≡ self.old.places.failures }
+    {
         if !self.is_untouched()? {
             return Ok(false);
         }
@@ -228,14 +230,10 @@ impl<'a> Replacement<'a> {
     }
 
     /// Whether what lies aside is what was compared.
-    fn is_untouched(&self) -> io::Result<bool> {
-        let aside = self.places.place(Spot::Old);
-        is_untouched(
-            &self.places.files,
-            self.before,
-            self.looks.as_slice(),
-            aside,
-        )
+    fn is_untouched(&mut self) -> io::Result<bool>
+        ensures { self.new.places.failures ≡ self.old.places.failures }
+    {
+        is_aside_untouched(&self.places, self.before, self.looks.as_mut_slice())
     }
 
     /// Moves the new tree to the target, where nothing lies.
@@ -376,6 +374,15 @@ impl<'a> Replacement<'a> {
         )
         .unwrap_or(false)
     }
+}
+
+/// Whether what lies aside is what was compared, by these looks.
+fn is_aside_untouched(
+    places: &DiskPlaces<HostRuntime>,
+    before: &SubPrint<'_>,
+    looks: &mut [Option<Look>],
+) -> io::Result<bool> {
+    is_untouched(&places.files, before, looks, places.place(Spot::Old))
 }
 
 /// The fault that tells a refusal.
