@@ -2,9 +2,9 @@
 ghost use Rattle.std.specs.Prelude.{◌<◌, IfOk, IfSome};
 
 use crate::place::{Standing, kind_of, metadata_at};
-use std::fs::{Files, Metadata};
-use std::io;
-use std::os::unix::fs::MetadataExt;
+use std::fs::{Files, Metadata, Permissions};
+use std::os::unix::fs::{MetadataExt, PermissionsExt};
+use std::{fs, io};
 
 /// The bits of a mode that say who may read, write and run. Those that change who a program runs as are never copied.
 const PERMISSIONS: u32 = 0o777;
@@ -34,4 +34,17 @@ pub(crate) fn permissions_at<R: Files>(
         Some(metadata) if kind_of(metadata.file_type()) == kind => Some(permissions(&metadata)),
         _ => None,
     })
+}
+
+/// Gives a new file the permission bits of the old one, where both are files. Where the file system keeps no such bits, it does
+/// without.
+pub(crate) fn keep_bits<R: Files>(files: &R, old: &str, new: &str) -> io::Result<()> {
+    let kept = permissions_at(files, old, Standing::File)?;
+    let given = permissions_at(files, new, Standing::File)?;
+    if let (Some(kept), Some(given)) = (kept, given)
+        && kept != given
+    {
+        let _ = fs::set_permissions(files, new, Permissions::from_mode(kept));
+    }
+    Ok(())
 }

@@ -9,7 +9,7 @@ ghost use Rattle.ts_swap.specs.Leavings.{Counts};
 
 use crate::fault::DiskFault;
 use crate::leftover::{Aside, is_of_others, move_to_free, remove_at};
-use crate::modes::PRIVATE_FILE;
+use crate::modes::{PRIVATE_FILE, keep_bits};
 use crate::names::{KEPT, MADE};
 use crate::place::{
     Standing, are_one, is_same, kind_at, look_at, make_own, metadata_at, own_place, stage_place,
@@ -239,6 +239,11 @@ impl<R: Files + AllocGlobal + Clone + Drop> DiskPlaces<R> {
         options.write(true).create_new(true).mode(PRIVATE_FILE);
         let _mark = options.open(&self.files, self.place(Spot::New))?;
         Ok(())
+    }
+
+    /// Gives a file at the new spot the permission bits of the one at the old spot, where both are files.
+    pub(crate) fn keep_bits(&self) -> io::Result<()> {
+        keep_bits(&self.files, self.place(Spot::Old), self.place(Spot::New))
     }
 
     /// Removes what stands at a spot, or renames it to a free `.twosync/trash-N` where it can't be removed. Where others have

@@ -236,13 +236,17 @@ impl<'a> Replacement<'a> {
         is_aside_untouched(&self.places, self.before, self.looks.as_mut_slice())
     }
 
-    /// Moves the new tree to the target, where nothing lies.
+    /// Moves the new tree to the target, where nothing lies. A file that replaces a file gets the permission bits that this one was
+    /// moved aside with: somebody may have changed them since the new tree was written.
     fn put_in_place(&mut self) -> io::Result<()>
         ensures { self.new.places.failures ≡ self.old.places.failures }
     {
         // the original was gone before it could be moved aside
         if self.is_aside == self.before.rows().is_empty() {
             return Err(self.refuse(Refusal::Changed));
+        }
+        if self.is_aside {
+            self.places.keep_bits()?;
         }
         match self.places.move_over(Spot::New, Spot::Target) {
             Err(e) if is_taken(&e) => Err(self.refuse(Refusal::Changed)),
