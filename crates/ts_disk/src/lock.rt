@@ -4,16 +4,18 @@ ghost use Rattle.std.specs.String.{string_bytes};
 
 use crate::fault::{DiskFault, failed, own_failed};
 use crate::modes::PRIVATE_FILE;
-use crate::place::{Standing, is_same, look_at, make_own, mark_used, own_place};
+use crate::place::{
+    Standing, close_own, is_same, look_at, make_own, mark_used, metadata_at, own_place,
+};
 use crate::plan_file::holds_plan;
 use std::alloc::Global;
-use std::fs::{File, Files, OpenOptions, TryLockError};
+use std::fs::{File, Files, Metadata, OpenOptions, TryLockError};
 use std::io::ErrorKind;
-use std::os::unix::fs::OpenOptionsExt;
+use std::os::unix::fs::{MetadataExt, OpenOptionsExt};
 use std::{fs, io};
-use ts_cause::Cause;
+use ts_cause::{Cause, cause_of};
 
-/// How often the lock is tried where another run takes the program's directory away in between.
+/// How often the lock is tried where another run takes the program's directory away in between, or a stopped one left its lock.
 const TRIES: u32 = 10;
 
 /// Others that take the lock of the replica are refused until this is dropped.
@@ -71,10 +73,11 @@ impl Lock {
     }
 }
 
-/// Takes the lock of a replica, on the file `.twosync/lock` in its root, which is made where it isn't there.
+/// Takes the lock of a replica, on the file `.twosync/lock` in its root, which is made anew.
 ///
-/// `Locked` at once where another run has it, `Own` where `.twosync` or the file can't be made, opened or locked. There is no
-/// lock where the root is no directory. The lock is advisory: it stops those who take it, and nobody else.
+/// `Locked` at once where another run has it, `Own` where `.twosync` or the file can't be made, opened or locked, and where `.twosync`
+/// belongs to another user than what is made there: whoever it belongs to may have put a plan into it, which would be obeyed. There is
+/// no lock where the root is no directory. The lock is advisory: it stops those who take it, and nobody else.
 pub fn take_lock<R: Files<File = File>>(
     files: &R,
     alloc: Global,
@@ -92,7 +95,8 @@ pub fn take_lock<R: Files<File = File>>(
         let took_part = make_own(files, own.as_str()).map_err(own_failed)?;
         check_place(files, place.as_str(), root.len())?;
         let was_stopped = holds_plan(files, alloc, root)?;
-        if let Some(file) = open_lock_file(files, place.as_str())? {
+        if let Some(file) = make_lock_file(files, place.as_str())? {
+            take_own(files, &file, own.as_str(), place.as_str())?;
             return Ok(Some(Lock {
                 file,
                 place,
@@ -127,33 +131,86 @@ fn check_place<R: Files>(files: &R, place: &str, root: usize) -> Result<(), Disk
     Err(DiskFault::Own { cause })
 }
 
-/// Opens the file at a place, which is made where it isn't there. None where its directory isn't there.
-fn open_or_make<R: Files<File = File>>(files: &R, place: &str) -> Result<Option<File>, DiskFault> {
+/// Closes the program's own directory to others, and refuses it where it belongs to another user than the lock's file, which this run
+/// has made there. That file is removed then, and nothing else is changed.
+fn take_own<R: Files<File = File>>(
+    files: &R,
+    file: &File,
+    own: &str,
+    place: &str,
+) -> Result<(), DiskFault> {
+    let cause = match of_one_owner(files, file, own) {
+        Ok(Some(metadata)) => {
+            close_own(files, own, &metadata);
+            return Ok(());
+        }
+        Ok(None) => Cause::Unknown,
+        Err(e) => cause_of(&e),
+    };
+    let _ = fs::remove_file(files, place);
+    Err(DiskFault::Own { cause })
+}
+
+/// What the system says of the directory at a place, if it belongs to whom an open file belongs to.
+fn of_one_owner<R: Files<File = File>>(
+    files: &R,
+    file: &File,
+    own: &str,
+) -> io::Result<Option<Metadata>> {
+    let made = file.metadata()?;
+    Ok(match metadata_at(files, own)? {
+        Some(found) if found.uid() == made.uid() => Some(found),
+        _ => None,
+    })
+}
+
+/// Makes the file of a lock where nothing is, and locks it. None where its directory isn't there, and where a stopped run had left
+/// such a file, which is removed: then it may be tried again.
+fn make_lock_file<R: Files<File = File>>(
+    files: &R,
+    place: &str,
+) -> Result<Option<File>, DiskFault> {
     let mut options = OpenOptions::new();
-    options.write(true).create(true).mode(PRIVATE_FILE);
+    options.write(true).create_new(true).mode(PRIVATE_FILE);
     match options.open(files, place) {
-        Ok(file) => Ok(Some(file)),
+        Ok(file) => {
+            hold(files, &file, place)?;
+            Ok(Some(file))
+        }
+        Err(e) if e.kind() == ErrorKind::AlreadyExists => {
+            remove_stale(files, place)?;
+            Ok(None)
+        }
         Err(e) if e.kind() == ErrorKind::NotFound => Ok(None),
         Err(e) => Err(own_failed(e)),
     }
 }
 
-/// Opens the file at a place, which is made where it isn't there, and locks it. None where its directory isn't there.
-fn open_lock_file<R: Files<File = File>>(
-    files: &R,
-    place: &str,
-) -> Result<Option<File>, DiskFault> {
-    let Some(file) = open_or_make(files, place)? else {
-        return Ok(None);
-    };
-    match lock_file(&file) {
+/// Locks the file at a place. `Locked` where another run has, and where it isn't at that place any more: a run that ended since it was
+/// opened has removed it, and another one may hold the lock of a new file there.
+fn hold<R: Files<File = File>>(files: &R, file: &File, place: &str) -> Result<(), DiskFault> {
+    match lock_file(file) {
         Err(DiskFault::Failed { cause }) => return Err(DiskFault::Own { cause }),
         locked => locked?,
     }
-    // A run that ended since the file was opened has removed it, and another one may hold the lock of a new file there.
-    match is_at(files, &file, place) {
-        Ok(true) => Ok(Some(file)),
+    match is_at(files, file, place) {
+        Ok(true) => Ok(()),
         Ok(false) => Err(DiskFault::Locked),
+        Err(e) => Err(own_failed(e)),
+    }
+}
+
+/// Removes the lock's file that a stopped run left at a place, unless another run holds it.
+fn remove_stale<R: Files<File = File>>(files: &R, place: &str) -> Result<(), DiskFault> {
+    let mut options = OpenOptions::new();
+    options.write(true);
+    match options.open(files, place) {
+        Ok(file) => {
+            hold(files, &file, place)?;
+            fs::remove_file(files, place).map_err(own_failed)
+        }
+        // the run that had it has ended
+        Err(e) if e.kind() == ErrorKind::NotFound => Ok(()),
         Err(e) => Err(own_failed(e)),
     }
 }

@@ -117,9 +117,9 @@ pub(crate) fn is_same(one: &Metadata, other: &Metadata) -> bool {
     one.dev() == other.dev() && one.ino() == other.ino()
 }
 
-/// Makes the program's own directory in a root, for its owner alone, where it isn't there. One that is there is closed to
-/// others, where that can be done. Answers whether the replica took part in a run before: one that was made for a run that
-/// never came so far is marked by its sticky bit, which means nothing else on a directory of one owner.
+/// Makes the program's own directory in a root, for its owner alone, where it isn't there. Answers whether the replica took part in
+/// a run before: one that was made for a run that never came so far is marked by its sticky bit, which means nothing else on a
+/// directory of one owner.
 pub(crate) fn make_own<R: Files>(files: &R, own: &str) -> io::Result<bool> {
     let mut builder = DirBuilder::new();
     builder.mode(PRIVATE_DIR | UNUSED);
@@ -127,15 +127,17 @@ pub(crate) fn make_own<R: Files>(files: &R, own: &str) -> io::Result<bool> {
         return Ok(false);
     };
     match metadata_at(files, own)? {
-        Some(metadata) if metadata.is_dir() => {
-            let mode = metadata.mode();
-            if mode & OTHERS != 0 {
-                let kept = PRIVATE_DIR | (mode & UNUSED);
-                let _ = fs::set_permissions(files, own, Permissions::from_mode(kept));
-            }
-            Ok(mode & UNUSED == 0)
-        }
+        Some(metadata) if metadata.is_dir() => Ok(metadata.mode() & UNUSED == 0),
         _ => Err(e),
+    }
+}
+
+/// Closes the program's own directory to others, where it is open to them and that can be done.
+pub(crate) fn close_own<R: Files>(files: &R, own: &str, metadata: &Metadata) {
+    let mode = metadata.mode();
+    if mode & OTHERS != 0 {
+        let kept = PRIVATE_DIR | (mode & UNUSED);
+        let _ = fs::set_permissions(files, own, Permissions::from_mode(kept));
     }
 }
 
