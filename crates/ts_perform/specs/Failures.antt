@@ -32,5 +32,5 @@ failure_text fault (Some path) cause = said (shown 0 (path_text path) ∷ act_te
 abbrev pub notice_text : Notice → List ℕ
 notice_text (notice.Discarded path) = said (shown 0 (path_text path) ∷ codes ": what it replaced can't be removed. Later runs try again." ∷ [])
 notice_text (notice.Kept path place) =
-    said (shown 0 (path_text path) ∷ codes ": what stood there can't go back, and is kept as " ∷ shown 0 (string_bytes place) ∷ codes "." ∷ [])
+    said (shown 0 (path_text path) ∷ codes ": what stood there is kept as " ∷ shown 0 (string_bytes place) ∷ codes ": it may be the only copy of something." ∷ [])
 notice_text (notice.Mounted path) = said (shown 0 (path_text path) ∷ codes " is another file system: nothing can be put in place there." ∷ [])

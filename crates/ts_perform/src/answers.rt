@@ -156,9 +156,9 @@ fn push_notice_text(alloc: Global, notice: &Notice, line: &mut Vec<u8>) -> Resul
         Notice::Kept { path, place } => {
             let pieces = [
                 Piece::Below(path),
-                Piece::Words(b": what stood there can't go back, and is kept as "),
+                Piece::Words(b": what stood there is kept as "),
                 Piece::Name(place.as_str()),
-                Piece::Words(b"."),
+                Piece::Words(b": it may be the only copy of something."),
             ];
             push_pieces(alloc, &pieces, line)
         }
