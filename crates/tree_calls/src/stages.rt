@@ -7,7 +7,7 @@ use std::{fs, process, thread};
 use ts_cause::Cause;
 use ts_check::{Checked, check};
 use ts_disk::{
-    DiskSite, DiskStage, Replica, Way, check_leftovers, clear_leftovers, recover_replica,
+    DiskSite, DiskStage, Part, Replica, Way, check_leftovers, clear_leftovers, recover_replica,
 };
 use ts_folder::DiskFolder;
 use ts_hold::Holds;
@@ -28,6 +28,9 @@ const BIG: usize = 1_048_579;
 const PLAN: &[u8] = b"twosync-plan 1\nentry first /d\nentry second /s\npiece 0 0 1048576 /d/big\n\
 piece 0 1048576 3 /d/big\npiece 0 0 2 /d/e/y\ncommit 0\np 0\np 1\np 2\nmark 0\np 3\npiece 1 0 1 /s\n\
 commit 1\np 5\nmark 1\np 6\nend 2 8\n";
+
+/// The pieces of `/d/big`.
+const PARTS: [Part; 2] = [Part { piece: 0, word: 2 }, Part { piece: 1, word: 0 }];
 
 /// How many pieces `/d` has: they are the first actions. Its commit comes next.
 const PIECES: usize = 3;
@@ -349,7 +352,8 @@ fn on_stage<R: Threads + Sync>(
     case: Case,
 ) -> Option<bool> {
     let own = files.clone().ok()?;
-    let stage = DiskStage::new(files.alloc(), own, checked, pair.first, pair.second).ok()?;
+    let entries = checked.plan().entries.as_slice().len();
+    let stage = DiskStage::new(files.alloc(), own, entries, &PARTS, pair.first, pair.second).ok()?;
     match case {
         Case::Copies => copies(rt, files, pair, checked, &stage, false),
         Case::CopiesLate => copies(rt, files, pair, checked, &stage, true),

@@ -33,4 +33,4 @@ pub use plan_file::{remove_plan, save_plan};
 pub use recovery::{awaits_recovery, check_leftovers, clear_leftovers, recover_replica};
 pub use replica::Replica;
 pub use site::{DiskSite, Way};
-pub use stage::DiskStage;
+pub use stage::{DiskStage, Part};

@@ -1,5 +1,5 @@
 //! The stage of a run over a pair on a disk: pieces store what they read in the replica that it is copied into.
-ghost use Rattle.std.specs.Prelude.{◌≡◌, ◌≢◌, IfErr, IfNone, IfOk, IfSome, Some, length};
+ghost use Rattle.std.specs.Prelude.{◌≡◌, ◌≢◌, IfErr, IfNone, IfOk, IfSome, Some, length, map};
 ghost use Rattle.std.specs.String.{string_bytes};
 ghost use Rattle.ts_cause.specs.declared.cause.Cause.{Cause};
 ghost use Rattle.ts_disk.specs.Stages.{IsSourceOf, IsStagePlace, cause_number, failure_number, root_from, root_of};
@@ -12,7 +12,9 @@ use crate::aside::new_buffer;
 use crate::fault::DiskFault;
 use crate::leftover::remove_at;
 use crate::modes::{PRIVATE_FILE, permissions_at};
-use crate::place::{Standing, kind_at, make_missing_dir, make_own, own_place, stage_place};
+use crate::place::{
+    Standing, kind_at, make_missing_dir, make_own, own_place, stage_place,
+};
 use std::alloc::{AllocError, Global};
 use std::fs::{File, Files, OpenOptions, Permissions};
 use std::io;
@@ -20,10 +22,8 @@ use std::io::ErrorKind;
 use std::os::unix::fs::{FileExt, OpenOptionsExt, PermissionsExt};
 use std::sync::atomic::{AtomicU32, Ordering};
 use ts_cause::{Cause, cause_of};
-use ts_check::Checked;
 use ts_model::items::Items;
-use ts_model::packed::KindRef;
-use ts_model::plan::{Entry, Plan, Side};
+use ts_model::plan::{Entry, Side};
 use ts_name::Path;
 use ts_stage::{Piece, ReadBack, Reading, Stage, StageFault};
 
@@ -83,6 +83,15 @@ enum Turn {
     Only,
 }
 
+/// One of the pieces of a file that has several.
+#[derive(Clone, Copy, Debug, PartialEq, Eq, Drop)]
+pub struct Part {
+    /// The number of its action.
+    pub piece: u32,
+    /// How many pieces the file has, where this one begins it; else the number of the one that does.
+    pub word: u32,
+}
+
 /// Where the pieces of an entry are stored, and where the file of one of them is.
 #[derive(Drop)]
 struct StagePlace {
@@ -92,20 +101,21 @@ struct StagePlace {
 }
 
 impl<R: Drop> DiskStage<R> {
-    /// The stage of a run that carries out a plan over replicas with these roots. Nothing is made yet.
+    /// The stage of a run over replicas with these roots that carries out a plan of so many entries. `parts` are the pieces of all
+    /// files that have several, in ascending order. Nothing is made yet.
     pub fn new(
         alloc: Global,
         files: R,
-        checked: &Checked<'_>,
+        entries: usize,
+        parts: &[Part],
         first: &str,
         second: &str,
     ) -> Result<DiskStage<R>, DiskFault>
         ensures roots { IfOk result (λ stage. (string_bytes stage.first ≡ first.now) × (string_bytes stage.second ≡ second.now)) }
         ensures fault { IfErr result (λ e. e ≡ DiskFault.OutOfMemory) }
     {
-        let plan = checked.plan();
-        let (parts, waiting) = counts(alloc, checked)?;
-        let none = vec![in alloc; 0u32; plan.entries.as_slice().len()]?;
+        let (parts, waiting) = counts(alloc, parts)?;
+        let none = vec![in alloc; 0u32; entries]?;
         let failed = words(alloc, none.as_slice())?;
         let first = String::from_str(alloc, first)?;
         let second = String::from_str(alloc, second)?;
@@ -351,64 +361,18 @@ fn words(alloc: Global, numbers: &[u32]) -> Result<Vec<AtomicU32>, AllocError>
     Ok(words)
 }
 
-/// The pieces of files that have several, and what `waiting` begins with beside each.
-fn counts(alloc: Global, checked: &Checked<'_>) -> Result<(Vec<u32>, Vec<AtomicU32>), AllocError>
-    ensures { IfOk result (λ found. length found.0.items ≡ length found.1.items) }
+/// The numbers of these pieces, and what `waiting` begins with beside each.
+fn counts(alloc: Global, pieces: &[Part]) -> Result<(Vec<u32>, Vec<AtomicU32>), AllocError>
+    ensures same { IfOk result (λ found. found.0.items ≡ map (λ part. part.piece) pieces.now) }
+    ensures words { IfOk result (λ found. length found.1.items ≡ length pieces.now) }
 {
-    let plan = checked.plan();
-    let mut counts = Vec::new(alloc);
-    for commit in 0..checked.action_count() {
-        count_pieces(plan, checked.pieces(commit), &mut counts)?;
-    }
-    counts.sort_unstable();
-    let mut parts = Vec::with_capacity(alloc, counts.len())?;
-    let mut waiting = Vec::with_capacity(alloc, counts.len())?;
-    for (piece, word) in counts.as_slice() {
-        parts.push(*piece)?;
-        waiting.push(AtomicU32::new(*word))?;
+    let mut parts = Vec::with_capacity(alloc, pieces.len())?;
+    let mut waiting = Vec::with_capacity(alloc, pieces.len())?;
+    for part in pieces {
+        parts.push(part.piece)?;
+        waiting.push(AtomicU32::new(part.word))?;
     }
     Ok((parts, waiting))
-}
-
-/// Counts the pieces of a commit, which come by path and then by offset: each file's together, and the one that begins it first.
-fn count_pieces(
-    plan: &Plan,
-    pieces: &[u32],
-    counts: &mut Vec<(u32, u32)>,
-) -> Result<(), AllocError> {
-    let mut first = 0u32;
-    let mut count: Option<usize> = None;
-    for piece in pieces {
-        if offset_of(plan, *piece) == 0 {
-            first = *piece;
-            count = None;
-        } else {
-            let index = match count {
-                Some(index) => index,
-                None => {
-                    counts.push((first, 1))?;
-                    counts.len() - 1
-                }
-            };
-            if let Some(counted) = counts.get_mut(index) {
-                counted.1 = counted.1.saturating_add(1);
-            }
-            counts.push((*piece, first))?;
-            count = Some(index);
-        }
-    }
-    Ok(())
-}
-
-/// Where the bytes of a piece begin in its file.
-fn offset_of(plan: &Plan, piece: u32) -> u64 {
-    match plan.actions.as_slice().get(piece as usize) {
-        Some(action) => match action.kind() {
-            KindRef::Piece { offset, .. } => offset,
-            KindRef::Commit { .. } | KindRef::Mark { .. } => 0,
-        },
-        None => 0,
-    }
 }
 
 /// Opens the file at a place in a stage, for its owner alone, and makes it and the directories above it where they are missing.

@@ -8,6 +8,7 @@ ghost use Rattle.ts_perform.specs.Trials.{IsQuiet};
 ghost use denote.Param.Send.{IsSync};
 
 use crate::fault::{OpenFault, PerformFault};
+use crate::parts::parts_of;
 use std::alloc::Global;
 use std::fs::{File, Files};
 use std::io::{ErrorKind, Read, Seek, SeekFrom};
@@ -333,7 +334,10 @@ impl Disk for HostRuntime {
         first: &str,
         second: &str,
     ) -> Result<DiskStage<HostRuntime>, PerformFault> {
-        match DiskStage::new(alloc, self.clone()?, checked, first, second) {
+        let parts = parts_of(alloc, checked)?;
+        let entries = checked.plan().entries.as_slice().len();
+        let own = self.clone()?;
+        match DiskStage::new(alloc, own, entries, parts.as_slice(), first, second) {
             Ok(stage) => Ok(stage),
             Err(_) => Err(PerformFault::OutOfMemory),
         }

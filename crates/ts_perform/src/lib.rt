@@ -11,6 +11,7 @@ pub mod fault;
 mod inputs;
 mod keeping;
 mod lengths;
+mod parts;
 mod past;
 mod pending;
 pub mod performing;
