@@ -95,6 +95,7 @@ commands.sh: expect 'show' 0: ts_perform::HostRuntime::open
 commands.sh: expect 'first sync' 0: ts_perform::HostRuntime::take_part ts_perform::HostRuntime::flush_above
 commands.sh: expect 'first sync' 0: ts_disk::Lock::is_in_place ts_disk::Lock::take_part ts_disk::check_leftovers
 commands.sh: expect 'first sync' 0: ts_disk::save_plan ts_disk::DiskSite::new ts_disk::DiskSite::commit ts_disk::flush_above
+commands.sh: expect 'a conflict settled by hand' 0: ts_disk::flush_paths ts_perform::HostRuntime::flush_paths
 commands.sh: alike 'first sync': ts_disk::Lock::release ts_disk::clear_leftovers ts_disk::remove_plan
 commands.sh: holds_true 'the archive file': ts_perform::HostRuntime::claim ts_perform::HostRuntime::write_archive
 commands.sh: holds_true 'the archive file': ts_disk::claim_archive ts_disk::ArchivePlace::write

@@ -1,6 +1,7 @@
 -- Permission bits.
 --     private_bits standing     those of what nobody but its owner may use
---     IsStoredBelowTop row      the row has a file that pieces have stored, and isn't the tree's top
+--     IsStored row              the row has a file that pieces have stored
+--     IsStoredBelowTop row      so it is, and it isn't the tree's top
 use Rattle.std.specs.Prelude.{◌≡◌, ◌≢◌, [], ℕ, false}
 use Rattle.ts_disk.specs.declared.place.Standing.{Standing}
 use Rattle.ts_disk.specs.declared.place.Standing.TheVariants.{Nothing, CutOff, Dir, File, Other}
@@ -16,5 +17,8 @@ private_bits Dir = 448
 private_bits File = 384
 private_bits Other = 384
 
+abbrev pub IsStored : Row Staging → Type 0
+IsStored row = (file : Staging) × (row.content ≡ content.File file) × (file.held ≡ false)
+
 abbrev pub IsStoredBelowTop : Row Staging → Type 0
-IsStoredBelowTop row = (row.path ≢ []) × (file : Staging) × (row.content ≡ content.File file) × (file.held ≡ false)
+IsStoredBelowTop row = (row.path ≢ []) × IsStored row

@@ -6,7 +6,7 @@ ghost use Rattle.ts_disk.specs.Names.{StandsIn};
 use crate::fault::{DiskFault, failed, unusable, unwritten};
 use crate::lock::{is_at, lock_file};
 use crate::modes::{PRIVATE_FILE, permissions};
-use crate::place::{Standing, flush_dir, kind_at};
+use crate::place::{Standing, flush_at, kind_at};
 use std::alloc::Global;
 use std::fs::{File, Files, OpenOptions, Permissions};
 use std::io::{BufWriter, ErrorKind, Read, Seek, Write};
@@ -160,7 +160,7 @@ impl ArchivePlace {
 
     /// Waits until the directory of the archive has reached the device.
     fn flush<R: Files>(&self, files: &R) -> Result<(), DiskFault> {
-        flush_dir(files, above(self.place.as_str())).map_err(failed)
+        flush_at(files, above(self.place.as_str())).map_err(failed)
     }
 
     /// Whether the place was claimed by this name.

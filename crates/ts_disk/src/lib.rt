@@ -25,7 +25,7 @@ mod staging;
 
 pub use archive::{ArchivePlace, claim_archive};
 pub use fault::DiskFault;
-pub use flushing::{flush_above, flush_above_alone};
+pub use flushing::{flush_above, flush_above_alone, flush_paths};
 pub use lock::{Lock, take_lock};
 pub use notice::{Notice, mount_above};
 pub use places::DiskPlaces;

@@ -164,8 +164,8 @@ pub(crate) fn make_missing_dir<R: Files>(files: &R, place: &str) -> io::Result<(
     }
 }
 
-/// Waits until what a directory lists has reached its device.
-pub(crate) fn flush_dir<R: Files>(files: &R, place: &str) -> io::Result<()> {
+/// Waits until what stands at a place has reached its device: a file's bytes, or the names in a directory.
+pub(crate) fn flush_at<R: Files>(files: &R, place: &str) -> io::Result<()> {
     use std::fs::OpenFile;
     fs::open(files, place)?.sync_all()
 }

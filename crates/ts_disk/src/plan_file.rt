@@ -5,7 +5,7 @@ ghost use Rattle.ts_model.specs.Texts.{IsPlan};
 
 use crate::fault::{DiskFault, failed, own_failed, unusable, unwritten};
 use crate::modes::PRIVATE_FILE;
-use crate::place::{Standing, flush_dir, kind_at, make_own, own_place};
+use crate::place::{Standing, flush_at, kind_at, make_own, own_place};
 use std::alloc::{AllocError, Global};
 use std::fs::{Files, OpenFile, OpenOptions};
 use std::io::{BufReader, BufWriter, Read, Write};
@@ -40,8 +40,8 @@ pub fn save_plan<R: Files>(
     let place = plan_place(alloc, root)?;
     let new = format!(in alloc; "{place}.new")?;
     put_plan(files, alloc, new.as_str(), place.as_str(), plan)?;
-    flush_dir(files, own.as_str()).map_err(failed)?;
-    flush_dir(files, root).map_err(failed)
+    flush_at(files, own.as_str()).map_err(failed)?;
+    flush_at(files, root).map_err(failed)
 }
 
 /// Writes a plan whole at one place, and renames it to another. After a fault nothing is left at the former, where it can be removed.

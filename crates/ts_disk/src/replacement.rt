@@ -5,6 +5,7 @@ ghost use Rattle.ts_swap.specs.Leavings.{Counts};
 
 use crate::aside::{is_same_tree, is_untouched};
 use crate::compare::compare;
+use crate::flushing::unflushed_since;
 use crate::look::Look;
 use crate::modes::permissions_at;
 use crate::place::Standing;
@@ -114,6 +115,7 @@ impl<'a> Replacement<'a> {
         Ok(Bits {
             kept: permissions_at(&self.places.files, target, Standing::File)?,
             source: Some(self.source),
+            since: unflushed_since(&self.places.files),
         })
     }
 

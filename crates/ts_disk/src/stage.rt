@@ -1,5 +1,5 @@
 //! The stage of a run over a pair on a disk: pieces store what they read in the replica that it is copied into.
-ghost use Rattle.std.specs.Prelude.{◌≡◌, ◌≢◌, IfErr, IfNone, IfOk, IfSome, Some, length, map};
+ghost use Rattle.std.specs.Prelude.{◌≡◌, ◌≢◌, ◌↔◌, IfErr, IfNone, IfOk, IfSome, IsTrue, None, Some, length, map};
 ghost use Rattle.std.specs.String.{string_bytes};
 ghost use Rattle.ts_cause.specs.declared.cause.Cause.{Cause};
 ghost use Rattle.ts_disk.specs.Stages.{IsSourceOf, IsStagePlace, cause_number, failure_number, root_from, root_of};
@@ -10,10 +10,11 @@ ghost use Rattle.ts_name.specs.Paths.{IsAbove};
 
 use crate::aside::new_buffer;
 use crate::fault::DiskFault;
+use crate::flushing::{flush_seen, unflushed_since};
 use crate::leftover::remove_at;
-use crate::modes::{PRIVATE_FILE, permissions_at};
+use crate::modes::{PRIVATE_FILE, permissions};
 use crate::place::{
-    Standing, kind_at, make_missing_dir, make_own, own_place, stage_place,
+    Standing, kind_at, make_missing_dir, make_own, metadata_at, own_place, stage_place,
 };
 use std::alloc::{AllocError, Global};
 use std::fs::{File, Files, OpenOptions, Permissions};
@@ -21,6 +22,7 @@ use std::io;
 use std::io::ErrorKind;
 use std::os::unix::fs::{FileExt, OpenOptionsExt, PermissionsExt};
 use std::sync::atomic::{AtomicU32, Ordering};
+use std::time::Clock;
 use ts_cause::{Cause, cause_of};
 use ts_model::items::Items;
 use ts_model::plan::{Entry, Side};
@@ -41,6 +43,8 @@ pub struct DiskStage<R> {
     // Beside each of these, where it begins its file, how many of the file's pieces aren't stored yet; else the number of the
     // piece that begins it, which stays.
     waiting: Vec<AtomicU32>,
+    // since when what was changed in a source may not have reached its device yet, in seconds since 1970
+    since: i64,
     // for each entry 0, or by its number why its pieces aren't stored any more: whichever failure came first
     failed: Vec<AtomicU32>,
 }
@@ -54,6 +58,7 @@ impl<R: Drop> Drop for DiskStage<R> {
             second,
             parts,
             waiting,
+            since: _,
             failed,
         } = self;
         drop(files);
@@ -92,6 +97,14 @@ pub struct Part {
     pub word: u32,
 }
 
+/// The file that a stored one is copied from.
+#[derive(Drop)]
+struct SourceFile {
+    place: String,
+    // the stored one is at the top of its entry, so that its commit gives it its permission bits
+    is_top: bool,
+}
+
 /// Where the pieces of an entry are stored, and where the file of one of them is.
 #[derive(Drop)]
 struct StagePlace {
@@ -100,7 +113,7 @@ struct StagePlace {
     file: String,
 }
 
-impl<R: Drop> DiskStage<R> {
+impl<R: Clock + Drop> DiskStage<R> {
     /// The stage of a run over replicas with these roots that carries out a plan of so many entries. `parts` are the pieces of all
     /// files that have several, in ascending order. Nothing is made yet.
     pub fn new(
@@ -119,16 +132,20 @@ impl<R: Drop> DiskStage<R> {
         let failed = words(alloc, none.as_slice())?;
         let first = String::from_str(alloc, first)?;
         let second = String::from_str(alloc, second)?;
+        let since = unflushed_since(&files);
         Ok(DiskStage {
             files,
             first,
             second,
             parts,
             waiting,
+            since,
             failed,
         })
     }
+}
 
+impl<R: Drop> DiskStage<R> {
     /// Why the pieces of the entry of this number weren't stored, as far as the system says.
     pub fn cause(&self, entry: u32) -> Cause {
         match self.failure(entry) {
@@ -200,26 +217,27 @@ impl<R: Drop> DiskStage<R> {
         Ok(Some(StagePlace { own, stage, file }))
     }
 
-    /// Where the file at this whole path is copied from, if it gets that one's permission bits as it is stored. None for the file
-    /// at the top of its entry: the commit gives it its bits, which may be those of the file that it replaces.
-    fn bits_place(
+    /// The file that the one at this whole path is copied from, and whether that one is at the top of its entry: the commit gives it
+    /// its permission bits then, which may be those of the file that it replaces. None where the entry isn't copied.
+    fn source_file(
         &self,
         alloc: Global,
         entry: &Entry,
         path: &Path,
-    ) -> Result<Option<String>, AllocError>
-        ensures source { IfOk result (λ found. IfSome found (λ place.
-            IsSourceOf entry.now (string_bytes self.now.first) (string_bytes self.now.second) path.now (string_bytes place))) }
-        ensures top { IfOk result (λ found. IfSome found (λ _. path.now ≢ entry.now.path)) }
-        ensures none { IfOk result (λ found. IfNone found ((from : Side) → source entry.now.reason ≡ Some from → path.now ≡ entry.now.path)) }
+    ) -> Result<Option<SourceFile>, AllocError>
+        ensures source { IfOk result (λ found. IfSome found (λ file.
+            IsSourceOf entry.now (string_bytes self.now.first) (string_bytes self.now.second) path.now (string_bytes file.place))) }
+        ensures top { IfOk result (λ found. IfSome found (λ file. IsTrue file.is_top ↔ (path.now ≡ entry.now.path))) }
+        ensures none { IfOk result (λ found. IfNone found (source entry.now.reason ≡ None)) }
     {
-        if path == &entry.path {
-            return Ok(None);
-        }
         let Some(from) = entry.reason.source() else {
             return Ok(None);
         };
-        Ok(Some(path.place_below(alloc, self.root_of(from))?))
+        let place = path.place_below(alloc, self.root_of(from))?;
+        Ok(Some(SourceFile {
+            place,
+            is_top: path == &entry.path,
+        }))
     }
 
     /// The root of the replica on this side.
@@ -244,8 +262,9 @@ impl<R: Drop> DiskStage<R> {
 }
 
 impl<R: Files<File = File> + AllocGlobal + Clone + Drop> DiskStage<R> {
-    /// Writes the bytes of a piece to their place. Where they were the last of their file that were missing, it gives the file its
-    /// permission bits, waits until it has reached the device, all that others wrote into it too, and answers what it then has.
+    /// Writes the bytes of a piece to their place. Where they were the last of their file that were missing, it waits until the file
+    /// that they were read from has reached its device, gives the new one its permission bits, waits until that has reached its device,
+    /// all that others wrote into it too, and answers what it then has.
     fn write(
         &self,
         alloc: Global,
@@ -263,20 +282,31 @@ impl<R: Files<File = File> + AllocGlobal + Clone + Drop> DiskStage<R> {
             Turn::Last => read_back(&self.files, alloc, &file)?,
             Turn::Only => stamped(alloc, bytes)?,
         };
-        self.give_bits(alloc, entry, path, &file)?;
+        self.settle_source(alloc, entry, path, &file)?;
         file.sync_all()?;
         Ok(Some(whole))
     }
 
-    /// Gives a file below the top of its entry the permission bits of the one that it is copied from. Where the file system keeps
-    /// no such bits, it does without. It fails where the source can't be looked at, or memory runs out.
-    fn give_bits(&self, alloc: Global, entry: &Entry, path: &Path, file: &File) -> io::Result<()> {
-        let Some(source) = self.bits_place(alloc, entry, path)? else {
+    /// Waits until the file that this one is copied from has reached its device, if it was changed lately: the archive will say that
+    /// it is there. It gives this one that one's permission bits, unless it is at the top of its entry. Where the file system keeps
+    /// no such bits, it does without. It fails where the source can't be looked at or flushed, or memory runs out.
+    fn settle_source(
+        &self,
+        alloc: Global,
+        entry: &Entry,
+        path: &Path,
+        file: &File,
+    ) -> io::Result<()> {
+        let Some(source) = self.source_file(alloc, entry, path)? else {
             return Ok(());
         };
-        let found = permissions_at(&self.files, source.as_str(), Standing::File)?;
-        let mode = found.unwrap_or(PRIVATE_FILE);
-        if mode != PRIVATE_FILE {
+        let place = source.place.as_str();
+        let Some(found) = metadata_at(&self.files, place)? else {
+            return Ok(());
+        };
+        flush_seen(&self.files, place, &found, self.since)?;
+        let mode = permissions(&found);
+        if !source.is_top && found.is_file() && mode != PRIVATE_FILE {
             let _ = file.set_permissions(Permissions::from_mode(mode));
         }
         Ok(())

@@ -1,9 +1,10 @@
 //! New trees, written beside a replica until they are put in place.
 ghost use Rattle.std.specs.Prelude.{◌≡◌, ◌<◌, ◌++◌, ◌↔◌, [], IfOk, IfSome, IsNone, IsTrue, None};
 ghost use Rattle.std.specs.String.{string_bytes};
-ghost use Rattle.ts_disk.specs.Modes.{IsStoredBelowTop, private_bits};
+ghost use Rattle.ts_disk.specs.Modes.{IsStored, IsStoredBelowTop, private_bits};
 ghost use Rattle.ts_name.specs.Paths.{place_text};
 
+use crate::flushing::flush_if_changed;
 use crate::modes::{PRIVATE_DIR, PRIVATE_FILE, permissions_at};
 use crate::place::{Standing, make_missing_dir, make_private_dir, metadata_at};
 use std::fs::{Files, OpenFile, OpenOptions, Permissions};
@@ -38,6 +39,8 @@ pub(crate) struct Bits<'a> {
     pub kept: Option<u32>,
     /// Where the tree is copied from.
     pub source: Option<&'a str>,
+    /// Since when what was changed there may not have reached its device yet, in seconds since 1970.
+    pub since: i64,
 }
 
 impl Bits<'_> {
@@ -49,6 +52,7 @@ impl Bits<'_> {
         Bits {
             kept: None,
             source: None,
+            since: i64::MIN,
         }
     }
 
@@ -125,8 +129,23 @@ pub(crate) fn complete_tree<R: Files + AllocGlobal>(
         if !has_bits(row) {
             close_row(files, row, top, bits)?;
         }
+        if !is_stored(row) {
+            flush_source(files, row, bits)?;
+        }
     }
     Ok(())
+}
+
+/// Waits until what a row is copied from has reached its device, if it was changed lately: the archive will say that it is there.
+fn flush_source<R: Files + AllocGlobal, T>(
+    files: &R,
+    row: &Row<T>,
+    bits: &Bits<'_>,
+) -> io::Result<()> {
+    match bits.source {
+        Some(source) => flush_if_changed(files, below(files, row, source)?.as_str(), bits.since),
+        None => Ok(()),
+    }
 }
 
 /// Makes what a row says, for the owner alone, unless it is stored already.
@@ -149,8 +168,15 @@ fn complete_row<R: Files + AllocGlobal>(
 fn has_bits(row: &Row<StagedFile>) -> bool
     ensures { IsTrue result ↔ IsStoredBelowTop row.now }
 {
+    is_stored(row) && !row.path.is_root()
+}
+
+/// Whether a row has a file that pieces have stored. What that is copied from was flushed by the last of them.
+fn is_stored(row: &Row<StagedFile>) -> bool
+    ensures { IsTrue result ↔ IsStored row.now }
+{
     match &row.content {
-        Content::File(file) => file.bytes().is_none() && !row.path.is_root(),
+        Content::File(file) => file.bytes().is_none(),
         Content::Absent | Content::Dir => false,
     }
 }

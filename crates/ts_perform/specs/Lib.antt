@@ -1,3 +1,4 @@
+pub mod Agreed
 pub mod Failures
 pub mod Faults
 pub mod Inputs

@@ -13,6 +13,7 @@ ghost use Rattle.ts_perform.specs.Trials.{IsQuiet};
 ghost use Rattle.ts_perform.specs.Runs.{IsRunOf};
 ghost use Rattle.ts_perform.specs.Worlds.{world};
 
+use crate::agreed::flush_agreed;
 use crate::counting::{Folders, run_counted};
 use crate::disk::{Disk, Machine};
 use crate::fault::{PerformFault, Subject, of_disk, replica_on};
@@ -36,7 +37,7 @@ use ts_special::Specials;
 const MOST_WORKERS: u32 = 48;
 
 /// Carries out a checked plan by the task's workers, and writes its archive to its place from time to time. The outcome is that of
-/// commits each of which is made in the replica that its entry is copied to; the stage knows why pieces failed.
+/// commits each of which is made in the replica that its entry is copied to; the stage knows why pieces failed. What both replicas agree on already has reached their devices before.
 pub(crate) fn act<R: Machine>(
     task: &Task<'_, R>,
     place: &mut R::Archive,
@@ -58,6 +59,7 @@ pub(crate) fn act<R: Machine>(
         progress,
         ..
     } = task;
+    flush_agreed(task, checked)?;
     let alloc = rt.alloc();
     let workers = (*workers).min(MOST_WORKERS);
     let every = match command.checkpoint {
@@ -159,7 +161,8 @@ pub(crate) fn keep_archive<R: Machine>(
         .map_err(|fault| of_disk(fault, Subject::Archive))
 }
 
-/// Waits until what a run that ended with these results put in place in both replicas has reached its device.
+/// Waits until the directories have reached their devices in which a run that ended with these results put something in place, and
+/// those of the other replica in which it found that.
 fn flush_put<R: Machine>(
     task: &Task<'_, R>,
     plan: &Plan,
@@ -174,11 +177,13 @@ fn flush_put<R: Machine>(
         ..
     } = task;
     let alloc = rt.alloc();
-    for side in [Side::First, Side::Second] {
-        let root = replica(*pair, side).root;
-        let paths = paths_put(alloc, plan, results, side)?;
-        rt.flush_above(*rt, alloc, root, paths.as_slice(), *workers)
-            .map_err(|fault| of_disk(fault, replica_on(side)))?;
+    for into in [Side::First, Side::Second] {
+        let paths = paths_put(alloc, plan, results, into)?;
+        for side in [Side::First, Side::Second] {
+            let root = replica(*pair, side).root;
+            rt.flush_above(*rt, alloc, root, paths.as_slice(), *workers)
+                .map_err(|fault| of_disk(fault, replica_on(side)))?;
+        }
     }
     Ok(())
 }

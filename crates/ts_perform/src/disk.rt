@@ -20,7 +20,7 @@ use ts_cause::{Cause, cause_of};
 use ts_check::Checked;
 use ts_disk::{
     ArchivePlace, DiskFault, DiskSite, DiskStage, Lock, Way, awaits_recovery, claim_archive,
-    flush_above, flush_above_alone, take_lock,
+    flush_above, flush_above_alone, flush_paths, take_lock,
 };
 use ts_folder::Folder;
 use ts_name::Path;
@@ -211,6 +211,17 @@ pub trait Disk {
 
     /// Gives the place of an archive up.
     fn release(&self, place: Self::Archive);
+
+    /// Waits until what stands at these paths of a replica has reached the device, as far as it was changed lately.
+    fn flush_paths<T: Threads + Sync>(
+        &self,
+        rt: &T,
+        alloc: Global,
+        root: &str,
+        paths: &[&Path],
+        workers: u32,
+    ) -> Result<(), DiskFault>
+        requires { IsSync T.row };
 
     /// Waits until the directories in which these paths of a replica stand have reached the device.
     fn flush_above<T: Threads + Sync>(
@@ -418,6 +429,17 @@ impl Disk for HostRuntime {
 
     fn release(&self, place: ArchivePlace) {
         place.release(self);
+    }
+
+    fn flush_paths<T: Threads + Sync>(
+        &self,
+        rt: &T,
+        alloc: Global,
+        root: &str,
+        paths: &[&Path],
+        workers: u32,
+    ) -> Result<(), DiskFault> {
+        flush_paths(rt, self, alloc, root, paths, workers)
     }
 
     fn flush_above<T: Threads + Sync>(

@@ -24,16 +24,17 @@ impl<R: Disk + AllocGlobal> Keeper for PlaceKeeper<'_, '_, R> {
 
     ghost kept = { λ _. None };
 
-    /// Writes an archive. Before it says so, all that the run may have put in place by now has reached its device. Where that
-    /// fails it is done without: the archive before it stands, and that of the whole run is still to come.
+    /// Writes an archive. Before it says so, all that the run may have put in place by now has reached its device, and so have the
+    /// directories that it was copied from. Where that fails it is done without: the archive before it stands, and that of the whole
+    /// run is still to come.
     fn keep(&mut self, archive: Print) {
         let rt = self.task.rt;
         let alloc = rt.alloc();
+        let Ok(paths) = paths_copied(alloc, self.plan) else {
+            return;
+        };
         for side in [Side::First, Side::Second] {
             let root = replica(self.task.pair, side).root;
-            let Ok(paths) = paths_of_all(alloc, self.plan, side) else {
-                return;
-            };
             if rt.flush_alone(alloc, root, paths.as_slice()).is_err() {
                 return;
             }
@@ -42,15 +43,11 @@ impl<R: Disk + AllocGlobal> Keeper for PlaceKeeper<'_, '_, R> {
     }
 }
 
-/// The paths of all entries that may have been put in place in a replica: which actions are done isn't known here.
-fn paths_of_all<'a>(
-    alloc: Global,
-    plan: &'a Plan,
-    side: Side,
-) -> Result<Vec<&'a Path>, PerformFault> {
+/// The paths of all entries that are copied: which of them are done isn't known here.
+fn paths_copied(alloc: Global, plan: &Plan) -> Result<Vec<&Path>, PerformFault> {
     let mut paths = Vec::new(alloc);
     for entry in plan.entries.as_slice() {
-        if entry.reason.is_from(side.other()) {
+        if entry.reason.source().is_some() {
             paths.push(&entry.path)?;
         }
     }

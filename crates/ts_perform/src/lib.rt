@@ -2,6 +2,7 @@
 #![tactic(auto)]
 
 mod acting;
+mod agreed;
 mod answers;
 mod causes;
 mod counting;
