@@ -35,12 +35,20 @@ can_mount() {
   [ "$got" = 2 ]
 }
 
+# Whether an older copy of the replica lies below the mount, as a run leaves it that came while nothing was mounted.
+copy=
 # had: what both replicas and the archive had, and what has become of it since: one file was deleted and one changed in the replica
 # `from`, which has a new folder and a new file, too; the other replica has a new file
 had() {
   local name
   unmount_all
   fresh
+  if [ -n "$copy" ]; then
+    mkdir -m 700 "$lost/.twosync"
+    for name in gone kept old; do printf a >"$lost/$name"; done
+  fi
+  rm -rf below
+  cp -a "$lost" below
   mount_disk || bad "a disk at $lost"
   mkdir -m 700 first/.twosync second/.twosync
   for name in gone kept old; do printf a | tee "first/$name" >"second/$name"; done
@@ -105,21 +113,21 @@ goes_away() {
   let_go
 }
 # ended_with_9 NAME: the run has failed since a replica was gone, and made nothing in its place. Entries may have failed, too: what
-# has to lie at the target, or the source, isn't there.
+# has to lie at the target, or the source, isn't there, or has other bytes in the older copy.
 ended_with_9() {
   holds_true "$1: its status is $held_status" test "$held_status" = 2
   holds_true "$1: it ends with fault 9, and not with $(tr '\n' ' ' <err)" \
-    test "$(grep -vE '^twosync: fault (8|9|14) /' err)" = 'twosync: fault 9' -a "$(tail -n 1 err)" = 'twosync: fault 9'
+    test "$(grep -vE '^twosync: fault (8|9|14|15) /' err)" = 'twosync: fault 9' -a "$(tail -n 1 err)" = 'twosync: fault 9'
   holds_true "$1: the archive isn't written any more" cmp -s archive archive.held
   nothing_below "$1"
 }
 nothing_below() {
-  holds_true "$1: below the mount is $(find "$lost" -mindepth 1 | tr '\n' ' ')" test -z "$(ls -A "$lost")"
+  holds_true "$1: below the mount is $(find "$lost" -mindepth 1 | tr '\n' ' ')" diff -r "$lost" below
   holds_true "$1: no archive.new is left" test ! -e archive.new
 }
 # saved NAME: a sync is refused before the disk is there again, and then brings all to its end and loses nothing
 saved() {
-  refused "$1: a sync before the disk is there again" 9 "${sync[@]}"
+  [ -n "$copy" ] || refused "$1: a sync before the disk is there again" 9 "${sync[@]}"
   mount_again
   "$program" "${sync[@]}" >out 2>err
   holds_true "$1: the next sync ends with status $?" test "$?" = 0
@@ -153,9 +161,11 @@ for role in 'first second' 'second first'; do
       "before the other way's commit|new-4\".*\"[^\"]*$from/other\"|enter|true" \
       "after the last commit|new-4\".*\"[^\"]*$from/other\"|exit|[ -e $from/other ]"; do
       IFS='|' read -r what pattern side condition <<<"$step"
-      # without other archives than the last one, and with one after each action
-      for every in '' 1; do
-        name="$lost goes away $what, from $from${every:+, with checkpoints}"
+      # without other archives than the last one, with one after each action, and with an older copy below the mount
+      for every in '' 1 copy; do
+        name="$lost goes away $what, from $from${every:+, with ${every/1/checkpoints}}"
+        copy=
+        [ "$every" != copy ] || copy=1 every=
         words=()
         [ -z "$every" ] || words=(--checkpoint "$every")
         had
@@ -167,6 +177,7 @@ for role in 'first second' 'second first'; do
         saved "$name"
       done
     done
+    copy=
     # after all was flushed, and before the archive is written: the last one, and one that a run writes meanwhile
     for back in 0 1 3; do
       words=()

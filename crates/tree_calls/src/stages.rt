@@ -65,6 +65,8 @@ fn is_made(files: &HostRuntime, top: &str) -> Option<bool> {
         makes(files, top, "")
             && makes(files, top, "first")
             && makes(files, top, "second")
+            && makes(files, top, "first/.twosync")
+            && makes(files, top, "second/.twosync")
             && makes(files, top, "first/d")
             && makes(files, top, "first/d/e")
             && writes(files, top, "first/d/e/y", "ab")
@@ -206,7 +208,7 @@ fn commits(
     }
     let before = checked.before(COMMIT);
     let own = files.clone().ok()?;
-    let way = Way::new(alloc, pair.second, pair.first).ok()?;
+    let way = Way::new(alloc, files, pair.second, pair.first).ok()?;
     let mut site = DiskSite::new(alloc, own, &way, before.top(), 0).ok()?;
     match site.commit(alloc, &before, staged) {
         Ok(_) => Some(Ok(())),
@@ -245,6 +247,7 @@ enum Case {
     CopiesLate,
     Refuses,
     Fails,
+    Gone,
     Recovers,
 }
 
@@ -265,7 +268,7 @@ fn copies<R: Threads + Sync>(
     };
     let is_stored = has(files, pair.second, ".twosync/stage-0/e/y", Some("ab"))
         && has(files, pair.second, ".twosync/stage-0/z", None)
-        && has(files, pair.first, ".twosync", None);
+        && has(files, pair.first, ".twosync/stage-0", None);
     let staged = staged(alloc, checked, pieces)?;
     let is_held = staged.is_held();
     let done = commits(files, pair, checked, staged)?;
@@ -306,8 +309,7 @@ fn fails(
     stage: &DiskStage<HostRuntime>,
 ) -> Option<bool> {
     let alloc = files.alloc();
-    let is_blocked = makes(files, pair.second, ".twosync")
-        && writes(files, pair.second, ".twosync/stage-0", "x");
+    let is_blocked = writes(files, pair.second, ".twosync/stage-0", "x");
     let is_first = is_refused(stores(stage, alloc, plan, 2, b"ab"));
     let is_removed = is_cleared(files, pair.second);
     let is_next = stores(stage, alloc, plan, 2, b"ab")?.is_ok();
@@ -316,6 +318,22 @@ fn fails(
     let is_left = is_cleared(files, pair.second)
         && has(files, pair.first, ".twosync/stage-1", Some("s"));
     Some(is_blocked && is_first && is_removed && is_next && is_other && causes && is_left)
+}
+
+/// Whether nothing is stored in a replica whose own directory has gone, and that isn't made anew: the replica may have gone with it.
+fn is_gone(
+    files: &HostRuntime,
+    pair: &Pair<'_>,
+    plan: &Plan,
+    stage: &DiskStage<HostRuntime>,
+) -> Option<bool> {
+    let alloc = files.alloc();
+    let own = format!(in alloc; "{}/.twosync", pair.second).ok()?;
+    let is_removed = fs::remove_dir(files, own.as_str()).is_ok();
+    let is_refused = is_refused(stores(stage, alloc, plan, 2, b"ab"));
+    let is_reported = stage.cause(0) == Cause::NotThere;
+    let is_absent = has(files, pair.second, ".twosync", None);
+    Some(is_removed && is_refused && is_reported && is_absent)
 }
 
 /// Whether the end of a run removes the stages of what is copied into a replica, and recovery all of them, and neither says
@@ -359,6 +377,7 @@ fn on_stage<R: Threads + Sync>(
         Case::CopiesLate => copies(rt, files, pair, checked, &stage, true),
         Case::Refuses => refuses(rt, files, pair, checked, &stage),
         Case::Fails => fails(files, pair, checked.plan(), &stage),
+        Case::Gone => is_gone(files, pair, checked.plan(), &stage),
         Case::Recovers => recovers(files, pair, checked.plan(), &stage),
     }
 }
@@ -425,6 +444,14 @@ fn what_cannot_be_stored_fails_its_entry_alone(rt: HostRuntime) {
         panic!(rt; "no place");
     };
     assert!(rt; is_well(&rt, &rt, top.as_str(), Case::Fails) == Some(true));
+}
+
+#[test]
+fn nothing_is_stored_where_the_replica_has_gone(rt: HostRuntime) {
+    let Some(top) = ground(&rt, process::id(rt.process()), "gone") else {
+        panic!(rt; "no place");
+    };
+    assert!(rt; is_well(&rt, &rt, top.as_str(), Case::Gone) == Some(true));
 }
 
 #[test]

@@ -141,6 +141,45 @@ pub(crate) fn close_own<R: Files>(files: &R, own: &str, metadata: &Metadata) {
     }
 }
 
+/// Which directory is the program's own one in a replica. Another one there, or none, is that of another replica: the disk of the
+/// one may have been unmounted, and the other lies below it.
+#[derive(Clone, Copy, Debug, PartialEq, Eq, Drop)]
+pub(crate) struct Home {
+    device: u64,
+    inode: u64,
+}
+
+/// The program's own directory in a root. None where none is there, or it can't be looked at.
+pub(crate) fn home_in<R: Files>(
+    alloc: Global,
+    files: &R,
+    root: &str,
+) -> Result<Option<Home>, AllocError> {
+    let own = own_place(alloc, root)?;
+    Ok(home_at(files, own.as_str()).unwrap_or(None))
+}
+
+/// The directory at a place, if one is there. No link is followed.
+fn home_at<R: Files>(files: &R, own: &str) -> io::Result<Option<Home>> {
+    Ok(match metadata_at(files, own)? {
+        Some(metadata) if metadata.is_dir() => Some(Home {
+            device: metadata.dev(),
+            inode: metadata.ino(),
+        }),
+        _ => None,
+    })
+}
+
+/// Fails where another directory stands at a place than this one, or none.
+pub(crate) fn check_home<R: Files>(files: &R, own: &str, home: Option<Home>) -> io::Result<()> {
+    let found = home_at(files, own)?;
+    if found.is_some() && found == home {
+        Ok(())
+    } else {
+        Err(io::Error::from(ErrorKind::NotFound))
+    }
+}
+
 /// Notes at the program's own directory that the replica takes part in a run.
 pub(crate) fn mark_used<R: Files>(files: &R, own: &str) -> io::Result<()> {
     fs::set_permissions(files, own, Permissions::from_mode(PRIVATE_DIR))

@@ -12,7 +12,8 @@ use crate::leftover::{Aside, is_of_others, move_to_free, remove_at};
 use crate::modes::{PRIVATE_FILE, keep_bits};
 use crate::names::{KEPT, MADE};
 use crate::place::{
-    Standing, are_one, is_same, kind_at, look_at, make_own, metadata_at, own_place, stage_place,
+    Home, Standing, are_one, check_home, is_same, kind_at, look_at, metadata_at, own_place,
+    stage_place,
 };
 use crate::staging::{Bits, write_tree};
 use std::alloc::Global;
@@ -161,12 +162,6 @@ impl<R: Files + AllocGlobal + Clone + Drop> DiskPlaces<R> {
         look_at(&self.files, self.place(spot), self.root)
     }
 
-    /// Makes the program's own directory, where it isn't there.
-    pub(crate) fn make_own(&self) -> io::Result<()> {
-        let _took_part = make_own(&self.files, self.own.as_str())?;
-        Ok(())
-    }
-
     /// Moves what stands at a spot to another, where nothing stands. Others may take the target at any moment, and are never
     /// replaced there.
     ///
@@ -239,6 +234,11 @@ impl<R: Files + AllocGlobal + Clone + Drop> DiskPlaces<R> {
         options.write(true).create_new(true).mode(PRIVATE_FILE);
         let _mark = options.open(&self.files, self.place(Spot::New))?;
         Ok(())
+    }
+
+    /// Fails where another directory of the program's own stands in the replica than this one, or none.
+    pub(crate) fn check_home(&self, home: Option<Home>) -> io::Result<()> {
+        check_home(&self.files, self.own.as_str(), home)
     }
 
     /// Gives a file at the new spot the permission bits of the one at the old spot, where both are files.

@@ -5,7 +5,7 @@ ghost use Rattle.ts_model.specs.Texts.{IsPlan};
 
 use crate::fault::{DiskFault, failed, own_failed, unusable, unwritten};
 use crate::modes::PRIVATE_FILE;
-use crate::place::{Standing, flush_at, kind_at, make_own, own_place};
+use crate::place::{Standing, flush_at, kind_at, own_place};
 use std::alloc::{AllocError, Global};
 use std::fs::{Files, OpenFile, OpenOptions};
 use std::io::{BufReader, BufWriter, Read, Write};
@@ -26,7 +26,8 @@ fn plan_place(alloc: Global, root: &str) -> Result<String, AllocError>
 
 /// Writes the plan to `.twosync/plan` in a replica's root, in place of the file that is there: first whole under another name,
 /// `.twosync/plan.new`. It has reached the device when the call ends, and so has the directory's own name. After a fault nothing is
-/// left under that other name, where it can be removed.
+/// left under that other name, where it can be removed. The directory was made with the replica's lock: where it is gone, `Failed`
+/// says so.
 pub fn save_plan<R: Files>(
     files: &R,
     alloc: Global,
@@ -36,7 +37,6 @@ pub fn save_plan<R: Files>(
     requires { IsPlan plan.now }
 {
     let own = own_place(alloc, root)?;
-    make_own(files, own.as_str()).map_err(failed)?;
     let place = plan_place(alloc, root)?;
     let new = format!(in alloc; "{place}.new")?;
     put_plan(files, alloc, new.as_str(), place.as_str(), plan)?;

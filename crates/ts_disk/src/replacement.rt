@@ -8,7 +8,7 @@ use crate::compare::compare;
 use crate::flushing::unflushed_since;
 use crate::look::Look;
 use crate::modes::permissions_at;
-use crate::place::Standing;
+use crate::place::{Home, Standing};
 use crate::places::{DiskPlaces, is_taken};
 use crate::staging::{Bits, close_top, complete_tree};
 use std::alloc::Global;
@@ -36,9 +36,14 @@ enum Refusal {
 ///
 /// The target is compared right before it is moved aside. What then lies aside is looked at again, and once more before it is
 /// removed: where it was changed meanwhile it is put back. What came to the target while it was absent is never replaced.
+///
+/// The program's own directory was made with the replica's lock, and isn't made here. Where it is gone, or another one stands there,
+/// so has the replica: its disk was unmounted, and nothing is moved in what lies below.
 #[derive(Drop)]
 pub(crate) struct Replacement<'a> {
     places: DiskPlaces<HostRuntime>,
+    // the program's own directory, as the run began
+    home: Option<Home>,
     folder: &'a DiskFolder<HostRuntime>,
     before: &'a SubPrint<'a>,
     staged: &'a Staged,
@@ -56,12 +61,13 @@ impl<'a> Replacement<'a> {
     pub(crate) fn new(
         alloc: Global,
         places: DiskPlaces<HostRuntime>,
+        home: Option<Home>,
         folder: &'a DiskFolder<HostRuntime>,
         before: &'a SubPrint<'a>,
         staged: &'a Staged,
         source: &'a str,
     ) -> Replacement<'a>
-        ensures places { result.places ≡ places }
+        ensures places { (result.places ≡ places) × (result.home ≡ home) }
         ensures folder { result.folder.now ≡ folder.now }
         ensures trees { (result.before.now ≡ before.now) × (result.staged.now ≡ staged.now) }
         ensures source { result.source.now ≡ source.now }
@@ -69,6 +75,7 @@ impl<'a> Replacement<'a> {
     {
         Replacement {
             places,
+            home,
             folder,
             before,
             staged,
@@ -142,7 +149,7 @@ impl<'a> Replacement<'a> {
     /// Writes what is staged to the new spot. Where pieces have stored some of it, the rest is written beside that, and all of it
     /// is moved to the new spot then.
     fn write_new(&self) -> io::Result<()> {
-        self.places.make_own()?;
+        self.places.check_home(self.home)?;
         let bits = self.bits()?;
         let files = &self.places.files;
         let new = self.places.place(Spot::New);
@@ -161,7 +168,7 @@ impl<'a> Replacement<'a> {
         ensures { self.new.places.failures ≡ self.old.places.failures }
     {
         self.compare()?;
-        self.places.make_own()?;
+        self.places.check_home(self.home)?;
         if self.is_deletion() {
             self.places.mark()?;
         }
@@ -247,6 +254,7 @@ impl<'a> Replacement<'a> {
         if self.is_aside == self.before.rows().is_empty() {
             return Err(self.refuse(Refusal::Changed));
         }
+        self.places.check_home(self.home)?;
         if self.is_aside {
             self.places.keep_bits()?;
         }

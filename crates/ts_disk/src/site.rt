@@ -10,9 +10,11 @@ ghost use Rattle.ts_name.specs.Paths.{place_text};
 
 use crate::fault::DiskFault;
 use crate::leftover::remove_at;
+use crate::place::{Home, home_in};
 use crate::places::DiskPlaces;
 use crate::replacement::Replacement;
 use std::alloc::Global;
+use std::fs::Files;
 use std::snapshot::Snapshot;
 use std::sync::Arc;
 use ts_cause::Cause;
@@ -50,18 +52,27 @@ pub struct DiskSite<R> {
 pub struct Way {
     root: String,
     source: String,
+    // the program's own directory in the replica, as the run began
+    home: Option<Home>,
 }
 
 impl Way {
-    /// The way to the replica with the root `root` from the one with the root `source`.
-    pub fn new(alloc: Global, root: &str, source: &str) -> Result<Arc<Way>, DiskFault>
+    /// The way to the replica with the root `root` from the one with the root `source`. The program's own directory has to be there:
+    /// no commit is made where another one stands later, or none.
+    pub fn new<R: Files>(
+        alloc: Global,
+        files: &R,
+        root: &str,
+        source: &str,
+    ) -> Result<Arc<Way>, DiskFault>
         ensures root { IfOk result (λ way. string_bytes (arc_value way).root ≡ root.now) }
         ensures source { IfOk result (λ way. string_bytes (arc_value way).source ≡ source.now) }
         ensures fault { IfErr result (λ e. e ≡ DiskFault.OutOfMemory) }
     {
+        let home = home_in(alloc, files, root)?;
         let root = String::from_str(alloc, root)?;
         let source = String::from_str(alloc, source)?;
-        Ok(Arc::new(alloc, Way { root, source })?)
+        Ok(Arc::new(alloc, Way { root, source, home })?)
     }
 }
 
@@ -137,7 +148,9 @@ impl DiskSite<HostRuntime> {
         let Ok(source) = self.path.place_below(alloc, self.way.source.as_str()) else {
             return Err(SiteFault::OutOfMemory);
         };
-        let mut swap = Replacement::new(alloc, places, &folder, before, staged, source.as_str());
+        let home = self.way.home;
+        let source = source.as_str();
+        let mut swap = Replacement::new(alloc, places, home, &folder, before, staged, source);
         let replaced = swap.replace();
         // before what is left is settled, which may fail for another reason
         self.cause = swap.cause();

@@ -14,7 +14,8 @@ use crate::flushing::{flush_seen, unflushed_since};
 use crate::leftover::remove_at;
 use crate::modes::{PRIVATE_FILE, permissions};
 use crate::place::{
-    Standing, kind_at, make_missing_dir, make_own, metadata_at, own_place, stage_place,
+    Home, Standing, check_home, home_in, kind_at, make_missing_dir, metadata_at, own_place,
+    stage_place,
 };
 use std::alloc::{AllocError, Global};
 use std::fs::{File, Files, OpenOptions, Permissions};
@@ -43,6 +44,8 @@ pub struct DiskStage<R> {
     // Beside each of these, where it begins its file, how many of the file's pieces aren't stored yet; else the number of the
     // piece that begins it, which stays.
     waiting: Vec<AtomicU32>,
+    // the program's own directories, as the run began
+    homes: Homes,
     // since when what was changed in a source may not have reached its device yet, in seconds since 1970
     since: i64,
     // for each entry 0, or by its number why its pieces aren't stored any more: whichever failure came first
@@ -58,6 +61,7 @@ impl<R: Drop> Drop for DiskStage<R> {
             second,
             parts,
             waiting,
+            homes: _,
             since: _,
             failed,
         } = self;
@@ -97,6 +101,13 @@ pub struct Part {
     pub word: u32,
 }
 
+/// The program's own directories of both replicas.
+#[derive(Clone, Copy, Drop)]
+struct Homes {
+    first: Option<Home>,
+    second: Option<Home>,
+}
+
 /// The file that a stored one is copied from.
 #[derive(Drop)]
 struct SourceFile {
@@ -113,9 +124,10 @@ struct StagePlace {
     file: String,
 }
 
-impl<R: Clock + Drop> DiskStage<R> {
+impl<R: Files + Clock + Drop> DiskStage<R> {
     /// The stage of a run over replicas with these roots that carries out a plan of so many entries. `parts` are the pieces of all
-    /// files that have several, in ascending order. Nothing is made yet.
+    /// files that have several, in ascending order. Nothing is made yet. The program's own directories have to be there: nothing is
+    /// stored where another one stands later, or none.
     pub fn new(
         alloc: Global,
         files: R,
@@ -130,6 +142,10 @@ impl<R: Clock + Drop> DiskStage<R> {
         let (parts, waiting) = counts(alloc, parts)?;
         let none = vec![in alloc; 0u32; entries]?;
         let failed = words(alloc, none.as_slice())?;
+        let homes = Homes {
+            first: home_in(alloc, &files, first)?,
+            second: home_in(alloc, &files, second)?,
+        };
         let first = String::from_str(alloc, first)?;
         let second = String::from_str(alloc, second)?;
         let since = unflushed_since(&files);
@@ -139,6 +155,7 @@ impl<R: Clock + Drop> DiskStage<R> {
             second,
             parts,
             waiting,
+            homes,
             since,
             failed,
         })
@@ -250,6 +267,14 @@ impl<R: Drop> DiskStage<R> {
         }
     }
 
+    /// The program's own directory in the replica that an entry is copied into.
+    fn home_from(&self, entry: &Entry) -> Option<Home> {
+        match entry.reason.source()? {
+            Side::First => self.homes.second,
+            Side::Second => self.homes.first,
+        }
+    }
+
     /// The root of the replica that is copied into, by the one that is copied from.
     fn root_from(&self, from: Side) -> &str
         ensures { result.now ≡ root_from (string_bytes self.now.first) (string_bytes self.now.second) from }
@@ -275,6 +300,8 @@ impl<R: Files<File = File> + AllocGlobal + Clone + Drop> DiskStage<R> {
         offset: u64,
         bytes: &Items<u8>,
     ) -> io::Result<Option<ReadBack>> {
+        // no link that others put in its place is followed, and nothing is stored where another replica stands by now
+        check_home(&self.files, place.own.as_str(), self.home_from(entry))?;
         let file = open_stored(&self.files, place)?;
         file.write_all_at(bytes.as_slice(), offset)?;
         let whole = match self.count_down(action, offset) {
@@ -405,15 +432,11 @@ fn counts(alloc: Global, pieces: &[Part]) -> Result<(Vec<u32>, Vec<AtomicU32>), 
     Ok((parts, waiting))
 }
 
-/// Opens the file at a place in a stage, for its owner alone, and makes it and the directories above it where they are missing.
-/// What others have written into it stays. No link is followed: a file that is made is a new one, and one that is there is no
-/// link.
+/// Opens the file at a place in a stage, for its owner alone, and makes it and the directories above it where they are missing, but
+/// for the program's own one. What others have written into it stays. No link is followed: a file that is made is a new one, and one
+/// that is there is no link.
 fn open_stored<R: Files<File = File>>(files: &R, place: &StagePlace) -> io::Result<File> {
     let at = place.file.as_str();
-    // no link that others put in its place is followed
-    if kind_at(files, place.own.as_str())? != Standing::Dir {
-        let _took_part = make_own(files, place.own.as_str())?;
-    }
     match open_or_make(files, at) {
         Err(e) if e.kind() == ErrorKind::NotFound => {
             make_dirs_above(files, at, place.stage.as_str().len())?;

@@ -18,6 +18,7 @@ use crate::counting::{Folders, run_counted};
 use crate::disk::{Disk, Machine};
 use crate::fault::{PerformFault, Subject, of_disk, replica_on};
 use crate::keeping::PlaceKeeper;
+use crate::locks::Locks;
 use crate::spacing::usual_spacing;
 use crate::task::Task;
 use std::alloc::Global;
@@ -36,10 +37,12 @@ use ts_special::Specials;
 /// than 64 MiB.
 const MOST_WORKERS: u32 = 48;
 
-/// Carries out a checked plan by the task's workers, and writes its archive to its place from time to time. The outcome is that of
-/// commits each of which is made in the replica that its entry is copied to; the stage knows why pieces failed. What both replicas agree on already has reached their devices before.
+/// Carries out a checked plan by the task's workers, and writes its archive to its place from time to time, as long as both replicas
+/// are there. The outcome is that of commits each of which is made in the replica that its entry is copied to; the stage knows why
+/// pieces failed. What both replicas agree on already has reached their devices before.
 pub(crate) fn act<R: Machine>(
     task: &Task<'_, R>,
+    locks: &Locks<'_, R>,
     place: &mut R::Archive,
     checked: &Checked<'_>,
 ) -> Result<(Outcome<R::Site>, R::Stage), PerformFault>
@@ -76,6 +79,7 @@ pub(crate) fn act<R: Machine>(
     };
     let keeper = PlaceKeeper {
         task,
+        locks,
         place,
         plan: checked.plan(),
     };
@@ -131,10 +135,12 @@ fn way_of<'a, R: Disk>(to_first: &'a R::Way, to_second: &'a R::Way, reason: Reas
     }
 }
 
-/// Writes what the archive is after a run that ended with these results. Before it says so, what the run put in place has reached
-/// its device. The board goes before the archive is made, since most memory is taken then.
+/// Writes what the archive is after a run that ended with these results, unless a replica has gone away since: then what was done
+/// may not have been done there. Before the archive says so, what the run put in place has reached its device. The board goes before
+/// the archive is made, since most memory is taken then.
 pub(crate) fn keep_archive<R: Machine>(
     task: &Task<'_, R>,
+    locks: &Locks<'_, R>,
     place: &mut R::Archive,
     checked: &Checked<'_>,
     results: &[ActionResult],
@@ -157,6 +163,7 @@ pub(crate) fn keep_archive<R: Machine>(
     let Ok(archive) = closed.into_archive(alloc, checked) else {
         return Err(PerformFault::OutOfMemory);
     };
+    locks.look(*rt)?;
     rt.write_archive(alloc, place, &archive)
         .map_err(|fault| of_disk(fault, Subject::Archive))
 }

@@ -316,7 +316,7 @@ impl Disk for HostRuntime {
     }
 
     fn way(&self, alloc: Global, root: &str, source: &str) -> Result<Arc<Way>, PerformFault> {
-        match Way::new(alloc, root, source) {
+        match Way::new(alloc, self, root, source) {
             Ok(way) => Ok(way),
             Err(_) => Err(PerformFault::OutOfMemory),
         }

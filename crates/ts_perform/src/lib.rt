@@ -12,6 +12,7 @@ pub mod fault;
 mod inputs;
 mod keeping;
 mod lengths;
+mod locks;
 mod parts;
 mod past;
 mod pending;

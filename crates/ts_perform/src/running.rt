@@ -12,6 +12,7 @@ use crate::acting::{act, keep_archive, replica};
 use crate::causes::causes_of;
 use crate::disk::{Disk, Machine};
 use crate::fault::{PerformFault, Subject, of_disk};
+use crate::locks::Locks;
 use crate::past::{Past, is_one_new, new_one};
 use crate::reporting::{FAILED, Remarks, report_all, report_notices};
 use crate::skips::skips_of;
@@ -171,27 +172,13 @@ impl<R: Machine> Task<'_, R> {
         new_one(self.past(&claims.first))
     }
 
-    /// Whether a replica is still there, if it was locked.
-    fn is_in_place(&self, lock: &Option<R::Lock>) -> bool {
-        match lock {
-            Some(lock) => self.rt.is_in_place(lock),
-            None => true,
-        }
-    }
-
     /// That both replicas are still there. One that went away while it was scanned may look empty, and nothing is deleted for
     /// that.
     fn look_at_claims(&self, claims: &Claims<R>) -> Result<(), PerformFault>
         ensures quiet { IfErr result IsQuiet }
     {
-        let what = if !self.is_in_place(&claims.first) {
-            Subject::First
-        } else if !self.is_in_place(&claims.second) {
-            Subject::Second
-        } else {
-            return Ok(());
-        };
-        Err(PerformFault::NotThere { what })
+        let Claims { first, second, .. } = claims;
+        Locks { first, second }.look(self.rt)
     }
 
     /// Notes that both replicas take part in this run.
@@ -287,13 +274,18 @@ impl<R: Machine> Task<'_, R> {
         let checked = snapshot.check_drawn(self.rt, alloc, &self.progress, plan)?;
         snapshot.look_at_lengths(alloc, self.pair, plan)?;
         self.save(alloc, plan, &*claims)?;
-        match act(self, &mut claims.archive, &checked) {
+        let locks = Locks {
+            first: &claims.first,
+            second: &claims.second,
+        };
+        let place = &mut claims.archive;
+        match act(self, &locks, &mut *place, &checked) {
             Ok((mut outcome, stage)) => {
                 let causes = causes_of(self, &checked, &mut outcome, &stage);
                 let (ended, closed) = outcome.split();
                 let results = ended.as_slice();
                 let cleared = self.clear(alloc, plan, notices);
-                let kept = keep_archive(self, &mut claims.archive, &checked, results, closed);
+                let kept = keep_archive(self, &locks, &mut *place, &checked, results, closed);
                 self.remove(alloc, cleared);
                 // what can't be found out of mounts is no reason to end
                 let _ = self.add_mounts(alloc, plan, results, notices);
@@ -335,6 +327,8 @@ impl<R: Machine> Task<'_, R> {
         };
         if saved.is_err() {
             self.remove(alloc, (true, true));
+            // where a replica has gone, that is why
+            self.look_at_claims(claims)?;
         }
         saved
     }
