@@ -323,4 +323,35 @@ for workers in 1 4 '1 --checkpoint 1'; do
   alike "changes by $workers"
 done
 
+# Sources that can't be flushed. What the archive is to name lies in /d of the first replica: a new file, and one in a new folder.
+# unflushed NAME ERROR PLACE STATUS OUT ERR: runs while each flush of that place fails with that error
+unflushed() {
+  local name="$1, $2"
+  fresh
+  mkdir -p first/d/new second/d
+  printf a | tee first/d/a >first/d/new/x
+  archive_of 'd /d' >archive
+  strace -qq -f -o /dev/null -e signal=none -P "$(pwd -P)/$3" -e trace=fsync -e inject="fsync:error=$2" \
+    "$program" "${sync[@]}" >out 2>err
+  answered "$name" "$4" "$5" "$6" "$?"
+}
+both=$'done first /d/a\ndone first /d/new\ntotal 2 done 2 skipped 0 failed 0 blocked 0'
+# a file system that knows no flush, as one that nothing is ever written to, has nothing to flush
+for place in d d/a d/new d/new/x; do
+  unflushed "a source that knows no flush: $place" EINVAL "first/$place" 0 "$both" ''
+  alike "a source that knows no flush: $place"
+done
+# a device that fails is another thing: what may not be there isn't named
+unflushed 'a file that the device loses' EIO first/d/a 2 \
+  $'failed first /d/a\ndone first /d/new\ntotal 2 done 1 skipped 0 failed 1 blocked 0' 'twosync: fault 8 /d/a'
+for place in d/new d/new/x; do
+  unflushed "what is in a folder that the device loses: $place" EIO "first/$place" 2 \
+    $'done first /d/a\nfailed first /d/new\ntotal 2 done 1 skipped 0 failed 1 blocked 0' 'twosync: fault 8 /d/new'
+  holds_true "what is in a folder that the device loses: $place: the archive" test -z "$("$program" show archive | grep new)"
+  expect "what is in a folder that the device loses: $place, and later" 0 \
+    $'done first /d/new\ntotal 1 done 1 skipped 0 failed 0 blocked 0' '' "${sync[@]}"
+done
+unflushed 'the folder that a source stands in' EIO first/d 2 "$both" 'twosync: fault 5'
+holds_true 'the folder that a source stands in: the archive' test "$("$program" show archive)" = 'd /d'
+
 ended flushes
