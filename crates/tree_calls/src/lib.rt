@@ -7,6 +7,8 @@ mod carried;
 #[cfg(test)]
 mod disks;
 #[cfg(test)]
+mod known;
+#[cfg(test)]
 mod parts;
 #[cfg(test)]
 mod prints;

@@ -2,12 +2,14 @@
 use crate::disks::{ground, has, makes, writes};
 use crate::shared::{print_of, source_of};
 use std::alloc::Global;
+use std::sync::Arc;
 use std::thread::Threads;
 use std::{fs, process, thread};
 use ts_cause::Cause;
 use ts_check::{Checked, check};
 use ts_disk::{
-    DiskSite, DiskStage, Part, Replica, Way, check_leftovers, clear_leftovers, recover_replica,
+    DiskSite, DiskStage, Lock, LockedRoot, Part, Replica, Way, check_leftovers, clear_leftovers,
+    recover_replica, take_lock,
 };
 use ts_folder::DiskFolder;
 use ts_hold::Holds;
@@ -195,6 +197,49 @@ fn staged(
     Some(staged)
 }
 
+/// Gives a lock up, if there is one.
+fn let_go(files: &HostRuntime, lock: Option<Lock>) {
+    if let Some(lock) = lock {
+        lock.release(files);
+    }
+}
+
+/// The way to the second replica, which was locked before.
+fn way_to_second(files: &HostRuntime, pair: &Pair<'_>) -> Option<Arc<Way>> {
+    let lock = take_lock(files, files.alloc(), pair.second).ok()?;
+    let target = LockedRoot {
+        root: pair.second,
+        lock: &lock,
+    };
+    let way = Way::new(files.alloc(), target, pair.first);
+    let_go(files, lock);
+    way.ok()
+}
+
+/// The stage of a run over so many entries, whose replicas were locked before.
+fn stage_of(
+    files: &HostRuntime,
+    pair: &Pair<'_>,
+    entries: usize,
+) -> Option<DiskStage<HostRuntime>> {
+    let alloc = files.alloc();
+    let own = files.clone().ok()?;
+    let first = take_lock(files, alloc, pair.first).ok()?;
+    let second = take_lock(files, alloc, pair.second).ok()?;
+    let from = LockedRoot {
+        root: pair.first,
+        lock: &first,
+    };
+    let to = LockedRoot {
+        root: pair.second,
+        lock: &second,
+    };
+    let stage = DiskStage::new(alloc, own, entries, &PARTS, from, to);
+    let_go(files, first);
+    let_go(files, second);
+    stage.ok()
+}
+
 /// Commits what was staged of `/d` in the second replica.
 fn commits(
     files: &HostRuntime,
@@ -208,7 +253,7 @@ fn commits(
     }
     let before = checked.before(COMMIT);
     let own = files.clone().ok()?;
-    let way = Way::new(alloc, files, pair.second, pair.first).ok()?;
+    let way = way_to_second(files, pair)?;
     let mut site = DiskSite::new(alloc, own, &way, before.top(), 0).ok()?;
     match site.commit(alloc, &before, staged) {
         Ok(_) => Some(Ok(())),
@@ -369,9 +414,8 @@ fn on_stage<R: Threads + Sync>(
     checked: &Checked<'_>,
     case: Case,
 ) -> Option<bool> {
-    let own = files.clone().ok()?;
     let entries = checked.plan().entries.as_slice().len();
-    let stage = DiskStage::new(files.alloc(), own, entries, &PARTS, pair.first, pair.second).ok()?;
+    let stage = stage_of(files, pair, entries)?;
     match case {
         Case::Copies => copies(rt, files, pair, checked, &stage, false),
         Case::CopiesLate => copies(rt, files, pair, checked, &stage, true),

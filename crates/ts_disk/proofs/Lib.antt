@@ -3,6 +3,7 @@ pub mod Children
 pub mod Compared
 pub mod Ends
 pub mod Gathered
+pub mod Noted
 pub mod Numbers
 pub mod Parts
 pub mod Rows

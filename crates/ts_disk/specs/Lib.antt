@@ -1,6 +1,8 @@
 pub mod Compared
 pub mod Faults
 pub mod Flushing
+pub mod Homes
+pub mod Known
 pub mod Modes
 pub mod Names
 pub mod Stages

@@ -4,7 +4,8 @@ ghost use Rattle.std.specs.String.{string_bytes};
 ghost use Rattle.ts_disk.specs.Names.{StandsIn};
 
 use crate::fault::{DiskFault, failed, unusable, unwritten};
-use crate::lock::{is_at, lock_file};
+use crate::known::{ArchiveDigest, digest_at, digest_in};
+use crate::lock::{Lock, is_at, lock_file};
 use crate::modes::{PRIVATE_FILE, permissions};
 use crate::place::{Standing, flush_at, kind_at};
 use std::alloc::Global;
@@ -33,6 +34,8 @@ pub struct ArchivePlace {
     place: String,
     new: String,
     mode: u32,
+    // of the archive that is there, if there is one
+    pub(crate) digest: Option<ArchiveDigest>,
     // something was written into it
     is_begun: bool,
     // the new archive has taken its place, and no other one was made since
@@ -57,6 +60,7 @@ pub fn claim_archive<R: Files<File = File> + AllocGlobal>(
     let name = String::from_str(alloc, name)?;
     let mode = mode_for(files, place.as_str())?;
     let new = format!(in alloc; "{place}.new")?;
+    let digest = digest_at(files, alloc, place.as_str())?;
     let file = make_new(files, new.as_str(), mode)?;
     Ok(ArchivePlace {
         file,
@@ -64,24 +68,28 @@ pub fn claim_archive<R: Files<File = File> + AllocGlobal>(
         place,
         new,
         mode,
+        digest,
         is_begun: false,
         is_done: false,
     })
 }
 
 impl ArchivePlace {
-    /// Writes the archive and puts it in its place, and waits until it has reached the device. After a fault the archive that
-    /// was there is there as it was, or the new one is, which may not have reached the device.
+    /// Writes the archive and puts it in its place, and waits until it has reached the device. Before, both replicas, with these
+    /// locks, note that it is theirs. After a fault the archive that was there is there as it was, or the new one is, which may not
+    /// have reached the device.
     pub fn write<R: Files<File = File> + AllocGlobal>(
         &mut self,
         files: &R,
         alloc: Global,
         archive: &Print,
+        first: &Option<Lock>,
+        second: &Option<Lock>,
     ) -> Result<(), DiskFault>
         ensures done { OnOk result (self.exit.now.is_done ≡ true) }
         ensures kept { (self.exit.now.place ≡ self.entry.now.place) × (self.exit.now.new ≡ self.entry.now.new) }
     {
-        self.put(files, alloc, archive)?;
+        self.put(files, alloc, archive, first, second)?;
         self.flush(files)
     }
 
@@ -92,11 +100,13 @@ impl ArchivePlace {
         files: &R,
         alloc: Global,
         archive: &Print,
+        first: &Option<Lock>,
+        second: &Option<Lock>,
     ) -> Result<(), DiskFault>
         ensures claimed { OnOk result (self.exit.now.is_done ≡ false) }
         ensures kept { (self.exit.now.place ≡ self.entry.now.place) × (self.exit.now.new ≡ self.entry.now.new) }
     {
-        self.put(files, alloc, archive)?;
+        self.put(files, alloc, archive, first, second)?;
         let renewed = self.renew(files);
         self.flush(files)?;
         renewed
@@ -109,6 +119,8 @@ impl ArchivePlace {
         files: &R,
         alloc: Global,
         archive: &Print,
+        first: &Option<Lock>,
+        second: &Option<Lock>,
     ) -> Result<(), DiskFault>
         ensures done { OnOk result (self.exit.now.is_done ≡ true) }
         ensures kept { (self.exit.now.place ≡ self.entry.now.place) × (self.exit.now.new ≡ self.entry.now.new) }
@@ -122,7 +134,14 @@ impl ArchivePlace {
         self.is_begun = true;
         write_text(&self.file, alloc, archive)?;
         self.file.sync_all().map_err(failed)?;
+        let digest = digest_in(alloc, &self.file)?.ok_or(unusable())?;
+        for lock in [first, second] {
+            if let Some(lock) = lock {
+                lock.note_archive(files, alloc, self.digest, digest)?;
+            }
+        }
         fs::rename(files, self.new.as_str(), self.place.as_str()).map_err(failed)?;
+        self.digest = Some(digest);
         self.is_done = true;
         Ok(())
     }
@@ -328,7 +347,11 @@ fn make_new<R: Files<File = File> + AllocGlobal>(
 /// Makes a file that others may not read, where nothing is.
 fn make_file<R: Files<File = File>>(files: &R, new: &str) -> Result<File, DiskFault> {
     let mut options = OpenOptions::new();
-    options.write(true).create_new(true).mode(PRIVATE_FILE);
+    options
+        .read(true)
+        .write(true)
+        .create_new(true)
+        .mode(PRIVATE_FILE);
     match options.open(files, new) {
         Ok(file) => Ok(file),
         // another run has made it since it was looked for

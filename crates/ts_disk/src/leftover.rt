@@ -3,6 +3,7 @@ ghost use Rattle.std.specs.Prelude.{◌≡◌, IfOk};
 ghost use Rattle.std.specs.String.{string_bytes};
 ghost use Rattle.ts_disk.specs.Names.{IsNumbered};
 
+use crate::known::NEW_NAME;
 use crate::listing::text_names;
 use crate::modes::PRIVATE_DIR;
 use crate::names::{is_trash, stage_number};
@@ -29,7 +30,7 @@ pub(crate) enum Aside {
 
 /// Tries to remove what earlier runs couldn't remove: all that is called `trash-N` in the program's own directory of a
 /// replica. What still can't be removed stays. The stage of each entry goes, too: no run is at work that could still commit it,
-/// and what it holds was only copied there.
+/// and what it holds was only copied there. So does what was to say which archives the replica knows.
 pub(crate) fn remove_trash<R: Files + AllocGlobal + Clone + Drop>(
     files: &R,
     alloc: Global,
@@ -45,7 +46,7 @@ pub(crate) fn remove_trash<R: Files + AllocGlobal + Clone + Drop>(
     Ok(())
 }
 
-/// Tries to remove what has this name in the program's own directory, if it is trash or a stage.
+/// Tries to remove what has this name in the program's own directory, if it is trash, a stage, or a text that was being written.
 fn remove_left<R: Files + AllocGlobal + Clone + Drop>(
     files: &R,
     alloc: Global,
@@ -53,7 +54,7 @@ fn remove_left<R: Files + AllocGlobal + Clone + Drop>(
     name: &str,
 ) -> io::Result<()> {
     let place = format!(in alloc; "{own}/{name}")?;
-    if is_trash(name) {
+    if is_trash(name) || name == NEW_NAME {
         let _ = remove_at(files, place.as_str());
     } else if stage_number(name).is_some() {
         let _ = discard_at(files, own, place.as_str());

@@ -1,11 +1,16 @@
 //! One run at a time on a replica.
-ghost use Rattle.std.specs.Prelude.{◌≡◌, ◌++◌, IfOk, IfSome, codes};
+ghost use Rattle.std.specs.Prelude.{◌≡◌, ◌++◌, ◌↔◌, IfOk, IfSome, IsTrue, codes};
 ghost use Rattle.std.specs.String.{string_bytes};
+ghost use Rattle.ts_disk.specs.Homes.{home_of};
+ghost use Rattle.ts_disk.specs.Known.{Knows};
 
+use crate::archive::ArchivePlace;
 use crate::fault::{DiskFault, failed, own_failed};
+use crate::known::{ArchiveDigest, KnownArchives, note_archive, read_known};
 use crate::modes::PRIVATE_FILE;
 use crate::place::{
-    Standing, close_own, is_same, look_at, make_own, mark_used, metadata_at, own_place,
+    Home, Standing, check_home, close_own, is_same, look_at, make_own, mark_used, metadata_at,
+    own_place,
 };
 use crate::plan_file::holds_plan;
 use std::alloc::Global;
@@ -25,8 +30,11 @@ pub struct Lock {
     file: File,
     place: String,
     own: String,
+    // which directory stood there when the lock was taken
+    home: Home,
     took_part: bool,
     was_stopped: bool,
+    known: KnownArchives,
 }
 
 impl Lock {
@@ -36,6 +44,17 @@ impl Lock {
         ensures { result ≡ self.now.took_part }
     {
         self.took_part
+    }
+
+    /// Whether the replica took part in the last run with the archive in this place, as far as it remembers. Where there is no archive
+    /// yet, there is nothing to know.
+    pub fn knows(&self, archive: &ArchivePlace) -> bool
+        ensures { IsTrue result ↔ IfSome archive.now.digest (Knows self.now.known) }
+    {
+        match &archive.digest {
+            Some(digest) => self.known.knows(digest),
+            None => true,
+        }
     }
 
     /// Whether a run into the replica was stopped: it had a plan when it was locked.
@@ -48,6 +67,26 @@ impl Lock {
     /// Whether the lock's file still lies in its place: else the replica went away, as where its disk is no longer mounted.
     pub fn is_in_place<R: Files<File = File>>(&self, files: &R) -> bool {
         is_at(files, &self.file, self.place.as_str()).unwrap_or(false)
+    }
+
+    /// Which directory the program's own one is, as the lock was taken.
+    pub(crate) fn home(&self) -> Home
+        ensures { result ≡ self.now.home }
+    {
+        self.home
+    }
+
+    /// Notes in the replica that the archive with the digest `last` is to take the place of the one before, where it is still there.
+    pub(crate) fn note_archive<R: Files>(
+        &self,
+        files: &R,
+        alloc: Global,
+        before: Option<ArchiveDigest>,
+        last: ArchiveDigest,
+    ) -> Result<(), DiskFault> {
+        let own = self.own.as_str();
+        check_home(files, own, Some(self.home)).map_err(failed)?;
+        note_archive(files, alloc, own, self.took_part, before, last)
     }
 
     /// Notes that the replica takes part in this run.
@@ -69,6 +108,25 @@ impl Lock {
         let _ = fs::remove_file(files, self.place.as_str());
         if !self.took_part {
             let _ = fs::remove_dir(files, self.own.as_str());
+        }
+    }
+}
+
+/// The root of a replica, and its lock. There is none where the root is no directory.
+#[derive(Clone, Copy)]
+pub struct LockedRoot<'a> {
+    pub root: &'a str,
+    pub lock: &'a Option<Lock>,
+}
+
+impl LockedRoot<'_> {
+    /// The program's own directory, if there is one.
+    pub(crate) fn home(&self) -> Option<Home>
+        ensures { result ≡ home_of self.now.lock.now }
+    {
+        match self.lock {
+            Some(lock) => Some(lock.home()),
+            None => None,
         }
     }
 }
@@ -96,13 +154,16 @@ pub fn take_lock<R: Files<File = File>>(
         check_place(files, place.as_str(), root.len())?;
         let was_stopped = holds_plan(files, alloc, root)?;
         if let Some(file) = make_lock_file(files, place.as_str())? {
-            take_own(files, &file, own.as_str(), place.as_str())?;
+            let home = take_own(files, &file, own.as_str(), place.as_str())?;
+            let known = known_at(files, alloc, own.as_str(), place.as_str(), took_part)?;
             return Ok(Some(Lock {
                 file,
                 place,
                 own,
+                home,
                 took_part,
                 was_stopped,
+                known,
             }));
         }
     }
@@ -131,18 +192,36 @@ fn check_place<R: Files>(files: &R, place: &str, root: usize) -> Result<(), Disk
     Err(DiskFault::Own { cause })
 }
 
+/// The archives that a replica knows which took part in runs. Where that can't be read, the lock's file is removed.
+fn known_at<R: Files>(
+    files: &R,
+    alloc: Global,
+    own: &str,
+    place: &str,
+    took_part: bool,
+) -> Result<KnownArchives, DiskFault> {
+    if !took_part {
+        return Ok(KnownArchives::none(alloc, false));
+    }
+    let known = read_known(files, alloc, own, took_part);
+    if known.is_err() {
+        let _ = fs::remove_file(files, place);
+    }
+    known
+}
+
 /// Closes the program's own directory to others, and refuses it where it belongs to another user than the lock's file, which this run
-/// has made there. That file is removed then, and nothing else is changed.
+/// has made there. That file is removed then, and nothing else is changed. Answers which directory it is.
 fn take_own<R: Files<File = File>>(
     files: &R,
     file: &File,
     own: &str,
     place: &str,
-) -> Result<(), DiskFault> {
+) -> Result<Home, DiskFault> {
     let cause = match of_one_owner(files, file, own) {
         Ok(Some(metadata)) => {
             close_own(files, own, &metadata);
-            return Ok(());
+            return Ok(Home::of(&metadata));
         }
         Ok(None) => Cause::Unknown,
         Err(e) => cause_of(&e),

@@ -4,6 +4,7 @@ ghost use Rattle.std.specs.Prelude.{◌≡◌, ◌++◌, IfOk, codes};
 ghost use Rattle.std.specs.Fs.{IsDir, IsFile};
 ghost use Rattle.std.specs.String.{string_bytes};
 
+use crate::fault::{DiskFault, failed};
 use crate::modes::PRIVATE_DIR;
 use std::alloc::{AllocError, Global};
 use std::fs::{DirBuilder, FileType, Files, Metadata, Permissions};
@@ -149,23 +150,20 @@ pub(crate) struct Home {
     inode: u64,
 }
 
-/// The program's own directory in a root. None where none is there, or it can't be looked at.
-pub(crate) fn home_in<R: Files>(
-    alloc: Global,
-    files: &R,
-    root: &str,
-) -> Result<Option<Home>, AllocError> {
-    let own = own_place(alloc, root)?;
-    Ok(home_at(files, own.as_str()).unwrap_or(None))
+impl Home {
+    /// The directory of which the system says this.
+    pub(crate) fn of(metadata: &Metadata) -> Home {
+        Home {
+            device: metadata.dev(),
+            inode: metadata.ino(),
+        }
+    }
 }
 
 /// The directory at a place, if one is there. No link is followed.
 fn home_at<R: Files>(files: &R, own: &str) -> io::Result<Option<Home>> {
     Ok(match metadata_at(files, own)? {
-        Some(metadata) if metadata.is_dir() => Some(Home {
-            device: metadata.dev(),
-            inode: metadata.ino(),
-        }),
+        Some(metadata) if metadata.is_dir() => Some(Home::of(&metadata)),
         _ => None,
     })
 }
@@ -201,6 +199,32 @@ pub(crate) fn make_missing_dir<R: Files>(files: &R, place: &str) -> io::Result<(
         },
         made => made,
     }
+}
+
+/// Removes a file or a link, if one is at a place.
+pub(crate) fn remove_file_at<R: Files>(files: &R, place: &str) -> io::Result<()> {
+    match kind_at(files, place)? {
+        Standing::File | Standing::Other => fs::remove_file(files, place),
+        Standing::Nothing | Standing::CutOff | Standing::Dir => Ok(()),
+    }
+}
+
+/// Renames what was written whole under another name to its own place. After a failure, of the writing too, nothing is left under the
+/// former, where it can be removed.
+pub(crate) fn settle_new<R: Files>(
+    files: &R,
+    new: &str,
+    place: &str,
+    written: Result<(), DiskFault>,
+) -> Result<(), DiskFault> {
+    let settled = match written {
+        Ok(()) => fs::rename(files, new, place).map_err(failed),
+        Err(fault) => Err(fault),
+    };
+    if settled.is_err() {
+        let _ = remove_file_at(files, new);
+    }
+    settled
 }
 
 /// Waits until what stands at a place has reached its device: a file's bytes, or the names in a directory.

@@ -5,12 +5,12 @@ ghost use Rattle.ts_model.specs.Texts.{IsPlan};
 
 use crate::fault::{DiskFault, failed, own_failed, unusable, unwritten};
 use crate::modes::PRIVATE_FILE;
-use crate::place::{Standing, flush_at, kind_at, own_place};
+use crate::place::{Standing, flush_at, kind_at, own_place, remove_file_at, settle_new};
 use std::alloc::{AllocError, Global};
+use std::fs;
 use std::fs::{Files, OpenFile, OpenOptions};
 use std::io::{BufReader, BufWriter, Read, Write};
 use std::os::unix::fs::OpenOptionsExt;
-use std::{fs, io};
 use ts_model::plan::Plan;
 use ts_plan::PlanFault;
 use ts_text::{Counted, Lines, Source};
@@ -54,15 +54,9 @@ fn put_plan<R: Files>(
 ) -> Result<(), DiskFault>
     requires { IsPlan plan.now }
 {
-    remove_at(files, new).map_err(failed)?;
-    let saved = match write_plan(files, alloc, new, plan) {
-        Ok(()) => fs::rename(files, new, place).map_err(failed),
-        Err(fault) => Err(fault),
-    };
-    if saved.is_err() {
-        let _ = remove_at(files, new);
-    }
-    saved
+    remove_file_at(files, new).map_err(failed)?;
+    let written = write_plan(files, alloc, new, plan);
+    settle_new(files, new, place, written)
 }
 
 /// Whether a plan file lies in a replica.
@@ -103,15 +97,7 @@ fn write_text<R: Files>(alloc: Global, file: R::File, plan: &Plan) -> Result<(),
 /// Removes the plan file of a replica, or a link in its place, if it is there.
 pub fn remove_plan<R: Files>(files: &R, alloc: Global, root: &str) -> Result<(), DiskFault> {
     let place = plan_place(alloc, root)?;
-    remove_at(files, place.as_str()).map_err(failed)
-}
-
-/// Removes a file or a link, if one is at a place.
-fn remove_at<R: Files>(files: &R, place: &str) -> io::Result<()> {
-    match kind_at(files, place)? {
-        Standing::File | Standing::Other => fs::remove_file(files, place),
-        Standing::Nothing | Standing::CutOff | Standing::Dir => Ok(()),
-    }
+    remove_file_at(files, place.as_str()).map_err(failed)
 }
 
 /// The plan that `.twosync/plan` in a root is the text of, if it is there and is one.

@@ -3,6 +3,7 @@ ghost use Rattle.std.specs.Fmt.{decimal};
 ghost use Rattle.std.specs.Arc.{arc_value};
 ghost use Rattle.std.specs.Prelude.{◌≡◌, ◌≢◌, ◌++◌, ◌<◌, IfErr, IfOk, IfSome, IsErrOf, IsTrue, None, codes};
 ghost use Rattle.std.specs.String.{string_bytes};
+ghost use Rattle.ts_disk.specs.Homes.{home_of};
 ghost use Rattle.ts_model.specs.Swap.{IsThere};
 ghost use Rattle.ts_site.specs.Sites.{IsPutFor};
 ghost use Rattle.ts_swap.specs.Leavings.{spot_of};
@@ -10,7 +11,8 @@ ghost use Rattle.ts_name.specs.Paths.{place_text};
 
 use crate::fault::DiskFault;
 use crate::leftover::remove_at;
-use crate::place::{Home, home_in};
+use crate::lock::LockedRoot;
+use crate::place::Home;
 use crate::places::DiskPlaces;
 use crate::replacement::Replacement;
 use std::alloc::Global;
@@ -52,25 +54,21 @@ pub struct DiskSite<R> {
 pub struct Way {
     root: String,
     source: String,
-    // the program's own directory in the replica, as the run began
+    // the program's own directory in the replica, as it was locked
     home: Option<Home>,
 }
 
 impl Way {
-    /// The way to the replica with the root `root` from the one with the root `source`. The program's own directory has to be there:
-    /// no commit is made where another one stands later, or none.
-    pub fn new<R: Files>(
-        alloc: Global,
-        files: &R,
-        root: &str,
-        source: &str,
-    ) -> Result<Arc<Way>, DiskFault>
-        ensures root { IfOk result (λ way. string_bytes (arc_value way).root ≡ root.now) }
+    /// The way to a replica from the one with the root `source`. No commit is made where another directory stands later than the
+    /// program's own one that was locked, or none.
+    pub fn new(alloc: Global, target: LockedRoot<'_>, source: &str) -> Result<Arc<Way>, DiskFault>
+        ensures root { IfOk result (λ way. string_bytes (arc_value way).root ≡ target.entry.root.now) }
         ensures source { IfOk result (λ way. string_bytes (arc_value way).source ≡ source.now) }
+        ensures home { IfOk result (λ way. (arc_value way).home ≡ home_of target.entry.lock.now) }
         ensures fault { IfErr result (λ e. e ≡ DiskFault.OutOfMemory) }
     {
-        let home = home_in(alloc, files, root)?;
-        let root = String::from_str(alloc, root)?;
+        let home = target.home();
+        let root = String::from_str(alloc, target.root)?;
         let source = String::from_str(alloc, source)?;
         Ok(Arc::new(alloc, Way { root, source, home })?)
     }

@@ -2,6 +2,7 @@
 ghost use Rattle.std.specs.Prelude.{◌≡◌, ◌≢◌, ◌↔◌, IfErr, IfNone, IfOk, IfSome, IsTrue, None, Some, length, map};
 ghost use Rattle.std.specs.String.{string_bytes};
 ghost use Rattle.ts_cause.specs.declared.cause.Cause.{Cause};
+ghost use Rattle.ts_disk.specs.Homes.{home_of};
 ghost use Rattle.ts_disk.specs.Stages.{IsSourceOf, IsStagePlace, cause_number, failure_number, root_from, root_of};
 ghost use Rattle.ts_disk.specs.declared.stage.Failure.{Failure};
 ghost use Rattle.ts_model.specs.Plans.{source};
@@ -12,10 +13,10 @@ use crate::aside::new_buffer;
 use crate::fault::DiskFault;
 use crate::flushing::{flush_seen, unflushed_since};
 use crate::leftover::remove_at;
+use crate::lock::LockedRoot;
 use crate::modes::{PRIVATE_FILE, permissions};
 use crate::place::{
-    Home, Standing, check_home, home_in, kind_at, make_missing_dir, metadata_at, own_place,
-    stage_place,
+    Home, Standing, check_home, kind_at, make_missing_dir, metadata_at, own_place, stage_place,
 };
 use std::alloc::{AllocError, Global};
 use std::fs::{File, Files, OpenOptions, Permissions};
@@ -44,7 +45,7 @@ pub struct DiskStage<R> {
     // Beside each of these, where it begins its file, how many of the file's pieces aren't stored yet; else the number of the
     // piece that begins it, which stays.
     waiting: Vec<AtomicU32>,
-    // the program's own directories, as the run began
+    // the program's own directories, as they were locked
     homes: Homes,
     // since when what was changed in a source may not have reached its device yet, in seconds since 1970
     since: i64,
@@ -126,28 +127,31 @@ struct StagePlace {
 
 impl<R: Files + Clock + Drop> DiskStage<R> {
     /// The stage of a run over replicas with these roots that carries out a plan of so many entries. `parts` are the pieces of all
-    /// files that have several, in ascending order. Nothing is made yet. The program's own directories have to be there: nothing is
-    /// stored where another one stands later, or none.
+    /// files that have several, in ascending order. Nothing is made yet. Nothing is stored where another directory stands later than
+    /// the program's own one that was locked, or none.
     pub fn new(
         alloc: Global,
         files: R,
         entries: usize,
         parts: &[Part],
-        first: &str,
-        second: &str,
+        first: LockedRoot<'_>,
+        second: LockedRoot<'_>,
     ) -> Result<DiskStage<R>, DiskFault>
-        ensures roots { IfOk result (λ stage. (string_bytes stage.first ≡ first.now) × (string_bytes stage.second ≡ second.now)) }
+        ensures first { IfOk result (λ stage. string_bytes stage.first ≡ first.entry.root.now) }
+        ensures second { IfOk result (λ stage. string_bytes stage.second ≡ second.entry.root.now) }
+        ensures home_of_first { IfOk result (λ stage. stage.homes.first ≡ home_of first.entry.lock.now) }
+        ensures home_of_second { IfOk result (λ stage. stage.homes.second ≡ home_of second.entry.lock.now) }
         ensures fault { IfErr result (λ e. e ≡ DiskFault.OutOfMemory) }
     {
         let (parts, waiting) = counts(alloc, parts)?;
         let none = vec![in alloc; 0u32; entries]?;
         let failed = words(alloc, none.as_slice())?;
         let homes = Homes {
-            first: home_in(alloc, &files, first)?,
-            second: home_in(alloc, &files, second)?,
+            first: first.home(),
+            second: second.home(),
         };
-        let first = String::from_str(alloc, first)?;
-        let second = String::from_str(alloc, second)?;
+        let first = String::from_str(alloc, first.root)?;
+        let second = String::from_str(alloc, second.root)?;
         let since = unflushed_since(&files);
         Ok(DiskStage {
             files,

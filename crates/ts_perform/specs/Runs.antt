@@ -10,7 +10,7 @@
 --     IsRunOf w first second k results words slots  these are of one run, whose commits were made where they stand
 --     IsCarriedOut w pair came                  the plan is valid for the scans of the pair's replicas, and the results are those of a run of it there, whose archive was written
 --     IsRun w pair name came                    the same of a plan that was read from a file
---     IsSynced w pair came                      the same of a plan that `resume` made, and not where just one replica took part before
+--     IsSynced w pair came                      the same of a plan that `resume` made, and not where just one replica took part before, or in the last run with the archive
 --     RanQuietly Is                             a plan was run, `Is` is said of what came of it, and all was reported; or nothing was written
 --     Ran Is                                    the same, but what recovery has to say of an earlier run's swaps may be reported where nothing was run
 --     Refuses fault                             a broken plan is reported on standard output, every other fault on standard error
@@ -206,7 +206,7 @@ pub record IsRun {S F P A L : Type 0} (w : World S F P A L) (pair : Pair) (name 
   pub plan : IsReadAt w.finds IsPlanText name came.checkup.plan
   pub carried_out : IsCarriedOut w pair came
 
--- the same of a plan that `resume` made for the archive, the rules and the scans; and where just one replica took part before, the archive
+-- the same of a plan that `resume` made for the archive, the rules and the scans; and where just one replica took part before, or in its last run, the archive
 -- names no path
 pub record IsSynced {S F P A L : Type 0} (w : World S F P A L) (pair : Pair) (came : Came) : Type 0 where
   pub planned : IsPlanned came.checkup

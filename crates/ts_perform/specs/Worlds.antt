@@ -36,9 +36,11 @@ pub record World (S F P A L : Type 0) : Type 1 where
   -- which files and special paths were found
   pub finds : Finds
   pub finds_special : FindsSpecial
-  -- how a replica was locked, and what was said of it then: whether it took part in a run before, and whether one was stopped
+  -- how a replica was locked, and what was said of it then: whether it took part in a run before, and in the last one with the archive
+  -- in a place, and whether one was stopped
   pub is_locked : Option L → List ℕ → Type 0
   pub took : L → Bool → Type 0
+  pub knows : L → A → Bool → Type 0
   pub stopped : L → Bool → Type 0
 
 abbrev pub world : {R File F S Way P L A Opened : Type 0} → disks.Ghosts R File F S Way P L A Opened → sites.Ghosts S → folders.Ghosts F File → stages.Ghosts P
@@ -58,5 +60,6 @@ world disk site folder stage = record {
   finds_special = disk.finds_special;
   is_locked = disk.is_locked;
   took = disk.took;
+  knows = disk.knows;
   stopped = disk.stopped;
 }

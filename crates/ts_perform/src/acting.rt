@@ -18,7 +18,7 @@ use crate::counting::{Folders, run_counted};
 use crate::disk::{Disk, Machine};
 use crate::fault::{PerformFault, Subject, of_disk, replica_on};
 use crate::keeping::PlaceKeeper;
-use crate::locks::Locks;
+use crate::locks::{Locks, look_at_locks};
 use crate::spacing::usual_spacing;
 use crate::task::Task;
 use std::alloc::Global;
@@ -42,7 +42,7 @@ const MOST_WORKERS: u32 = 48;
 /// pieces failed. What both replicas agree on already has reached their devices before.
 pub(crate) fn act<R: Machine>(
     task: &Task<'_, R>,
-    locks: &Locks<'_, R>,
+    locks: &Locks<'_, R::Lock>,
     place: &mut R::Archive,
     checked: &Checked<'_>,
 ) -> Result<(Outcome<R::Site>, R::Stage), PerformFault>
@@ -69,8 +69,8 @@ pub(crate) fn act<R: Machine>(
         Some(every) => every,
         None => usual_spacing(checked, workers),
     };
-    let sites = sites(*rt, *pair, checked)?;
-    let stage = rt.stage(alloc, checked, pair.first, pair.second)?;
+    let sites = sites(*rt, locks, *pair, checked)?;
+    let stage = rt.stage(alloc, checked, locks, pair.first, pair.second)?;
     let first = rt.folder(alloc, pair.first, Specials::none(alloc))?;
     let second = rt.folder(alloc, pair.second, Specials::none(alloc))?;
     let folders = Folders {
@@ -90,7 +90,12 @@ pub(crate) fn act<R: Machine>(
 }
 
 /// The places of a plan's commits, in the order of the actions: each in the replica that its entry is copied to.
-fn sites<R>(rt: &R, pair: &Pair<'_>, checked: &Checked<'_>) -> Result<Vec<R::Site>, PerformFault>
+fn sites<R>(
+    rt: &R,
+    locks: &Locks<'_, R::Lock>,
+    pair: &Pair<'_>,
+    checked: &Checked<'_>,
+) -> Result<Vec<R::Site>, PerformFault>
 where
     R: Disk + AllocGlobal,
     ensures count { IfOk result (λ sites. length sites.items ≡ commit_count checked.now.plan.actions) }
@@ -99,8 +104,8 @@ where
 {
     let plan = checked.plan();
     let entries = plan.entries.as_slice();
-    let to_first = rt.way(rt.alloc(), pair.first, pair.second)?;
-    let to_second = rt.way(rt.alloc(), pair.second, pair.first)?;
+    let to_first = rt.way(rt.alloc(), locks.first, pair.first, pair.second)?;
+    let to_second = rt.way(rt.alloc(), locks.second, pair.second, pair.first)?;
     let mut sites = Vec::new(rt.alloc());
     for action in plan.actions.as_slice() {
         if let KindRef::Commit { entry } = action.kind() {
@@ -140,7 +145,7 @@ fn way_of<'a, R: Disk>(to_first: &'a R::Way, to_second: &'a R::Way, reason: Reas
 /// the archive is made, since most memory is taken then.
 pub(crate) fn keep_archive<R: Machine>(
     task: &Task<'_, R>,
-    locks: &Locks<'_, R>,
+    locks: &Locks<'_, R::Lock>,
     place: &mut R::Archive,
     checked: &Checked<'_>,
     results: &[ActionResult],
@@ -163,8 +168,8 @@ pub(crate) fn keep_archive<R: Machine>(
     let Ok(archive) = closed.into_archive(alloc, checked) else {
         return Err(PerformFault::OutOfMemory);
     };
-    locks.look(*rt)?;
-    rt.write_archive(alloc, place, &archive)
+    look_at_locks(*rt, locks)?;
+    rt.write_archive(alloc, place, &archive, locks)
         .map_err(|fault| of_disk(fault, Subject::Archive))
 }
 

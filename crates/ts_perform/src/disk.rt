@@ -8,6 +8,7 @@ ghost use Rattle.ts_perform.specs.Trials.{IsQuiet};
 ghost use denote.Param.Send.{IsSync};
 
 use crate::fault::{OpenFault, PerformFault};
+use crate::locks::Locks;
 use crate::parts::parts_of;
 use std::alloc::Global;
 use std::fs::{File, Files};
@@ -19,8 +20,8 @@ use std::{fs, io};
 use ts_cause::{Cause, cause_of};
 use ts_check::Checked;
 use ts_disk::{
-    ArchivePlace, DiskFault, DiskSite, DiskStage, Lock, Way, awaits_recovery, claim_archive,
-    flush_above, flush_above_alone, flush_paths, take_lock,
+    ArchivePlace, DiskFault, DiskSite, DiskStage, Lock, LockedRoot, Way, awaits_recovery,
+    claim_archive, flush_above, flush_above_alone, flush_paths, take_lock,
 };
 use ts_folder::Folder;
 use ts_name::Path;
@@ -85,6 +86,9 @@ pub trait Disk {
     // Whether it was said of a locked replica that it took part in a run before.
     ghost took: { Self.Lock → Bool → Type 0 };
 
+    // Whether it was said that it took part in the last run with the archive in this place.
+    ghost knows: { Self.Lock → Self.Archive → Bool → Type 0 };
+
     // Whether it was said that a run into it was stopped.
     ghost stopped: { Self.Lock → Bool → Type 0 };
 
@@ -116,8 +120,14 @@ pub trait Disk {
         ensures at { IfOk result (λ folder. is_at folder root.now specials) }
         ensures quiet { IfErr result IsQuiet };
 
-    /// The way to the replica with the root `root` from the one with the root `source`.
-    fn way(&self, alloc: Global, root: &str, source: &str) -> Result<Self::Way, PerformFault>
+    /// The way to the replica with the root `root`, which was locked by `lock`, from the one with the root `source`.
+    fn way(
+        &self,
+        alloc: Global,
+        lock: &Option<Self::Lock>,
+        root: &str,
+        source: &str,
+    ) -> Result<Self::Way, PerformFault>
         ensures to { IfOk result (λ way. to way ≡ root.now) }
         ensures from { IfOk result (λ way. from way ≡ source.now) }
         ensures quiet { IfErr result IsQuiet };
@@ -133,12 +143,13 @@ pub trait Disk {
         ensures stand { IfOk result (λ site. stand site ≡ record { root = to way.now; source = from way.now; path = path.now }) }
         ensures quiet { IfErr result IsQuiet };
 
-    /// Where the pieces of a checked plan are stored until their commits take them, by the roots of both replicas: each in the one
-    /// that its entry is copied to. Nothing is looked at yet.
+    /// Where the pieces of a checked plan are stored until their commits take them, by the roots of both replicas and by their locks:
+    /// each in the one that its entry is copied to. Nothing is looked at yet.
     fn stage(
         &self,
         alloc: Global,
         checked: &Checked<'_>,
+        locks: &Locks<'_, Self::Lock>,
         first: &str,
         second: &str,
     ) -> Result<Self::Stage, PerformFault>
@@ -162,6 +173,10 @@ pub trait Disk {
     /// Whether the replica took part in a run before it was locked.
     fn took_part(&self, lock: &Self::Lock) -> bool
         ensures { took lock.now result };
+
+    /// Whether the replica took part in the last run with the archive in its place, as far as it remembers.
+    fn knows(&self, lock: &Self::Lock, archive: &Self::Archive) -> bool
+        ensures { knows lock.now archive.now result };
 
     /// Whether a run into the replica was stopped before it was locked.
     fn was_stopped(&self, lock: &Self::Lock) -> bool
@@ -187,22 +202,25 @@ pub trait Disk {
     fn claim(&self, alloc: Global, name: &str) -> Result<Self::Archive, DiskFault>
         ensures named { IfOk result (λ place. is_named place name.now) };
 
-    /// Writes an archive in its place, and waits until it has reached the device.
+    /// Writes an archive in its place, and waits until it has reached the device. Before, the replicas with these locks note that it
+    /// is theirs.
     fn write_archive(
         &self,
         alloc: Global,
         place: &mut Self::Archive,
         archive: &Print,
+        locks: &Locks<'_, Self::Lock>,
     ) -> Result<(), DiskFault>
         ensures written { OnOk result (has place.new archive.now) }
         ensures named { (name : List ℕ) → is_named place.old name → is_named place.new name };
 
-    /// Writes an archive in its place while a run goes on, and keeps the place for the next one.
+    /// The same while a run goes on, and keeps the place for the next one.
     fn write_checkpoint(
         &self,
         alloc: Global,
         place: &mut Self::Archive,
         archive: &Print,
+        locks: &Locks<'_, Self::Lock>,
     ) -> Result<(), DiskFault>;
 
     /// Whether the place of an archive was claimed by this name.
@@ -270,6 +288,8 @@ impl Disk for HostRuntime {
 
     ghost took = { λ _ _. ⊤ };
 
+    ghost knows = { λ _ _ _. ⊤ };
+
     ghost stopped = { λ _ _. ⊤ };
 
     ghost awaits = { λ _ _. ⊤ };
@@ -315,8 +335,14 @@ impl Disk for HostRuntime {
         }
     }
 
-    fn way(&self, alloc: Global, root: &str, source: &str) -> Result<Arc<Way>, PerformFault> {
-        match Way::new(alloc, self, root, source) {
+    fn way(
+        &self,
+        alloc: Global,
+        lock: &Option<Lock>,
+        root: &str,
+        source: &str,
+    ) -> Result<Arc<Way>, PerformFault> {
+        match Way::new(alloc, LockedRoot { root, lock }, source) {
             Ok(way) => Ok(way),
             Err(_) => Err(PerformFault::OutOfMemory),
         }
@@ -342,12 +368,21 @@ impl Disk for HostRuntime {
         &self,
         alloc: Global,
         checked: &Checked<'_>,
+        locks: &Locks<'_, Lock>,
         first: &str,
         second: &str,
     ) -> Result<DiskStage<HostRuntime>, PerformFault> {
         let parts = parts_of(alloc, checked)?;
         let entries = checked.plan().entries.as_slice().len();
         let own = self.clone()?;
+        let first = LockedRoot {
+            root: first,
+            lock: locks.first,
+        };
+        let second = LockedRoot {
+            root: second,
+            lock: locks.second,
+        };
         match DiskStage::new(alloc, own, entries, parts.as_slice(), first, second) {
             Ok(stage) => Ok(stage),
             Err(_) => Err(PerformFault::OutOfMemory),
@@ -375,6 +410,10 @@ impl Disk for HostRuntime {
 
     fn took_part(&self, lock: &Lock) -> bool {
         lock.took_part()
+    }
+
+    fn knows(&self, lock: &Lock, archive: &ArchivePlace) -> bool {
+        lock.knows(archive)
     }
 
     fn was_stopped(&self, lock: &Lock) -> bool {
@@ -410,8 +449,9 @@ impl Disk for HostRuntime {
         alloc: Global,
         place: &mut ArchivePlace,
         archive: &Print,
+        locks: &Locks<'_, Lock>,
     ) -> Result<(), DiskFault> {
-        place.write(self, alloc, archive)
+        place.write(self, alloc, archive, locks.first, locks.second)
     }
 
     fn write_checkpoint(
@@ -419,8 +459,9 @@ impl Disk for HostRuntime {
         alloc: Global,
         place: &mut ArchivePlace,
         archive: &Print,
+        locks: &Locks<'_, Lock>,
     ) -> Result<(), DiskFault> {
-        place.write_checkpoint(self, alloc, archive)
+        place.write_checkpoint(self, alloc, archive, locks.first, locks.second)
     }
 
     fn is_claim_of(&self, place: &ArchivePlace, name: &str) -> bool {

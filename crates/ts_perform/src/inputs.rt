@@ -405,8 +405,8 @@ impl Snapshot {
         }
     }
 
-    /// The same for a `sync`, which is refused where only one of the replicas took part in a run before, though the archive
-    /// names a path: then the other one, `new`, isn't the folder that the archive is of, as where a disk isn't mounted.
+    /// The same for a `sync`, which is refused where only one of the replicas took part in a run before, or in the last one with
+    /// the archive, which names a path: then the other one, `new`, isn't the folder that the archive is of, as where a disk isn't mounted.
     pub(crate) fn read_of_both<R: Machine>(
         task: &Task<'_, R>,
         is_one_new: bool,

@@ -16,7 +16,7 @@ use ts_print::Print;
 #[derive(Drop)]
 pub(crate) struct PlaceKeeper<'a, 'b, R: Disk> {
     pub task: &'a Task<'b, R>,
-    pub locks: &'a Locks<'a, R>,
+    pub locks: &'a Locks<'a, R::Lock>,
     pub place: &'a mut R::Archive,
     pub plan: &'a Plan,
 }
@@ -48,7 +48,7 @@ impl<R: Disk + AllocGlobal> Keeper for PlaceKeeper<'_, '_, R> {
                 return;
             }
         }
-        let _ = rt.write_checkpoint(alloc, self.place, &archive);
+        let _ = rt.write_checkpoint(alloc, self.place, &archive, self.locks);
     }
 }
 

@@ -12,7 +12,7 @@ pub mod fault;
 mod inputs;
 mod keeping;
 mod lengths;
-mod locks;
+pub mod locks;
 mod parts;
 mod past;
 mod pending;
@@ -29,6 +29,7 @@ mod task;
 
 pub use disk::{Disk, Machine};
 pub use fault::{OpenFault, PerformFault};
+pub use locks::Locks;
 pub use performing::{REFUSED, perform};
 pub use reporting::FAILED;
 pub use streams::{KeepsCause, SaysCause};

@@ -12,7 +12,7 @@ use crate::acting::{act, keep_archive, replica};
 use crate::causes::causes_of;
 use crate::disk::{Disk, Machine};
 use crate::fault::{PerformFault, Subject, of_disk};
-use crate::locks::Locks;
+use crate::locks::{Locks, look_at_locks};
 use crate::past::{Past, is_one_new, new_one};
 use crate::reporting::{FAILED, Remarks, report_all, report_notices};
 use crate::skips::skips_of;
@@ -143,33 +143,45 @@ impl<R: Machine> Task<'_, R> {
     }
 
     /// What is known of a replica from before it was locked. Where there is no lock, nothing is.
-    fn past(&self, lock: &Option<R::Lock>) -> Past
-        ensures { IsPastOf R.took R.stopped lock.now result }
+    fn past(&self, lock: &Option<R::Lock>, archive: &R::Archive) -> Past
+        ensures { IsPastOf R.took R.knows R.stopped archive.now lock.now result }
     {
         match lock {
             Some(lock) => Past {
                 took_part: self.rt.took_part(lock),
+                knows_archive: self.rt.knows(lock, archive),
                 was_stopped: self.rt.was_stopped(lock),
             },
             None => Past {
                 took_part: false,
+                knows_archive: false,
                 was_stopped: false,
             },
         }
     }
 
-    /// Whether just one of the replicas took part in a run before.
+    /// Whether just one of the replicas took part in a run before, or in the last run with the archive.
     fn is_one_new(&self, claims: &Claims<R>) -> bool
-        ensures { SaysOneNew R.took R.stopped claims.now.first claims.now.second result }
+        ensures { SaysOneNew R.took R.knows R.stopped claims.now.archive claims.now.first claims.now.second result }
     {
-        is_one_new(self.past(&claims.first), self.past(&claims.second))
+        let Claims {
+            first,
+            second,
+            archive,
+        } = claims;
+        is_one_new(self.past(first, archive), self.past(second, archive))
     }
 
     /// Which replica is new, where just one is.
     fn new_one(&self, claims: &Claims<R>) -> Subject
-        ensures { SaysNew R.took R.stopped claims.now.first result }
+        ensures { SaysNew R.took R.knows R.stopped claims.now.archive claims.now.first claims.now.second result }
     {
-        new_one(self.past(&claims.first))
+        let Claims {
+            first,
+            second,
+            archive,
+        } = claims;
+        new_one(self.past(first, archive), self.past(second, archive))
     }
 
     /// That both replicas are still there. One that went away while it was scanned may look empty, and nothing is deleted for
@@ -178,7 +190,7 @@ impl<R: Machine> Task<'_, R> {
         ensures quiet { IfErr result IsQuiet }
     {
         let Claims { first, second, .. } = claims;
-        Locks { first, second }.look(self.rt)
+        look_at_locks(self.rt, &Locks { first, second })
     }
 
     /// Notes that both replicas take part in this run.
@@ -241,6 +253,7 @@ impl<R: Machine> Task<'_, R> {
     ) -> Result<u8, PerformFault>
         requires first { R.is_locked claims.old.first self.now.pair.now.first.now }
         requires second { R.is_locked claims.old.second self.now.pair.now.second.now }
+        requires named { R.is_named claims.old.archive self.now.pair.now.archive.now }
         ensures ran { RanQuietly self.now.command.now (IsSynced (world R.Disk R.Site.Site R.Folder.Folder R.Stage.Stage) self.now.pair.now)
             (O.holds out.old) (O.holds out.new) (E.holds err.old) (E.holds err.new) result }
     {

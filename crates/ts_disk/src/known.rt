@@ -1,0 +1,316 @@
+//! Which archives a replica belongs to, as its file `.twosync/archives` says.
+//!
+//! An archive is known by the digest in its own last line. A folder that isn't the one that an archive is about, as an older copy that
+//! lies below a mount, doesn't know it as it is now, though it may have a `.twosync` of its own.
+ghost use Rattle.std.specs.Prelude.{◌≡◌, ◌++◌, ◌<◌, ◌↔◌, length, Any, IfOk, IfSome, IsTrue, codes};
+ghost use Rattle.std.specs.String.{string_bytes};
+ghost use Rattle.ts_disk.specs.Known.{IsOf, Knows};
+
+use crate::fault::{DiskFault, failed, own_failed};
+use crate::modes::PRIVATE_FILE;
+use crate::place::{Standing, flush_at, kind_at, remove_file_at, settle_new};
+use std::alloc::{AllocError, Global};
+use std::fs::{File, Files, OpenFile, OpenOptions};
+use std::io::{BufReader, ErrorKind, Read, Seek, SeekFrom, Write};
+use std::os::unix::fs::OpenOptionsExt;
+use std::{fs, io};
+use ts_cause::Cause;
+use ts_text::{Counted, Lines, TextFault, field_digest, push_digest, split_word};
+
+/// The name under which the file is written before it gets its own.
+pub(crate) const NEW_NAME: &str = "archives.new";
+
+/// How many pairs a replica remembers. Of more, the one whose archive was written longest ago is forgotten.
+const MOST_PAIRS: usize = 64;
+
+/// The first line where the replica took part in runs before it had such a file: any archive may be one of its own.
+const OLDER: &[u8] = b"older";
+
+/// How many bytes the last line of an archive ends with that spell its digest, with the line feed.
+const DIGEST_BYTES: i64 = 65;
+
+/// The digest in an archive's last line.
+pub(crate) type ArchiveDigest = [u8; 32];
+
+/// The archive of one pair: the last one that was to be written, and the one that it was to take the place of. A run that was stopped
+/// in between has left either.
+#[derive(Clone, Copy, Drop)]
+pub(crate) struct PairArchive {
+    before: Option<ArchiveDigest>,
+    last: ArchiveDigest,
+}
+
+impl PairArchive {
+    /// The pair whose archive with the digest `last` is to take the place of the one before.
+    fn after(before: Option<ArchiveDigest>, last: ArchiveDigest) -> PairArchive
+        ensures last { IsOf result last }
+        ensures before { IfSome before (IsOf result) }
+    {
+        let before = if before == Some(last) { None } else { before };
+        PairArchive { before, last }
+    }
+
+    /// Whether the pair's archive may be the one with this digest.
+    fn is_of(&self, digest: &ArchiveDigest) -> bool
+        ensures { IsTrue result ↔ IsOf self.now digest.now }
+    {
+        match &self.before {
+            Some(before) => self.last == *digest || *before == *digest,
+            None => self.last == *digest,
+        }
+    }
+}
+
+/// The archives that a replica belongs to.
+#[derive(Drop)]
+pub(crate) struct KnownArchives {
+    // it took part in runs before it had such a file
+    is_older: bool,
+    // the one that was written last comes last
+    pairs: Vec<PairArchive>,
+}
+
+impl KnownArchives {
+    /// What a replica knows that has no such file.
+    pub(crate) fn none(alloc: Global, is_older: bool) -> KnownArchives {
+        KnownArchives {
+            is_older,
+            pairs: Vec::new(alloc),
+        }
+    }
+
+    /// Whether the replica belongs to the archive with this digest, as far as that is known.
+    pub(crate) fn knows(&self, digest: &ArchiveDigest) -> bool
+        ensures { IsTrue result ↔ Knows self.now digest.now }
+    {
+        self.is_older || self.is_of(digest)
+    }
+
+    /// Whether one of the pairs has the archive with this digest.
+    fn is_of(&self, digest: &ArchiveDigest) -> bool
+        ensures { IsTrue result ↔ Any (λ pair. IsOf pair digest.now) self.now.pairs.items }
+    {
+        self.pairs.iter().any(|pair| pair.is_of(digest))
+    }
+
+    /// Whether nothing is to be noted of an archive that takes the place of the one before: it is the same one, and known.
+    fn is_noted(&self, before: &Option<ArchiveDigest>, last: &ArchiveDigest) -> bool
+        ensures last { IsTrue result → Knows self.now last.now }
+        ensures before { IsTrue result → IfSome before.now (Knows self.now) }
+    {
+        match before {
+            Some(before) => *before == *last && self.is_of(last),
+            None => false,
+        }
+    }
+
+    /// Notes the archive that is to take the place of the one before. Answers whether that changes anything. Whichever of the two is
+    /// left by a run that is stopped then, the replica knows it.
+    fn note(
+        &mut self,
+        before: Option<ArchiveDigest>,
+        last: ArchiveDigest,
+    ) -> Result<bool, AllocError>
+        ensures last { IfOk result (λ _. Knows self.new last) }
+        ensures before { IfOk result (λ _. IfSome before (Knows self.new)) }
+    {
+        if self.is_noted(&before, &last) {
+            return Ok(false);
+        }
+        match self.pair_of(before) {
+            Some(at) => {
+                let _ = self.pairs.remove(at);
+            }
+            None if self.pairs.len() >= MOST_PAIRS => {
+                let _ = self.pairs.remove(0);
+            }
+            None => {}
+        }
+        self.pairs.push(PairArchive::after(before, last))?;
+        Ok(true)
+    }
+
+    /// Which pair's archive has this digest, if there is one: rather the last one of a pair than the one before, which is there only
+    /// where a run was stopped. Another pair may have had the same archive before.
+    fn pair_of(&self, digest: Option<ArchiveDigest>) -> Option<usize>
+        ensures { IfSome result (λ at. at < length self.now.pairs.items) }
+    {
+        let digest = digest?;
+        match self.pairs.iter().position(|pair| pair.last == digest) {
+            Some(at) => Some(at),
+            None => self.pairs.iter().position(|pair| pair.is_of(&digest)),
+        }
+    }
+
+    /// The text of the file.
+    fn text(&self, alloc: Global) -> Result<Vec<u8>, AllocError> {
+        let mut text = Vec::new(alloc);
+        if self.is_older {
+            text.extend_from_slice(OLDER)?;
+            text.push(b'\n')?;
+        }
+        for pair in self.pairs.as_slice() {
+            push_pair(&mut text, *pair)?;
+        }
+        Ok(text)
+    }
+}
+
+/// Adds the line of a pair.
+fn push_pair(text: &mut Vec<u8>, pair: PairArchive) -> Result<(), AllocError> {
+    if let Some(before) = pair.before {
+        push_copy(text, before)?;
+        text.push(b' ')?;
+    }
+    push_copy(text, pair.last)?;
+    text.push(b'\n')?;
+    Ok(())
+}
+
+/// Adds a digest.
+fn push_copy(text: &mut Vec<u8>, digest: ArchiveDigest) -> Result<(), AllocError> {
+    push_digest(text, &digest)
+}
+
+/// The place of the file in the program's own directory.
+fn known_place(alloc: Global, own: &str) -> Result<String, AllocError>
+    ensures { IfOk result (λ place. string_bytes place ≡ own.now ++ codes "/archives") }
+{
+    format!(in alloc; "{own}/archives")
+}
+
+/// Which archives a replica belongs to. Where the file isn't there, or isn't what this program writes, a replica that took part in runs
+/// may belong to any.
+pub(crate) fn read_known<R: Files>(
+    files: &R,
+    alloc: Global,
+    own: &str,
+    took_part: bool,
+) -> Result<KnownArchives, DiskFault> {
+    let place = known_place(alloc, own)?;
+    if kind_at(files, place.as_str()).map_err(own_failed)? == Standing::File {
+        let file = fs::open(files, place.as_str()).map_err(own_failed)?;
+        if let Some(known) = known_in(alloc, file)? {
+            return Ok(known);
+        }
+    }
+    Ok(KnownArchives::none(alloc, took_part))
+}
+
+/// What a file says, if it is one that this program writes.
+fn known_in<F: Read + Drop>(alloc: Global, file: F) -> Result<Option<KnownArchives>, DiskFault> {
+    let reader = BufReader::new(alloc, file).map_err(|_| DiskFault::OutOfMemory)?;
+    let mut lines = Lines::new(alloc, Counted::new(reader)).map_err(|_| DiskFault::OutOfMemory)?;
+    let mut known = KnownArchives::none(alloc, false);
+    for number in 0..MOST_PAIRS + 2 {
+        let line = match lines.next() {
+            Ok(Some(line)) => line,
+            Ok(None) if number > 0 => return Ok(Some(known)),
+            Err(TextFault::OutOfMemory) => return Err(DiskFault::OutOfMemory),
+            Err(TextFault::Failed) => {
+                return Err(DiskFault::Own {
+                    cause: Cause::Unknown,
+                });
+            }
+            Ok(None) | Err(TextFault::NotCanonical) => return Ok(None),
+        };
+        if number == 0 && line == OLDER {
+            known.is_older = true;
+        } else if let Some(pair) = pair_in(line) {
+            known.pairs.push(pair)?;
+        } else {
+            return Ok(None);
+        }
+    }
+    Ok(None)
+}
+
+/// The pair that a line is about, if it is about one.
+fn pair_in(line: &[u8]) -> Option<PairArchive> {
+    let (word, rest) = split_word(line);
+    let digest = field_digest(word)?;
+    match rest {
+        Some(rest) => Some(PairArchive {
+            before: Some(digest),
+            last: field_digest(rest)?,
+        }),
+        None => Some(PairArchive {
+            before: None,
+            last: digest,
+        }),
+    }
+}
+
+/// Notes in a replica's own directory that the archive with the digest `last` is to take the place of the one before. That has reached
+/// the device when the call ends. Nothing is written where nothing changes by it.
+pub(crate) fn note_archive<R: Files>(
+    files: &R,
+    alloc: Global,
+    own: &str,
+    took_part: bool,
+    before: Option<ArchiveDigest>,
+    last: ArchiveDigest,
+) -> Result<(), DiskFault> {
+    let mut known = read_known(files, alloc, own, took_part)?;
+    if !known.note(before, last)? {
+        return Ok(());
+    }
+    let text = known.text(alloc)?;
+    let place = known_place(alloc, own)?;
+    let new = format!(in alloc; "{own}/{NEW_NAME}")?;
+    remove_file_at(files, new.as_str()).map_err(failed)?;
+    let written = write_known(files, new.as_str(), text.as_slice()).map_err(failed);
+    settle_new(files, new.as_str(), place.as_str(), written)?;
+    flush_at(files, own).map_err(failed)
+}
+
+/// Writes a file where nothing is, and waits until it has reached the device.
+fn write_known<R: Files>(files: &R, new: &str, text: &[u8]) -> io::Result<()> {
+    let mut options = OpenOptions::new();
+    options.write(true).create_new(true).mode(PRIVATE_FILE);
+    let mut file = options.open(files, new)?;
+    file.write_all(text)?;
+    file.sync_all()
+}
+
+/// The digest of the archive at a place. None where no archive can be read there: what is wrong is found out where it is read whole.
+pub(crate) fn digest_at<R: Files<File = File>>(
+    files: &R,
+    alloc: Global,
+    place: &str,
+) -> Result<Option<ArchiveDigest>, DiskFault> {
+    match fs::open(files, place) {
+        Ok(file) => digest_in(alloc, &file),
+        Err(e) => unless_out_of_memory(e),
+    }
+}
+
+/// The digest in the last line of an archive's file, if that can be read.
+pub(crate) fn digest_in(alloc: Global, file: &File) -> Result<Option<ArchiveDigest>, DiskFault> {
+    let mut bytes = Vec::new(alloc);
+    match read_end(file, &mut bytes) {
+        Ok(()) => Ok(digest_of(bytes.as_slice())),
+        Err(e) => unless_out_of_memory(e),
+    }
+}
+
+/// Reads the end of a file, of as many bytes as spell a digest in an archive's last line.
+fn read_end(file: &File, bytes: &mut Vec<u8>) -> io::Result<()> {
+    let mut file = file;
+    file.seek(SeekFrom::End(-DIGEST_BYTES))?;
+    file.take(DIGEST_BYTES as u64).read_to_end(bytes)?;
+    Ok(())
+}
+
+/// The digest that the end of an archive spells.
+fn digest_of(end: &[u8]) -> Option<ArchiveDigest> {
+    field_digest(end.strip_suffix(b"\n")?)
+}
+
+/// No digest, where a call failed for another reason than memory.
+fn unless_out_of_memory(e: io::Error) -> Result<Option<ArchiveDigest>, DiskFault> {
+    match e.kind() {
+        ErrorKind::OutOfMemory => Err(DiskFault::OutOfMemory),
+        _ => Ok(None),
+    }
+}
