@@ -44,10 +44,11 @@ missing_text other = codes " isn't there any more: is its disk still mounted?"
 abbrev pub pending_text : Job → Subject → List ℕ
 pending_text job what = about job what (codes ": a run was stopped there, or still works. The next `run` or `sync` brings it to an end first.")
 
--- of a replica that never took part in a run, though the archive names so many paths
+-- of a replica that took no part in the last run with the archive, which names so many paths
 abbrev pub new_text : Job → Subject → ℕ → List ℕ
-new_text job what paths = said (noun what ∷ shown 0 (name_in job what) ∷ codes " never took part in a run, but the archive "
-    ∷ shown 0 (name_in job subject.Archive) ∷ codes " names " ∷ decimal paths ∷ codes " paths: is its disk mounted?" ∷ [])
+new_text job what paths = said (noun what ∷ shown 0 (name_in job what) ∷ codes " took no part in the last run with the archive "
+    ∷ shown 0 (name_in job subject.Archive) ∷ codes ", which names " ∷ decimal paths
+    ∷ codes " paths: is its disk mounted, and is this the right archive?" ∷ [])
 
 abbrev pub bad_line_text : Job → ℕ → List ℕ
 bad_line_text job line = said (codes "Line " ∷ decimal line ∷ codes " of " ∷ shown 0 (name_in job subject.Holds)

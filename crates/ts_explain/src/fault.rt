@@ -54,8 +54,8 @@ pub enum PerformFault {
     NotThere {
         what: Subject,
     },
-    /// A replica never took part in a run, but the archive names so many paths.
-    #[error("never took part")]
+    /// A replica took no part in the last run with the archive, which names so many paths.
+    #[error("took no part in the last run")]
     New {
         what: Subject,
         paths: usize,

@@ -161,7 +161,7 @@ fn missing_text(what: Subject) -> &'static [u8]
     }
 }
 
-/// Appends what is said of a replica that never took part in a run, though the archive names so many paths.
+/// Appends what is said of a replica that took no part in the last run with the archive, which names so many paths.
 fn push_new(
     alloc: Global,
     job: &Job<'_>,
@@ -174,11 +174,11 @@ fn push_new(
     let pieces = [
         Piece::Words(what.noun()),
         Piece::Name(what.name_in(job)),
-        Piece::Words(b" never took part in a run, but the archive "),
+        Piece::Words(b" took no part in the last run with the archive "),
         Piece::Name(Subject::Archive.name_in(job)),
-        Piece::Words(b" names "),
+        Piece::Words(b", which names "),
         Piece::Number(paths as u64),
-        Piece::Words(b" paths: is its disk mounted?"),
+        Piece::Words(b" paths: is its disk mounted, and is this the right archive?"),
     ];
     push_pieces(alloc, &pieces, line)
 }
