@@ -246,6 +246,7 @@ fn numbers_faults(rt: HostRuntime) {
     for (fault, number) in [
         (DiskFault::OutOfMemory, 1),
         (DiskFault::Failed { cause }, 5),
+        (DiskFault::Unread { cause }, 5),
         (DiskFault::Device { cause }, 8),
         (DiskFault::Locked, 8),
         (DiskFault::Own { cause }, 5),

@@ -5,12 +5,13 @@ use Rattle.ts_disk.specs.declared.replacement.Refusal.TheVariants as refusal
 use Rattle.ts_site.specs.declared.fault.SiteFault.{SiteFault}
 use Rattle.ts_site.specs.declared.fault.SiteFault.TheVariants as site
 use Rattle.ts_disk.specs.declared.fault.DiskFault.{DiskFault}
-use Rattle.ts_disk.specs.declared.fault.DiskFault.TheVariants.{OutOfMemory, Failed, Device, Locked, Own}
+use Rattle.ts_disk.specs.declared.fault.DiskFault.TheVariants.{OutOfMemory, Failed, Unread, Device, Locked, Own}
 
 -- the number that the fault is reported by
 abbrev pub fault_number : DiskFault → ℕ
 fault_number OutOfMemory = 1
 fault_number (Failed cause) = 5
+fault_number (Unread cause) = 5
 fault_number (Device cause) = 8
 fault_number Locked = 8
 fault_number (Own cause) = 5

@@ -44,7 +44,7 @@ pub struct ArchivePlace {
 
 /// Takes the place of an archive, before anything is changed. A link is followed to where it leads.
 ///
-/// `Locked` where another run writes this archive. `Failed` where what stands at the place is neither a file nor absent; where
+/// `Locked` where another run writes this archive. `Unread` where the archive that is there can't be read. `Failed` where what stands at the place is neither a file nor absent; where
 /// the new archive can't be made beside it; and where something stands there that isn't what a stopped run left: a file that
 /// begins as an archive does.
 pub fn claim_archive<R: Files<File = File> + AllocGlobal>(

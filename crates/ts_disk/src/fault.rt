@@ -19,6 +19,9 @@ pub enum DiskFault {
     /// A file can't be opened, read or written.
     #[error("a file can't be opened, read or written")]
     Failed { cause: Cause },
+    /// A file can't be read.
+    #[error("a file can't be read")]
+    Unread { cause: Cause },
     /// The device failed, so a swap can't be brought to its end.
     #[error("the device failed")]
     Device { cause: Cause },
@@ -38,7 +41,7 @@ impl DiskFault {
     {
         match self {
             DiskFault::OutOfMemory => 1,
-            DiskFault::Failed { .. } | DiskFault::Own { .. } => 5,
+            DiskFault::Failed { .. } | DiskFault::Unread { .. } | DiskFault::Own { .. } => 5,
             DiskFault::Device { .. } | DiskFault::Locked => 8,
         }
     }
@@ -49,6 +52,15 @@ pub(crate) fn failed(e: io::Error) -> DiskFault
     ensures { (cause : Cause) × IsCauseOf e cause × (result ≡ DiskFault.Failed cause) }
 {
     DiskFault::Failed {
+        cause: cause_of(&e),
+    }
+}
+
+/// That a file can't be read, as a call failed with this error.
+pub(crate) fn unread(e: io::Error) -> DiskFault
+    ensures { (cause : Cause) × IsCauseOf e cause × (result ≡ DiskFault.Unread cause) }
+{
+    DiskFault::Unread {
         cause: cause_of(&e),
     }
 }

@@ -6,7 +6,7 @@ ghost use Rattle.std.specs.Prelude.{◌≡◌, ◌++◌, ◌<◌, ◌↔◌, len
 ghost use Rattle.std.specs.String.{string_bytes};
 ghost use Rattle.ts_disk.specs.Known.{IsOf, Knows};
 
-use crate::fault::{DiskFault, failed, own_failed};
+use crate::fault::{DiskFault, failed, own_failed, unread};
 use crate::modes::PRIVATE_FILE;
 use crate::place::{Standing, flush_at, kind_at, remove_file_at, settle_new};
 use std::alloc::{AllocError, Global};
@@ -273,7 +273,8 @@ fn write_known<R: Files>(files: &R, new: &str, text: &[u8]) -> io::Result<()> {
     file.sync_all()
 }
 
-/// The digest of the archive at a place. None where no archive can be read there: what is wrong is found out where it is read whole.
+/// The digest of the archive at a place. None where nothing is there, or no archive: what is wrong with it is found out where it is
+/// read whole.
 pub(crate) fn digest_at<R: Files<File = File>>(
     files: &R,
     alloc: Global,
@@ -281,16 +282,19 @@ pub(crate) fn digest_at<R: Files<File = File>>(
 ) -> Result<Option<ArchiveDigest>, DiskFault> {
     match fs::open(files, place) {
         Ok(file) => digest_in(alloc, &file),
-        Err(e) => unless_out_of_memory(e),
+        Err(e) if e.kind() == ErrorKind::NotFound => Ok(None),
+        Err(e) => Err(unread(e)),
     }
 }
 
-/// The digest in the last line of an archive's file, if that can be read.
+/// The digest in the last line of an archive's file, if it has one.
 pub(crate) fn digest_in(alloc: Global, file: &File) -> Result<Option<ArchiveDigest>, DiskFault> {
     let mut bytes = Vec::new(alloc);
     match read_end(file, &mut bytes) {
         Ok(()) => Ok(digest_of(bytes.as_slice())),
-        Err(e) => unless_out_of_memory(e),
+        // the file is shorter than that
+        Err(e) if e.kind() == ErrorKind::InvalidInput => Ok(None),
+        Err(e) => Err(unread(e)),
     }
 }
 
@@ -305,12 +309,4 @@ fn read_end(file: &File, bytes: &mut Vec<u8>) -> io::Result<()> {
 /// The digest that the end of an archive spells.
 fn digest_of(end: &[u8]) -> Option<ArchiveDigest> {
     field_digest(end.strip_suffix(b"\n")?)
-}
-
-/// No digest, where a call failed for another reason than memory.
-fn unless_out_of_memory(e: io::Error) -> Result<Option<ArchiveDigest>, DiskFault> {
-    match e.kind() {
-        ErrorKind::OutOfMemory => Err(DiskFault::OutOfMemory),
-        _ => Ok(None),
-    }
 }

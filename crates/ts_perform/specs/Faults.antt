@@ -129,6 +129,7 @@ fault_of_trial cause trial.Failed = fault.Failed (stream_with cause) (Unread cau
 abbrev pub fault_of_disk : Subject → DiskFault → PerformFault
 fault_of_disk what disk.OutOfMemory = fault.OutOfMemory
 fault_of_disk what (disk.Failed cause) = fault.Failed what (Unwritten cause)
+fault_of_disk what (disk.Unread cause) = fault.Failed what (Unread cause)
 fault_of_disk what (disk.Device cause) = fault.Device what cause
 fault_of_disk what disk.Locked = fault.Locked what
 fault_of_disk what (disk.Own cause) = fault.Own what cause

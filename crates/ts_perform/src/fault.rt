@@ -141,6 +141,10 @@ pub(crate) fn of_disk(fault: DiskFault, what: Subject) -> PerformFault
             let why = Why::Unwritten { cause };
             PerformFault::Failed { what, why }
         }
+        DiskFault::Unread { cause } => {
+            let why = Why::Unread { cause };
+            PerformFault::Failed { what, why }
+        }
         DiskFault::Own { cause } => PerformFault::Own { what, cause },
         DiskFault::Device { cause } => PerformFault::Device { what, cause },
         DiskFault::Locked => PerformFault::Locked { what },
