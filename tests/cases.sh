@@ -100,12 +100,20 @@ holds_true() {
   if "$@"; then ok; else bad "$name"; fi
 }
 
+# left_in REPLICA..: the names of what lies in `.twosync` of these replicas, but for the file `archives`, which stays there
+left_in() {
+  local replica
+  for replica in "$@"; do
+    find "$replica/.twosync" -mindepth 1 -maxdepth 1 ! \( -name archives -type f -perm 600 \) -printf '%P\n' 2>/dev/null
+  done
+}
+
 # alike NAME: both replicas hold the same, and nothing of a run is left in them
 alike() {
   local name=$1
   if ! diff -r -x .twosync first second >differences; then
     bad "$name: the replicas differ: $(head -n 3 differences)"
-  elif [ -n "$(find first/.twosync second/.twosync -mindepth 1 2>/dev/null)" ]; then
+  elif [ -n "$(left_in first second)" ]; then
     bad "$name: something is left in .twosync"
   elif [ -e archive.new ]; then
     bad "$name: archive.new is left"
@@ -124,6 +132,19 @@ archive_of() {
   } >front
   cat front
   echo "end $lines $(sha256sum <front | cut -c1-64)"
+}
+
+# digest_in ARCHIVE: the digest in an archive's last line, by which replicas know it
+digest_in() { tail -n 1 "$1" | cut -d ' ' -f 3; }
+
+# part_of DIGEST REPLICA..: makes `.twosync` in these replicas as a run leaves it that wrote the archive with this digest
+part_of() {
+  local digest=$1 replica
+  shift
+  for replica in "$@"; do
+    mkdir -m 700 "$replica/.twosync"
+    (umask 077 && echo "$digest" >"$replica/.twosync/archives")
+  done
 }
 
 # state: all that lies in this folder but what these scripts write themselves: kinds, modes, links, times of files, contents.

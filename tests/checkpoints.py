@@ -4,6 +4,7 @@ The word is the program. All that is wanted comes from the trees of a pair, and 
 actions, a piece, a commit and a mark for each, so one worker makes nine checkpoints, after 20 of them each."""
 
 import os
+import re
 import subprocess
 import sys
 import time
@@ -19,6 +20,8 @@ OTHER = ["sync", "third", "fourth", "archive", "--workers", "1"]
 ERRORS = ["ENOSPC", "EIO"]
 PAUSE = 4  # seconds that a run is held up
 RENAMES = ["rename", "renameat", "renameat2"]
+# a root of the pair, the program's own directory there, or the file `archives` in it, by its name or as an open file
+ABOUT = re.compile(r"\b(first|second)(/\.twosync(/archives(\.new)?)?)?[\">]")
 IN_TIME = 30  # seconds within which a run has to come to its first checkpoint
 
 
@@ -68,11 +71,8 @@ def window(found, rename):
 
 
 def is_before(call, _number, rest):
-    """Whether a call is about a new archive, or about a root of the pair, in which all files stand."""
-    roots = ("first", "second")
-    if call.startswith("open"):
-        return any('"%s"' % root in rest for root in roots)
-    return "archive.new" in rest or any(os.path.realpath("try/" + root) + ">" in rest for root in roots)
+    """Whether a call is about a new archive, about what replicas know of it, or about a root of the pair, in which all files stand."""
+    return "archive.new" in rest or ABOUT.search(rest) is not None
 
 
 # ---- what a stop leaves

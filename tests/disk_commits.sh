@@ -74,7 +74,7 @@ kept() {
   else
     bad "$1: what was saved is gone: $(head -n 3 differences | cut -c1-120)"
   fi
-  holds_true "$1: nothing is left in .twosync" test -z "$(find first/.twosync second/.twosync -mindepth 1)"
+  holds_true "$1: nothing is left in .twosync" test -z "$(left_in first second)"
   holds_true "$1: the archive is as it was" cmp -s archive archive.before
 }
 # edit_now EDIT: makes the edit, and keeps what it left to compare with
@@ -155,10 +155,10 @@ failed_with_14() {
 found() {
   if grep -rqsxF -- "$2" "$to"; then ok; else bad "$1, from $from: what was saved is gone"; fi
 }
-# left NAME: the only thing in .twosync is one `left-N`, and it is the old file
+# left NAME: the only thing that is left in .twosync is one `left-N`, and it is the old file
 left() {
   local all
-  all=$(cd "$to/.twosync" && ls -A)
+  all=$(left_in "$to")
   if [[ $all =~ ^left-[0-9]+$ ]] && [ "$(cat "$to/.twosync/$all")" = old. ]; then
     ok
   else
@@ -186,7 +186,7 @@ killed_after() {
   wait "$child" 2>/dev/null
   expect "$name: the run after that" 1 $'skip conflict /f\ntotal 1 done 0 skipped 1 failed 0 blocked 0' '' "${sync[@]}"
   holds_true "$name: what was saved is there" diff -r -x .twosync "$to" wanted
-  holds_true "$name: nothing is left in .twosync" test -z "$(find first/.twosync second/.twosync -mindepth 1)"
+  holds_true "$name: nothing is left in .twosync" test -z "$(left_in first second)"
 }
 
 # changes KIND: what the source became: another file, a folder, nothing
@@ -354,7 +354,7 @@ for role in "${roles[@]}"; do
       'twosync: fault 14 /d/f' "$held_status"
     outside_stays "a link above, new $new, before it is set aside, from $from"
     holds_true "a link above, new $new, before it is set aside, from $from: the old file" test "$(cat "$to/was/f")" = old.
-    holds_true "a link above, new $new, before it is set aside, from $from: .twosync" test -z "$(ls -A "$to/.twosync")"
+    holds_true "a link above, new $new, before it is set aside, from $from: .twosync" test -z "$(left_in "$to")"
   done
   had below
   changes_below file

@@ -174,7 +174,7 @@ for role in 'first second' 'second first'; do
   answered "killed, from $from: the next run" 0 "$(for file in "$from"/f*; do echo "done $from /${file##*/}"; done)
 total 400 done 400 skipped 0 failed 0 blocked 0" '' "$got"
   alike "killed, from $from: the next run"
-  holds_true "killed, from $from: all files are there" test "$(find "$to" -type f | wc -l)" = 400
+  holds_true "killed, from $from: all files are there" test "$(find "$to" -name .twosync -prune -o -type f -print | wc -l)" = 400
 done
 
 # ---- leftovers of other entries, where this run's entry 0 is one that stays as it is
@@ -237,7 +237,7 @@ for replica in first second; do
   for name in "${others[@]}"; do
     holds_true "$name stays in $replica" test "$(cat "$replica/.twosync/$name" 2>/dev/null)" = "$name"
   done
-  holds_true "nothing else is in $replica" test "$(find "$replica/.twosync" -mindepth 1 | wc -l)" = "${#others[@]}"
+  holds_true "nothing else is in $replica" test "$(left_in "$replica" | wc -l)" = "${#others[@]}"
 done
 # Names that spell the number of an entry in another way are no spots of it, however the command answers.
 for name in new-00 old-00 new-+0 old-+0 old-0x0 old-4294967296; do
@@ -449,7 +449,7 @@ for replica in first second; do
   for how in empty others; do
     seen
     holds_true "a run leaves .twosync in $replica" test -d "$replica/.twosync"
-    holds_true "a run leaves it empty in $replica" test -z "$(ls -A "$replica/.twosync")"
+    holds_true "a run leaves only the file archives in it in $replica" test "$(ls -A "$replica/.twosync")" = archives -a -z "$(left_in "$replica")"
     rm -r "$replica"
     mkdir "$replica"
     [ "$how" = empty ] || printf z >"$replica/z"

@@ -59,8 +59,9 @@ mkdir first/d
 "$program" "${sync[@]}" >out
 rm -r second
 mkdir second
-told 'a replica that is new' 3 '' 'second never took part in a run, but the archive archive names 2 paths: is its disk mounted?' 'twosync: fault 9' "${sync[@]}"
-told 'the other one is new' 3 '' 'second never took part in a run, but the archive archive names 2 paths: is its disk mounted?' 'twosync: fault 9' sync second first archive
+NO_PART='second took no part in the last run with the archive archive, which names 2 paths: is its disk mounted, and is this the right archive?'
+told 'a replica that is new' 3 '' "$NO_PART" 'twosync: fault 9' "${sync[@]}"
+told 'the other one is new' 3 '' "$NO_PART" 'twosync: fault 9' sync second first archive
 
 # ---- plans that aren't valid; the line that refuses them stands on standard output
 fresh

@@ -32,7 +32,7 @@ PARTS = 12  # at how many calls of a case all begin to fail
 LINE = re.compile(r"(done|failed|blocked|skip) (\w+) (/\S+)$")
 FAULT = re.compile(r"twosync: fault (\d+)(?: (/\S+))?$")
 KEPT = re.compile(r"twosync: kept (/\S+) as (\S+)$")
-OWN = re.compile(r"(lock|plan|plan\.new|(new|old|kept|made|trash|left)-\d+)$")
+OWN = re.compile(r"(lock|plan|plan\.new|archives\.new|(new|old|kept|made|trash|left)-\d+)$")
 
 
 def modes_at(place):
@@ -70,7 +70,7 @@ class Failing(Case):
             os.chmod(self.base + "/" + path, mode)
         if not took_part:
             for replica in ("first", "second"):
-                os.rmdir("%s/%s/.twosync" % (self.base, replica))
+                shutil.rmtree("%s/%s/.twosync" % (self.base, replica))
         self.old_modes = {replica: modes_at("%s/%s" % (self.base, replica)) for replica in ("first", "second")}
         self.new_modes = {replica: self.wanted_modes(replica) for replica in ("first", "second")}
         self.status = 1 if self.skipped else 0

@@ -75,7 +75,7 @@ row() { echo "f $1 $(stat -c %s "$2") $(sha256sum <"$2" | cut -c1-64)"; }
 # tidy NAME: nothing of a run is left where it worked
 tidy() {
   holds_true "$1: nothing is left of the run" \
-    test -z "$(find first/.twosync second/.twosync -mindepth 1 2>/dev/null)" -a ! -e archive.new
+    test -z "$(left_in first second)" -a ! -e archive.new
 }
 # told NAME STATUS REPORT FAULTS WORDS..: the run has this status, and says this; what it leaves is tidy
 told() {

@@ -1,7 +1,7 @@
 """How much memory a sync holds: it doesn't grow with the bytes that are copied, only with the number of paths.
 
 Each set is synced into an empty folder by 1, 4 and 64 workers. The program may hold 64 MiB, and 300 bytes for each path; then both
-folders have to be alike, and nothing of the run may be left beside the lock's folder. It works in the folder that it is run in.
+folders have to be alike, and nothing of the run may be left beside the file `archives`. It works in the folder that it is run in.
 
 With `--large` it takes other sets: nearly as many files as a plan can have, at the top and in one new directory. After each first
 sync comes one with nothing to do. That takes 9 GiB of room, and isn't part of the gate.
@@ -15,7 +15,7 @@ import shutil
 import subprocess
 import sys
 
-from runs import hold, write_counts
+from runs import hold, names_beside_archives, write_counts
 
 PROGRAM = sys.argv[1]
 IS_LARGE = sys.argv[2:] == ["--large"]
@@ -128,7 +128,7 @@ def main():
             case = f"{name} by {workers}"
             sync(case, paths, workers)
             hold(case, None if alike("first", "second") else "the folders differ")
-            left = [it for side in ("first", "second") for it in os.listdir(f"{side}/.twosync")]
+            left = [it for side in ("first", "second") for it in names_beside_archives(f"{side}/.twosync")]
             hold(case, f"{left} is left" if left else None)
             if IS_LARGE:
                 sync(f"{case}, with nothing to do", paths, workers)

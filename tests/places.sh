@@ -88,7 +88,7 @@ twosync: fault 8 /m/x
 twosync: fault 8 /m/y
 twosync: mount /m" "${sync[@]}"
       holds_true "a mount, from $from, $time: what is in it" test "$(cd "$to/m" && grep -r .)" = kept:a
-      holds_true "a mount, from $from, $time: .twosync" test -z "$(ls -A first/.twosync second/.twosync | grep -v '^first\|^second\|^$')"
+      holds_true "a mount, from $from, $time: .twosync" test -z "$(left_in first second)"
     done
     # from it, all can be copied
     unmount

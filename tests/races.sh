@@ -51,7 +51,7 @@ holds_true 'targets that went stay away' test ! -e second/gone -a ! -e second/g
 holds_true 'a target that came stays' test "$(cat second/new)" = c
 holds_true 'a target that changed stays' test "$(cat second/z)" = d
 holds_true 'the other target is replaced' test "$(cat second/y)" = b
-holds_true 'nothing is left of refused commits' test -z "$(find first/.twosync second/.twosync -mindepth 1)"
+holds_true 'nothing is left of refused commits' test -z "$(left_in first second)"
 expect 'the archive without failed entries' 0 "d /g
 f /gone 1 $SA
 f /y 1 $SB

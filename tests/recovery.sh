@@ -71,7 +71,7 @@ for kind in replaced deleted; do
     holds_true 'the second entry, deleted: it is gone' test ! -e second/f
   fi
   holds_true "the second entry, $kind: the conflict" test ! -e second/c -a "$(cat first/c)" = b
-  holds_true "the second entry, $kind: nothing is left" test -z "$(find first/.twosync second/.twosync -mindepth 1)"
+  holds_true "the second entry, $kind: nothing is left" test -z "$(left_in first second)"
   stopped_at 0 $kind
   refused "the number of the commit, $kind" 8 "${sync[@]}"
 done
@@ -92,7 +92,7 @@ for gone in /away/a /gone/a; do
     "twosync: kept $gone as second/.twosync/left-0" "${sync[@]}"
   holds_true "beside $gone, which has no folder: the other one" test "$(cat second/f)" = b
   holds_true "beside $gone, which has no folder: it is kept" \
-    test "$(ls second/.twosync)" = left-0 -a "$(cat second/.twosync/left-0)" = a
+    test "$(left_in second)" = left-0 -a "$(cat second/.twosync/left-0)" = a
 done
 
 # ---- other leftovers
@@ -124,7 +124,7 @@ stopped_at_gone first second
 expect 'recovery where the original has no folder to go back to' 0 $'done first /a\ntotal 1 done 1 skipped 0 failed 0 blocked 0' "$kept" "${sync[@]}"
 holds_true 'the original is kept' test "$(cat second/.twosync/left-0)" = o
 expect 'the run after it' 0 'total 0 done 0 skipped 0 failed 0 blocked 0' '' "${sync[@]}"
-holds_true 'the original is still kept, and nothing else' test "$(ls second/.twosync)" = left-0
+holds_true 'the original is still kept, and nothing else' test "$(left_in second)" = left-0
 stopped_at_gone first second
 "$program" "${sync[@]}" >out 2>/dev/full
 status=$?
@@ -172,7 +172,7 @@ fi
 with_module
 if chattr +i second/mod/f 2>/dev/null; then
   expect 'a file that can not be removed' 0 $'done first /mod\ntotal 1 done 1 skipped 0 failed 0 blocked 0' 'twosync: fault 8 /mod' "${sync[@]}"
-  holds_true 'it is out of the way' test ! -e second/mod -a "$(ls second/.twosync)" = trash-0
+  holds_true 'it is out of the way' test ! -e second/mod -a "$(left_in second)" = trash-0
   expect 'the run after it is not refused' 0 "$nothing" '' "${sync[@]}"
   printf b >first/b
   expect 'nor the one after that' 0 $'done first /b\ntotal 1 done 1 skipped 0 failed 0 blocked 0' '' "${sync[@]}"
@@ -207,7 +207,7 @@ printf b >first/a
 : >"second/.twosync/$(printf 'new-\377')"
 mkdir second/.twosync/new-x
 expect 'what else is there' 0 $'done first /a\ntotal 1 done 1 skipped 0 failed 0 blocked 0' '' "${sync[@]}"
-holds_true 'what else is there stays' test "$(find second/.twosync -mindepth 1 | wc -l)" = 2
+holds_true 'what else is there stays' test "$(left_in second | wc -l)" = 2
 fresh
 printf a >first/a
 mkdir elsewhere

@@ -7,6 +7,7 @@ import random
 import re
 import shutil
 import signal
+import stat
 import subprocess
 
 NOTHING = "total 0 done 0 skipped 0 failed 0 blocked 0\n"
@@ -15,6 +16,8 @@ WRITING = ["write", "writev", "pwrite64", "pwritev", "copy_file_range", "sendfil
 OTHERS = ["mkdir", "mkdirat", "ftruncate", "rename", "renameat", "renameat2", "link", "linkat", "unlink", "unlinkat"]
 OTHERS += ["rmdir", "chmod", "fchmod", "fchmodat", "fsync", "fdatasync", "flock"]
 WORDS = ["sync", "first", "second", "archive", "--workers", "1"]
+# the text of the file `archives` that a replica has
+KNOWN = re.compile(rb"(older\n)?([0-9a-f]{64}( [0-9a-f]{64})?\n){1,64}")
 counts = {"passed": 0, "failed": 0}
 
 
@@ -70,10 +73,36 @@ def read_tree(place):
     return found
 
 
+def digest_of(archive):
+    """The digest in an archive's last line, by which replicas know it."""
+    return archive.split()[-1]
+
+
+def names_beside_archives(own):
+    """What lies in a directory of the program's own, but for the file `archives`, which stays there."""
+    names = os.listdir(own) if os.path.isdir(own) else []
+    return sorted(name for name in names if name != "archives" or not is_private_file(own + "/" + name))
+
+
+def is_private_file(place):
+    mode = os.lstat(place).st_mode
+    return stat.S_ISREG(mode) and stat.S_IMODE(mode) == 0o600
+
+
 def own_names(replica):
-    """What lies in the program's own directory of a replica."""
-    own = "try/%s/.twosync" % replica
-    return sorted(os.listdir(own)) if os.path.isdir(own) else []
+    """What else lies in the program's own directory of a replica."""
+    return names_beside_archives("try/%s/.twosync" % replica)
+
+
+def problem_of_known(replica):
+    """What is wrong with the file by which a replica knows the archive that is there."""
+    place = "try/%s/.twosync/archives" % replica
+    known = open(place, "rb").read() if os.path.exists(place) else b""
+    if not KNOWN.fullmatch(known):
+        return "the file archives of %s is %r" % (replica, known[:200])
+    if digest_of(open("try/archive", "rb").read()) not in known.split():
+        return "%s doesn't know the archive" % replica
+    return None
 
 
 def sub(there, top):
@@ -115,10 +144,17 @@ class Case:
         for replica in ("first", "second"):
             write_tree("%s/%s" % (self.base, replica), self.old[replica])
             if archive is not None:
-                os.mkdir("%s/%s/.twosync" % (self.base, replica), 0o700)
+                self.make_own(replica)
         if archive is not None:
             with open(self.base + "/archive", "wb") as file:
                 file.write(self.archives[0])
+
+    def make_own(self, replica):
+        """Makes the program's own directory in a replica, as a run leaves it that wrote the archive."""
+        own = "%s/%s/.twosync" % (self.base, replica)
+        os.mkdir(own, 0o700)
+        with open(own + "/archives", "wb", opener=lambda name, flags: os.open(name, flags, 0o600)) as file:
+            file.write(digest_of(self.archives[0]) + b"\n")
 
     def new_archive(self, _archive):
         """The archive of a whole run, by the one before it."""
@@ -198,7 +234,7 @@ class Case:
             return "something is left beside the archive: %s" % os.listdir("try")
         if open("try/archive", "rb").read() != self.archives[1]:
             return "the archive isn't what it has to be"
-        return None
+        return problem_of_known("first") or problem_of_known("second")
 
 
 def outcome(child):

@@ -8,7 +8,7 @@ import subprocess
 import sys
 import time
 
-from runs import NOTHING, WORDS, archive_of, calls, hold, outcome, read_tree, run, text, tree, write_counts, write_tree
+from runs import NOTHING, WORDS, archive_of, calls, hold, outcome, own_names, read_tree, run, text, tree, write_counts, write_tree
 
 program = sys.argv[1]
 READS = ["read", "pread64", "readv", "preadv"]
@@ -107,7 +107,7 @@ def problem(is_new, status, said):
         return "status %s, %s" % (status, said[1])
     if done != (now != before):
         return "it says %s, and the target has %s bytes" % (" ".join(said), None if now is None else len(now))
-    left = os.listdir("try/second/.twosync")
+    left = own_names("second")
     return left and "%s is left in .twosync" % left
 
 

@@ -17,7 +17,7 @@ import stat
 import sys
 
 from preview import compare, entries_of, path_text, read_archive, read_rules, run
-from runs import counts, write_counts
+from runs import counts, names_beside_archives, write_counts
 
 STAND_IN = b"twosync: what is here can't be synchronized\n"
 HELD = (len(STAND_IN), hashlib.sha256(STAND_IN).hexdigest())
@@ -149,7 +149,7 @@ def carry_out(name, draw):
     compare(f"{name}: what is skipped or special is untouched", before, looks(entries))
     left, _ = seen()
     compare(f"{name}: all else is done", [it["path"] for it in entries if it["reason"] in ("conflict", "held")], [it["path"] for it in left])
-    compare(f"{name}: nothing is left", [], [it for it in ("first", "second") if os.listdir(f"{it}/.twosync")])
+    compare(f"{name}: nothing is left", [], [it for it in ("first", "second") if names_beside_archives(f"{it}/.twosync")])
 
 
 # ---- cases
