@@ -35,7 +35,7 @@ can_mount() {
   [ "$got" = 2 ]
 }
 
-# Whether an older copy of the replica lies below the mount, as a run leaves it that came while nothing was mounted.
+# Whether an older copy of the replica lies below the mount, as a run left it that came while nothing was mounted.
 copy=
 # had: what both replicas and the archive had, and what has become of it since: one file was deleted and one changed in the replica
 # `from`, which has a new folder and a new file, too; the other replica has a new file
@@ -44,17 +44,18 @@ had() {
   unmount_all
   fresh
   if [ -n "$copy" ]; then
-    mkdir -m 700 "$lost/.twosync"
+    # it knows the archive of that run, which was another one
+    part_of "$SB" "$lost"
     for name in gone kept old; do printf a >"$lost/$name"; done
   fi
   rm -rf below
   cp -a "$lost" below
   mount_disk || bad "a disk at $lost"
-  mkdir -m 700 first/.twosync second/.twosync
   for name in gone kept old; do printf a | tee "first/$name" >"second/$name"; done
   archive_of "f /gone 1 $SA
 f /kept 1 $SA
 f /old 1 $SA" >archive
+  part_of "$(digest_in archive)" first second
   cp archive archive.before
   rm "$from/gone"
   printf b >"$from/old"
@@ -74,13 +75,14 @@ f /new 1 $SB
 f /old 1 $SB
 f /other 1 $SB" >wanted.archive
 
-# last_flush BACK: finds the last flush of something in a replica before an archive came to its place, the last one or so many back
+# last_flush BACK: finds the last flush of something that a replica holds before an archive came to its place, the last one or so
+# many back; what the replicas know of it is flushed after that
 last_flush() {
   read -r call number <<<"$(awk -v back="$1" '{
     name = $2
     sub(/[(].*/, "", name)
     count[name]++
-    if (name ~ /^f(data)?sync$/ && /copy\/(first|second)[\/>]/) last = name " " count[name]
+    if (name ~ /^f(data)?sync$/ && /copy\/(first|second)[\/>]/ && !/[.]twosync/) last = name " " count[name]
     if (name ~ /^rename/ && /archive[.]new"/) before[++renames] = last
   }
   END { print before[renames - back] }' log)"
@@ -127,7 +129,7 @@ nothing_below() {
 }
 # saved NAME: a sync is refused before the disk is there again, and then brings all to its end and loses nothing
 saved() {
-  [ -n "$copy" ] || refused "$1: a sync before the disk is there again" 9 "${sync[@]}"
+  refused "$1: a sync before the disk is there again" 9 "${sync[@]}"
   mount_again
   "$program" "${sync[@]}" >out 2>err
   holds_true "$1: the next sync ends with status $?" test "$?" = 0
@@ -174,6 +176,24 @@ for role in 'first second' 'second first'; do
         goes_away "$name" "$side" "$condition" "${words[@]}"
         ended_with_9 "$name"
         [ -n "$every" ] || holds_true "$name: no archive was written" cmp -s archive archive.before
+        saved "$name"
+      done
+    done
+    # while the replica notes the archive that is to be written
+    noted="$lost/[.]twosync/archives"
+    for step in "before archives.new is made|${noted}[.]new\".*O_CREAT|enter|true" \
+      "before archives.new takes its place|${noted}[.]new\".*${noted}\"|enter|true" \
+      "when archives.new has taken its place|${noted}[.]new\".*${noted}\"|exit|[ ! -e $lost/.twosync/archives.new ]"; do
+      IFS='|' read -r what pattern side condition <<<"$step"
+      for copy in '' 1; do
+        name="$lost goes away $what, from $from${copy:+, with a copy}"
+        had
+        calls=$moving,open,openat
+        call_of "$pattern"
+        goes_away "$name" "$side" "$condition"
+        holds_true "$name: its status is $held_status" test "$held_status" = 2
+        holds_true "$name: the archive isn't written any more" cmp -s archive archive.held
+        nothing_below "$name"
         saved "$name"
       done
     done
