@@ -189,6 +189,36 @@ def problem_of_answer(case, status, said, call, when):
     return is_done and told and all(" /" in line for line in told) and "status 2, though all is done: %s" % repr(err)
 
 
+# ---- calls that fail where a run is refused
+
+
+def make_odd(case, odd):
+    """A replica that isn't the one that the archive is about, since it knows another one."""
+    case.fresh()
+    with open("try/%s/.twosync/archives" % odd, "wb") as file:
+        file.write(digest_of(archive_of({})) + b"\n")
+
+
+def refuse_each(case):
+    """Lets each call fail by which a run finds out that it is to be refused: it is refused all the same."""
+    for odd in BOTH:
+        make_odd(case, odd)
+        status, said, found = traced(case.name, PROGRAM, may_fail, more=[*LOOKS, *READS], command=case.command)
+        hold("%s, %s is another one" % (case.name, odd), problem_of_refusal(case, status, said))
+        for call, number in found:
+            for error in [*ERRORS, "EMFILE"]:
+                make_odd(case, odd)
+                status, said = run(PROGRAM, failing(call, error, str(number)), command=case.command)
+                name = "%s, %s is another one, %s %d fails with %s" % (case.name, odd, call, number, error)
+                hold(name, problem_of_refusal(case, status, said))
+
+
+def problem_of_refusal(case, status, said):
+    if status != 3 or said[0]:
+        return "status %s, %s" % (status, " ".join(said))
+    return case.has_changed() and "something has changed"
+
+
 # ---- the order of what reaches the disk
 
 
@@ -279,6 +309,8 @@ def main():
         print("%s: stopped at %d calls" % (case.name, stop_each(case)), flush=True)
         if case.command == WORDS:
             print("%s: %d calls fail" % (case.name, fail_each(case)), flush=True)
+        if case.name == "changes":
+            refuse_each(case)
     write_counts()
 
 
