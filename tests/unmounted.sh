@@ -105,7 +105,7 @@ goes_away() {
   shift 3
   if [ -z "${call:-}" ]; then
     bad "$name: the run comes to no such call"
-    return
+    return 1
   fi
   hold_up "$side" "$condition" "$@"
   cp archive archive.held
@@ -190,7 +190,7 @@ for role in 'first second' 'second first'; do
         had
         calls=$moving,open,openat
         call_of "$pattern"
-        goes_away "$name" "$side" "$condition"
+        goes_away "$name" "$side" "$condition" || continue
         holds_true "$name: its status is $held_status" test "$held_status" = 2
         holds_true "$name: the archive isn't written any more" cmp -s archive archive.held
         nothing_below "$name"
