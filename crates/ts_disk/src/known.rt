@@ -6,9 +6,10 @@ ghost use Rattle.std.specs.Prelude.{◌≡◌, ◌++◌, ◌<◌, ◌↔◌, len
 ghost use Rattle.std.specs.String.{string_bytes};
 ghost use Rattle.ts_disk.specs.Known.{IsOf, Knows};
 
-use crate::fault::{DiskFault, failed, own_failed, unread};
+use crate::fault::{DiskFault, failed, own_failed, unread, unusable};
+use crate::lock::is_at;
 use crate::modes::PRIVATE_FILE;
-use crate::place::{Standing, flush_at, kind_at, remove_file_at, settle_new};
+use crate::place::{Home, Standing, check_home, flush_at, kind_at, remove_file_at, settle_new};
 use std::alloc::{AllocError, Global};
 use std::fs::{File, Files, OpenFile, OpenOptions};
 use std::io::{BufReader, ErrorKind, Read, Seek, SeekFrom, Write};
@@ -216,7 +217,9 @@ fn known_in<F: Read + Drop>(alloc: Global, file: F) -> Result<Option<KnownArchiv
         };
         if number == 0 && line == OLDER {
             known.is_older = true;
-        } else if let Some(pair) = pair_in(line) {
+        } else if let Some(pair) = pair_in(line)
+            && known.pairs.len() < MOST_PAIRS
+        {
             known.pairs.push(pair)?;
         } else {
             return Ok(None);
@@ -241,36 +244,84 @@ fn pair_in(line: &[u8]) -> Option<PairArchive> {
     }
 }
 
-/// Notes in a replica's own directory that the archive with the digest `last` is to take the place of the one before. That has reached
-/// the device when the call ends. Nothing is written where nothing changes by it.
-pub(crate) fn note_archive<R: Files>(
+/// Notes in a replica that the archive with the digest `last` is to take the place of the one before. That has reached the device when
+/// the call ends. Nothing is written where nothing changes by it. It fails where the program's own directory isn't the one that was
+/// locked: an older copy that lies below a disk which was unmounted must not learn of the archive.
+pub(crate) fn note_archive<R: Files<File = File>>(
     files: &R,
     alloc: Global,
-    own: &str,
-    took_part: bool,
+    own: &OwnPlace<'_>,
     before: Option<ArchiveDigest>,
     last: ArchiveDigest,
 ) -> Result<(), DiskFault> {
-    let mut known = read_known(files, alloc, own, took_part)?;
+    own.check(files)?;
+    let mut known = read_known(files, alloc, own.place, own.took_part)?;
     if !known.note(before, last)? {
-        return Ok(());
+        return own.check(files);
     }
     let text = known.text(alloc)?;
-    let place = known_place(alloc, own)?;
-    let new = format!(in alloc; "{own}/{NEW_NAME}")?;
+    let place = known_place(alloc, own.place)?;
+    let new = format!(in alloc; "{}/{NEW_NAME}", own.place)?;
     remove_file_at(files, new.as_str()).map_err(failed)?;
-    let written = write_known(files, new.as_str(), text.as_slice()).map_err(failed);
+    let file = make_new(files, new.as_str())?;
+    let written = write_known(files, &file, own, new.as_str(), text.as_slice());
     settle_new(files, new.as_str(), place.as_str(), written)?;
-    flush_at(files, own).map_err(failed)
+    flush_at(files, own.place).map_err(failed)?;
+    own.check_file(files, &file, place.as_str())
 }
 
-/// Writes a file where nothing is, and waits until it has reached the device.
-fn write_known<R: Files>(files: &R, new: &str, text: &[u8]) -> io::Result<()> {
+/// Makes a file where nothing is, for its owner alone.
+fn make_new<R: Files<File = File>>(files: &R, new: &str) -> Result<File, DiskFault> {
     let mut options = OpenOptions::new();
     options.write(true).create_new(true).mode(PRIVATE_FILE);
-    let mut file = options.open(files, new)?;
-    file.write_all(text)?;
-    file.sync_all()
+    options.open(files, new).map_err(failed)
+}
+
+/// Writes the text to a file that was made at a place, where that is in the directory that was locked, and waits until it has reached
+/// the device.
+fn write_known<R: Files<File = File>>(
+    files: &R,
+    file: &File,
+    own: &OwnPlace<'_>,
+    new: &str,
+    text: &[u8],
+) -> Result<(), DiskFault> {
+    own.check_file(files, file, new)?;
+    let mut out = file;
+    out.write_all(text).map_err(failed)?;
+    file.sync_all().map_err(failed)
+}
+
+/// The program's own directory in a locked replica.
+#[derive(Clone, Copy)]
+pub(crate) struct OwnPlace<'a> {
+    pub place: &'a str,
+    /// Which directory it was, as the replica was locked.
+    pub home: Home,
+    /// Whether the replica took part in a run before.
+    pub took_part: bool,
+}
+
+impl OwnPlace<'_> {
+    /// Fails where another directory stands there, or none.
+    fn check<R: Files>(&self, files: &R) -> Result<(), DiskFault> {
+        check_home(files, self.place, Some(self.home)).map_err(failed)
+    }
+
+    /// The same, and where an open file isn't the one at a place in it. The file was made there: so it is in that directory.
+    fn check_file<R: Files<File = File>>(
+        &self,
+        files: &R,
+        file: &File,
+        place: &str,
+    ) -> Result<(), DiskFault> {
+        self.check(files)?;
+        if is_at(files, file, place).map_err(failed)? {
+            Ok(())
+        } else {
+            Err(unusable())
+        }
+    }
 }
 
 /// The digest of the archive at a place. None where nothing is there, or no archive: what is wrong with it is found out where it is

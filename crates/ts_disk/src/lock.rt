@@ -6,11 +6,10 @@ ghost use Rattle.ts_disk.specs.Known.{Knows};
 
 use crate::archive::ArchivePlace;
 use crate::fault::{DiskFault, failed, own_failed};
-use crate::known::{ArchiveDigest, KnownArchives, note_archive, read_known};
+use crate::known::{ArchiveDigest, KnownArchives, OwnPlace, note_archive, read_known};
 use crate::modes::PRIVATE_FILE;
 use crate::place::{
-    Home, Standing, check_home, close_own, is_same, look_at, make_own, mark_used, metadata_at,
-    own_place,
+    Home, Standing, close_own, is_same, look_at, make_own, mark_used, metadata_at, own_place,
 };
 use crate::plan_file::holds_plan;
 use std::alloc::Global;
@@ -77,16 +76,19 @@ impl Lock {
     }
 
     /// Notes in the replica that the archive with the digest `last` is to take the place of the one before, where it is still there.
-    pub(crate) fn note_archive<R: Files>(
+    pub(crate) fn note_archive<R: Files<File = File>>(
         &self,
         files: &R,
         alloc: Global,
         before: Option<ArchiveDigest>,
         last: ArchiveDigest,
     ) -> Result<(), DiskFault> {
-        let own = self.own.as_str();
-        check_home(files, own, Some(self.home)).map_err(failed)?;
-        note_archive(files, alloc, own, self.took_part, before, last)
+        let own = OwnPlace {
+            place: self.own.as_str(),
+            home: self.home,
+            took_part: self.took_part,
+        };
+        note_archive(files, alloc, &own, before, last)
     }
 
     /// Notes that the replica takes part in this run.
