@@ -6,13 +6,14 @@
 --     range bytes offset n       the bytes from the offset on, n of them, or fewer where they end before
 --     Reads x offset n bytes     these are so many bytes of the file x
 --     Fills x offset buffer n    the buffer begins with n bytes of the file x, as many as fit
+--     IsMissing told p           where the tree is told, nothing is at the path
 --     MayAnswer lets missing     which faults a call may answer
-use Rattle.std.specs.Prelude.{◌≡◌, ◌≢◌, ℕ, List, [], ◌∷◌, ◌++◌, ◌↔◌, length, take, drop, Contains}
+use Rattle.std.specs.Prelude.{◌≡◌, ◌≢◌, ℕ, List, [], ◌∷◌, ◌++◌, ◌↔◌, length, take, drop, Contains, Option, IfSome}
 use Rattle.std.specs.declared.cmp.Ordering.TheVariants.{Less}
 use Rattle.std.specs.Cmp.Lexicographic.{slice_cmp}
 use Rattle.std.specs.Ordering.{nat_cmp}
 use Rattle.ts_name.specs.Paths.{Name, Path}
-use Rattle.ts_model.specs.Trees.{Tree}
+use Rattle.ts_model.specs.Trees.{Listing, Tree, at}
 use Rattle.ts_model.specs.declared.row.Content.{Content}
 use Rattle.ts_model.specs.declared.row.Content.TheVariants.{Absent, Dir, File}
 use Rattle.ts_folder.specs.declared.fault.FolderFault.{FolderFault}
@@ -54,6 +55,9 @@ pub record Reads (x : Content (List ℕ)) (offset n : ℕ) (answer : List ℕ) :
 
 abbrev pub Fills : Content (List ℕ) → ℕ → List ℕ → ℕ → Type 0
 Fills x offset buffer n = Reads x offset (length buffer) (take n buffer)
+
+abbrev pub IsMissing : Option (Listing (List ℕ)) → Path → Type 0
+IsMissing told p = IfSome told (λ rows. at rows p ≡ Absent)
 
 -- out of memory at any time, the folder's own troubles where it lets them, and that nothing is there for a reason
 abbrev pub MayAnswer : (Trouble → Type 0) → Type 0 → FolderFault → Type 0

@@ -1,7 +1,7 @@
 //! What a folder is.
-ghost use Rattle.std.specs.Prelude.{◌≡◌, ◌≢◌, ◌+◌, ◌-◌, ◌≤◌, ◌↔◌, ◌∷◌, ◌++◌, [], ℕ, List, Option, length, take, drop, vec_len};
+ghost use Rattle.std.specs.Prelude.{◌≡◌, ◌≢◌, ◌+◌, ◌≤◌, ◌↔◌, ◌∷◌, ◌++◌, [], ℕ, List, Option, length, take, drop, vec_len};
 ghost use Rattle.std.specs.Prelude.{IfErr, IfOk, IfSome, IsTrue, OnOk};
-ghost use Rattle.ts_folder.specs.Folders.{AreChildren, Fills, InOrder, IsFile, MayAnswer, Reads};
+ghost use Rattle.ts_folder.specs.Folders.{AreChildren, Fills, InOrder, IsFile, IsMissing, MayAnswer, Reads};
 ghost use Rattle.ts_folder.specs.declared.fault.Trouble.{Trouble};
 ghost use Rattle.ts_folder.specs.declared.folder.Call.{Call};
 ghost use Rattle.ts_model.specs.Texts.{IsTreeBody};
@@ -67,7 +67,7 @@ pub trait Folder: Sync {
         ensures told { IfSome (tells self.now) (λ rows. IfOk result (λ is. IsTrue is ↔ (at rows path.now ≡ Dir))) }
         ensures there { IfSome (tells self.now) (λ rows. IfOk result (λ _. at rows path.now ≢ Absent)) }
         ensures fault { (p : List (List ℕ)) (name : List ℕ) → path.now ≡ p ++ name ∷ []
-            → IfErr result (MayAnswer (lets self.now Call.List p) (IfSome (tells self.now) (λ rows. at rows path.now ≡ Absent))) };
+            → IfErr result (MayAnswer (lets self.now Call.List p) (IsMissing (tells self.now) path.now)) };
 
     /// Opens the file at a path.
     fn open_file(&self, alloc: Global, path: &Path) -> Result<Self::File, FolderFault>
@@ -138,23 +138,23 @@ fn make_room(bytes: &mut Vec<u8>, count: usize) -> Result<(), AllocError>
     Ok(())
 }
 
-/// Fills what is behind the first `start` bytes, as `Folder::fill` does.
+/// Fills what is behind the first `from` bytes, as `Folder::fill` does.
 fn fill_behind<F: Folder>(
     folder: &F,
     file: &mut F::File,
     offset: u64,
     bytes: &mut Vec<u8>,
-    start: usize,
+    from: usize,
 ) -> Result<usize, FolderFault>
-    requires { start ≤ vec_len bytes.old }
+    requires { from ≤ vec_len bytes.old }
     ensures len { vec_len bytes.new ≡ vec_len bytes.old }
-    ensures before { take start bytes.new.items ≡ take start bytes.old.items }
-    ensures bound { IfOk result (λ n. start + n ≤ vec_len bytes.old) }
+    ensures before { take from bytes.new.items ≡ take from bytes.old.items }
+    ensures bound { IfOk result (λ n. from + n ≤ vec_len bytes.old) }
     ensures told { (p : List (List ℕ)) → F.is_open folder.now file.old p
-        → IfSome (F.tells folder.now) (λ rows. IfOk result (λ n. Reads (at rows p) offset (vec_len bytes.old - start) (take n (drop start bytes.new.items)))) }
+        → IfSome (F.tells folder.now) (λ rows. IfOk result (Fills (at rows p) offset (drop from bytes.new.items))) }
     ensures fault { (p : List (List ℕ)) → F.is_open folder.now file.old p → IfErr result (MayAnswer (F.lets folder.now Call.Read p) ⊥) }
     ensures opened { (p : List (List ℕ)) → F.is_open folder.now file.old p → F.is_open folder.now file.new p }
 {
     let all = bytes.as_mut_slice();
-    folder.fill(file, offset, &mut all[start..])
+    folder.fill(file, offset, &mut all[from..])
 }

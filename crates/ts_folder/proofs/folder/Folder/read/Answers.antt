@@ -1,4 +1,5 @@
-use Rattle.std.proofs.Common.{◌≡◌, length, IfSome, ◌-◌, sym, subst, take, drop, vec_len, arith}
+use Rattle.std.proofs.Common.{◌≡◌, length, IfSome, ◌-◌, sym, subst, take, drop, arith}
+use Rattle.std.proofs.lemmas.List.{length-drop}
 use Rattle.ts_folder.specs.Folders.{Reads}
 use Rattle.ts_model.specs.Trees.{at}
 use Rattle.ts_folder.proofs.Ranges.{IsStep, step_reads, step_ends, ends_there}
@@ -27,7 +28,7 @@ loop-bytes-preserved g c =
       within = omega (arith, c.in_ok-count.ensures.bound, c.in_ok-make_room.ensures.len);
       cut_is = c.truncate.ensures.items;
     } in
-    let piece = subst (λ m. IfSome (g.Self.Folder.tells c.args.self.now) (λ rows. Reads (at rows c.args.path.now) c.in-Some.at m (take n (drop start new)))) (let e : vec_len c.make_room.new.bytes - start ≡ room = omega (arith, c.in_ok-make_room.ensures.len) in e) (c.in_ok-count.ensures.told c.args.path.now c.loop-bytes.invariant.0) in
+    let piece = subst (λ m. IfSome (g.Self.Folder.tells c.args.self.now) (λ rows. Reads (at rows c.args.path.now) c.in-Some.at m (take n (drop start new)))) (let e : length (drop start new) ≡ room = omega (arith, length-drop start new, step.size) in e) (c.in_ok-count.ensures.told c.args.path.now c.loop-bytes.invariant.0) in
     (c.in_ok-count.ensures.opened c.args.path.now c.loop-bytes.invariant.0, omega (arith, c.truncate.ensures.len, c.truncate.new.self.ok.0, step.within, c.min-room.ensures, c.loop-bytes-test.true, c.len.ensures, c.len-start.ensures), step_reads (g.Self.Folder.tells c.args.self.now) c.args.path.now c.args.offset c.in-Some.at start room n old made new cut step c.loop-bytes.invariant.2 piece)
 
 pub returns-then-count-room-clause-told : goal.returns-then-count-room-clause-told
@@ -48,5 +49,5 @@ returns-then-count-room-clause-told g c =
       within = omega (arith, c.in_ok-count.ensures.bound, c.in_ok-make_room.ensures.len);
       cut_is = c.truncate.ensures.items;
     } in
-    let piece = subst (λ m. IfSome (g.Self.Folder.tells c.args.self.now) (λ rows. Reads (at rows c.args.path.now) c.in-Some.at m (take n (drop start new)))) (let e : vec_len c.make_room.new.bytes - start ≡ room = omega (arith, c.in_ok-make_room.ensures.len) in e) (c.in_ok-count.ensures.told c.args.path.now c.loop-bytes.invariant.0) in
+    let piece = subst (λ m. IfSome (g.Self.Folder.tells c.args.self.now) (λ rows. Reads (at rows c.args.path.now) c.in-Some.at m (take n (drop start new)))) (let e : length (drop start new) ≡ room = omega (arith, length-drop start new, step.size) in e) (c.in_ok-count.ensures.told c.args.path.now c.loop-bytes.invariant.0) in
     step_ends (g.Self.Folder.tells c.args.self.now) c.args.path.now c.args.offset c.in-Some.at start room n c.args.len old made new cut step c.if-count-room.true (omega (arith, c.min-room.ensures, c.loop-bytes-test.true, c.len.ensures, c.len-start.ensures)) c.loop-bytes.invariant.2 piece
