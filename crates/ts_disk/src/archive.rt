@@ -7,11 +7,11 @@ use crate::fault::{DiskFault, failed, unusable, unwritten};
 use crate::known::{ArchiveDigest, digest_at, digest_in};
 use crate::lock::{Lock, is_at, lock_file};
 use crate::modes::{PRIVATE_FILE, permissions};
-use crate::place::{Standing, flush_at, kind_at};
+use crate::place::{Standing, create_file, flush_at, kind_at};
 use std::alloc::Global;
 use std::fs::{File, Files, OpenOptions, Permissions};
 use std::io::{BufWriter, ErrorKind, Read, Seek, Write};
-use std::os::unix::fs::{OpenOptionsExt, PermissionsExt};
+use std::os::unix::fs::PermissionsExt;
 use std::{fs, io};
 use ts_archive::ArchiveFault;
 use ts_cause::Cause;
@@ -344,25 +344,14 @@ fn make_new<R: Files<File = File> + AllocGlobal>(
     Ok(file)
 }
 
-/// Makes a file that others may not read, where nothing is.
-fn make_file<R: Files<File = File>>(files: &R, new: &str) -> Result<File, DiskFault> {
-    let mut options = OpenOptions::new();
-    options
-        .read(true)
-        .write(true)
-        .create_new(true)
-        .mode(PRIVATE_FILE);
-    match options.open(files, new) {
-        Ok(file) => Ok(file),
-        // another run has made it since it was looked for
-        Err(e) if e.kind() == ErrorKind::AlreadyExists => Err(DiskFault::Locked),
-        Err(e) => Err(failed(e)),
-    }
-}
-
 /// Makes a file that others may not read, where nothing is, and locks it.
 fn make_locked<R: Files<File = File>>(files: &R, new: &str) -> Result<File, DiskFault> {
-    let file = make_file(files, new)?;
+    let file = match create_file(files, new) {
+        Ok(file) => file,
+        // another run has made it since it was looked for
+        Err(e) if e.kind() == ErrorKind::AlreadyExists => return Err(DiskFault::Locked),
+        Err(e) => return Err(failed(e)),
+    };
     lock_file(&file)?;
     match is_at(files, &file, new) {
         Ok(true) => Ok(file),

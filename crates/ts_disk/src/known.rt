@@ -8,12 +8,12 @@ ghost use Rattle.ts_disk.specs.Known.{IsOf, Knows};
 
 use crate::fault::{DiskFault, failed, own_failed, unread, unusable};
 use crate::lock::is_at;
-use crate::modes::PRIVATE_FILE;
-use crate::place::{Home, Standing, check_home, flush_at, kind_at, remove_file_at, settle_new};
+use crate::place::{
+    Home, Standing, check_home, create_file, flush_at, kind_at, remove_file_at, settle_new,
+};
 use std::alloc::{AllocError, Global};
-use std::fs::{File, Files, OpenFile, OpenOptions};
+use std::fs::{File, Files, OpenFile};
 use std::io::{BufReader, ErrorKind, Read, Seek, SeekFrom, Write};
-use std::os::unix::fs::OpenOptionsExt;
 use std::{fs, io};
 use ts_cause::Cause;
 use ts_text::{Counted, Lines, TextFault, field_digest, push_digest, split_word};
@@ -263,18 +263,11 @@ pub(crate) fn note_archive<R: Files<File = File>>(
     let place = known_place(alloc, own.place)?;
     let new = format!(in alloc; "{}/{NEW_NAME}", own.place)?;
     remove_file_at(files, new.as_str()).map_err(failed)?;
-    let file = make_new(files, new.as_str())?;
+    let file = create_file(files, new.as_str()).map_err(failed)?;
     let written = write_known(files, &file, own, new.as_str(), text.as_slice());
     settle_new(files, new.as_str(), place.as_str(), written)?;
     flush_at(files, own.place).map_err(failed)?;
     own.check_file(files, &file, place.as_str())
-}
-
-/// Makes a file where nothing is, for its owner alone.
-fn make_new<R: Files<File = File>>(files: &R, new: &str) -> Result<File, DiskFault> {
-    let mut options = OpenOptions::new();
-    options.write(true).create_new(true).mode(PRIVATE_FILE);
-    options.open(files, new).map_err(failed)
 }
 
 /// Writes the text to a file that was made at a place, where that is in the directory that was locked, and waits until it has reached

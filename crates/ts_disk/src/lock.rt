@@ -7,15 +7,15 @@ ghost use Rattle.ts_disk.specs.Known.{Knows};
 use crate::archive::ArchivePlace;
 use crate::fault::{DiskFault, failed, own_failed};
 use crate::known::{ArchiveDigest, KnownArchives, OwnPlace, note_archive, read_known};
-use crate::modes::PRIVATE_FILE;
 use crate::place::{
-    Home, Standing, close_own, is_same, look_at, make_own, mark_used, metadata_at, own_place,
+    Home, Standing, close_own, create_file, is_same, look_at, make_own, mark_used, metadata_at,
+    own_place,
 };
 use crate::plan_file::holds_plan;
 use std::alloc::Global;
 use std::fs::{File, Files, Metadata, OpenOptions, TryLockError};
 use std::io::ErrorKind;
-use std::os::unix::fs::{MetadataExt, OpenOptionsExt};
+use std::os::unix::fs::MetadataExt;
 use std::{fs, io};
 use ts_cause::{Cause, cause_of};
 
@@ -251,9 +251,7 @@ fn make_lock_file<R: Files<File = File>>(
     files: &R,
     place: &str,
 ) -> Result<Option<File>, DiskFault> {
-    let mut options = OpenOptions::new();
-    options.write(true).create_new(true).mode(PRIVATE_FILE);
-    match options.open(files, place) {
+    match create_file(files, place) {
         Ok(file) => {
             hold(files, &file, place)?;
             Ok(Some(file))

@@ -5,11 +5,11 @@ ghost use Rattle.std.specs.Fs.{IsDir, IsFile};
 ghost use Rattle.std.specs.String.{string_bytes};
 
 use crate::fault::{DiskFault, failed};
-use crate::modes::PRIVATE_DIR;
+use crate::modes::{PRIVATE_DIR, PRIVATE_FILE};
 use std::alloc::{AllocError, Global};
-use std::fs::{DirBuilder, FileType, Files, Metadata, Permissions};
+use std::fs::{DirBuilder, FileType, Files, Metadata, OpenOptions, Permissions};
 use std::io::ErrorKind;
-use std::os::unix::fs::{DirBuilderExt, MetadataExt, PermissionsExt};
+use std::os::unix::fs::{DirBuilderExt, MetadataExt, OpenOptionsExt, PermissionsExt};
 use std::{fs, io};
 
 /// The bits of a mode by which others than the owner may use a file.
@@ -30,6 +30,17 @@ pub(crate) fn stage_place(alloc: Global, own: &str, entry: u32) -> Result<String
     ensures { IfOk result (λ place. string_bytes place ≡ own.now ++ codes "/stage-" ++ decimal entry) }
 {
     format!(in alloc; "{own}/stage-{entry}")
+}
+
+/// Makes a file where nothing is, which nobody else may read, and opens it to be read and written.
+pub(crate) fn create_file<R: Files>(files: &R, place: &str) -> io::Result<R::File> {
+    let mut options = OpenOptions::new();
+    options
+        .read(true)
+        .write(true)
+        .create_new(true)
+        .mode(PRIVATE_FILE);
+    options.open(files, place)
 }
 
 /// What stands at a place.

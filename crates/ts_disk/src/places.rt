@@ -9,17 +9,16 @@ ghost use Rattle.ts_swap.specs.Leavings.{Counts};
 
 use crate::fault::DiskFault;
 use crate::leftover::{Aside, is_of_others, move_to_free, remove_at};
-use crate::modes::{PRIVATE_FILE, keep_bits};
+use crate::modes::keep_bits;
 use crate::names::{KEPT, MADE};
 use crate::place::{
-    Home, Standing, are_one, check_home, is_same, kind_at, look_at, metadata_at, own_place,
-    stage_place,
+    Home, Standing, are_one, check_home, create_file, is_same, kind_at, look_at, metadata_at,
+    own_place, stage_place,
 };
 use crate::staging::{Bits, write_tree};
 use std::alloc::Global;
-use std::fs::{Files, Metadata, OpenOptions};
+use std::fs::{Files, Metadata};
 use std::io::ErrorKind;
-use std::os::unix::fs::OpenOptionsExt;
 use std::{fs, io};
 use ts_cause::{Cause, cause_of};
 use ts_model::items::Items;
@@ -230,9 +229,7 @@ impl<R: Files + AllocGlobal + Clone + Drop> DiskPlaces<R> {
     /// Puts an empty file at the new spot, where nothing stands. As long as it is there, recovery takes what lies aside for
     /// something that has to go back.
     pub(crate) fn mark(&self) -> io::Result<()> {
-        let mut options = OpenOptions::new();
-        options.write(true).create_new(true).mode(PRIVATE_FILE);
-        let _mark = options.open(&self.files, self.place(Spot::New))?;
+        let _mark = create_file(&self.files, self.place(Spot::New))?;
         Ok(())
     }
 

@@ -4,13 +4,13 @@ ghost use Rattle.std.specs.String.{string_bytes};
 ghost use Rattle.ts_model.specs.Texts.{IsPlan};
 
 use crate::fault::{DiskFault, failed, own_failed, unusable, unwritten};
-use crate::modes::PRIVATE_FILE;
-use crate::place::{Standing, flush_at, kind_at, own_place, remove_file_at, settle_new};
+use crate::place::{
+    Standing, create_file, flush_at, kind_at, own_place, remove_file_at, settle_new,
+};
 use std::alloc::{AllocError, Global};
 use std::fs;
-use std::fs::{Files, OpenFile, OpenOptions};
+use std::fs::{Files, OpenFile};
 use std::io::{BufReader, BufWriter, Read, Write};
-use std::os::unix::fs::OpenOptionsExt;
 use ts_model::plan::Plan;
 use ts_plan::PlanFault;
 use ts_text::{Counted, Lines, Source};
@@ -73,9 +73,7 @@ pub(crate) fn holds_plan<R: Files>(
 fn write_plan<R: Files>(files: &R, alloc: Global, place: &str, plan: &Plan) -> Result<(), DiskFault>
     requires { IsPlan plan.now }
 {
-    let mut options = OpenOptions::new();
-    options.write(true).create_new(true).mode(PRIVATE_FILE);
-    let file = options.open(files, place).map_err(failed)?;
+    let file = create_file(files, place).map_err(failed)?;
     write_text::<R>(alloc, file, plan)
 }
 

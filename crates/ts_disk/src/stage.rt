@@ -16,13 +16,14 @@ use crate::leftover::remove_at;
 use crate::lock::LockedRoot;
 use crate::modes::{PRIVATE_FILE, permissions};
 use crate::place::{
-    Home, Standing, check_home, kind_at, make_missing_dir, metadata_at, own_place, stage_place,
+    Home, Standing, check_home, create_file, kind_at, make_missing_dir, metadata_at, own_place,
+    stage_place,
 };
 use std::alloc::{AllocError, Global};
 use std::fs::{File, Files, OpenOptions, Permissions};
 use std::io;
 use std::io::ErrorKind;
-use std::os::unix::fs::{FileExt, OpenOptionsExt, PermissionsExt};
+use std::os::unix::fs::{FileExt, PermissionsExt};
 use std::sync::atomic::{AtomicU32, Ordering};
 use std::time::Clock;
 use ts_cause::{Cause, cause_of};
@@ -246,8 +247,8 @@ impl<R: Drop> DiskStage<R> {
         entry: &Entry,
         path: &Path,
     ) -> Result<Option<SourceFile>, AllocError>
-        ensures source { IfOk result (λ found. IfSome found (λ file.
-            IsSourceOf entry.now (string_bytes self.now.first) (string_bytes self.now.second) path.now (string_bytes file.place))) }
+        ensures source { IfOk result (λ found. IfSome found (λ it.
+            IsSourceOf entry.now (string_bytes self.now.first) (string_bytes self.now.second) path.now (string_bytes it.place))) }
         ensures top { IfOk result (λ found. IfSome found (λ file. IsTrue file.is_top ↔ (path.now ≡ entry.now.path))) }
         ensures none { IfOk result (λ found. IfNone found (source entry.now.reason ≡ None)) }
     {
@@ -452,21 +453,10 @@ fn open_stored<R: Files<File = File>>(files: &R, place: &StagePlace) -> io::Resu
 
 /// Opens a new file, or the one that is there.
 fn open_or_make<R: Files<File = File>>(files: &R, place: &str) -> io::Result<File> {
-    match open_new(files, place) {
+    match create_file(files, place) {
         Err(e) if e.kind() == ErrorKind::AlreadyExists => open_there(files, place),
         opened => opened,
     }
-}
-
-/// Opens a new file.
-fn open_new<R: Files<File = File>>(files: &R, place: &str) -> io::Result<File> {
-    let mut options = OpenOptions::new();
-    options
-        .read(true)
-        .write(true)
-        .create_new(true)
-        .mode(PRIVATE_FILE);
-    options.open(files, place)
 }
 
 /// Opens a file that is there.

@@ -6,10 +6,10 @@ ghost use Rattle.ts_name.specs.Paths.{place_text};
 
 use crate::flushing::flush_if_changed;
 use crate::modes::{PRIVATE_DIR, PRIVATE_FILE, permissions_at};
-use crate::place::{Standing, make_missing_dir, make_private_dir, metadata_at};
-use std::fs::{Files, OpenFile, OpenOptions, Permissions};
+use crate::place::{Standing, create_file, make_missing_dir, make_private_dir, metadata_at};
+use std::fs::{Files, OpenFile, Permissions};
 use std::io::{ErrorKind, Read, Write};
-use std::os::unix::fs::{OpenOptionsExt, PermissionsExt};
+use std::os::unix::fs::PermissionsExt;
 use std::{fs, io};
 use ts_folder::Names;
 use ts_model::items::Items;
@@ -374,9 +374,7 @@ fn below<R: AllocGlobal, T>(files: &R, row: &Row<T>, top: &str) -> io::Result<St
 
 /// Writes a file where nothing is, for the owner alone, and waits until it has reached the device.
 fn write_file<R: Files>(files: &R, place: &str, bytes: &[u8]) -> io::Result<()> {
-    let mut options = OpenOptions::new();
-    options.write(true).create_new(true).mode(PRIVATE_FILE);
-    let mut file = options.open(files, place)?;
+    let mut file = create_file(files, place)?;
     file.write_all(bytes)?;
     file.sync_all()
 }
