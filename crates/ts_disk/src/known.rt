@@ -2,9 +2,9 @@
 //!
 //! An archive is known by the digest in its own last line. A folder that isn't the one that an archive is about, as an older copy that
 //! lies below a mount, doesn't know it as it is now, though it may have a `.twosync` of its own.
-ghost use Rattle.std.specs.Prelude.{◌≡◌, ◌++◌, ◌<◌, ◌↔◌, length, Any, IfOk, IfSome, IsTrue, codes};
+ghost use Rattle.std.specs.Prelude.{◌≡◌, ◌++◌, ◌<◌, ◌↔◌, length, slice_get, Any, IfNone, IfOk, IfSome, IsTrue, codes};
 ghost use Rattle.std.specs.String.{string_bytes};
-ghost use Rattle.ts_disk.specs.Known.{IsOf, Knows};
+ghost use Rattle.ts_disk.specs.Known.{IsOf, KeepsOthers, Knows};
 
 use crate::fault::{DiskFault, failed, own_failed, unread, unusable};
 use crate::lock::is_at;
@@ -51,13 +51,20 @@ impl PairArchive {
         PairArchive { before, last }
     }
 
+    /// Whether the last archive that was to be written is the one with this digest.
+    fn is_last(&self, digest: &ArchiveDigest) -> bool
+        ensures { IsTrue result ↔ (self.now.last ≡ digest.now) }
+    {
+        self.last == *digest
+    }
+
     /// Whether the pair's archive may be the one with this digest.
     fn is_of(&self, digest: &ArchiveDigest) -> bool
         ensures { IsTrue result ↔ IsOf self.now digest.now }
     {
         match &self.before {
-            Some(before) => self.last == *digest || *before == *digest,
-            None => self.last == *digest,
+            Some(before) => self.is_last(digest) || *before == *digest,
+            None => self.is_last(digest),
         }
     }
 }
@@ -106,7 +113,7 @@ impl KnownArchives {
     }
 
     /// Notes the archive that is to take the place of the one before. Answers whether that changes anything. Whichever of the two is
-    /// left by a run that is stopped then, the replica knows it.
+    /// left by a run that is stopped then, the replica knows it. It remembers all other pairs as before, but of 64 it forgets the first.
     fn note(
         &mut self,
         before: Option<ArchiveDigest>,
@@ -114,6 +121,8 @@ impl KnownArchives {
     ) -> Result<bool, AllocError>
         ensures last { IfOk result (λ _. Knows self.new last) }
         ensures before { IfOk result (λ _. IfSome before (Knows self.new)) }
+        ensures others { IfOk result (λ _. KeepsOthers self.old before self.new) }
+        ensures older { IfOk result (λ _. self.new.is_older ≡ self.old.is_older) }
     {
         if self.is_noted(&before, &last) {
             return Ok(false);
@@ -134,13 +143,22 @@ impl KnownArchives {
     /// Which pair's archive has this digest, if there is one: rather the last one of a pair than the one before, which is there only
     /// where a run was stopped. Another pair may have had the same archive before.
     fn pair_of(&self, digest: Option<ArchiveDigest>) -> Option<usize>
-        ensures { IfSome result (λ at. at < length self.now.pairs.items) }
+        ensures there { IfSome result (λ at. at < length self.now.pairs.items) }
+        ensures of { IfSome result (λ at. IfSome digest (λ d. IfSome (slice_get self.now.pairs.items at) (λ pair. IsOf pair d))) }
+        ensures some { IfNone digest (IfSome result (λ _. ⊥)) }
     {
         let digest = digest?;
-        match self.pairs.iter().position(|pair| pair.last == digest) {
-            Some(at) => Some(at),
-            None => self.pairs.iter().position(|pair| pair.is_of(&digest)),
+        for (at, pair) in self.pairs.iter().enumerate() {
+            if pair.is_last(&digest) {
+                return Some(at);
+            }
         }
+        for (at, pair) in self.pairs.iter().enumerate() {
+            if pair.is_of(&digest) {
+                return Some(at);
+            }
+        }
+        None
     }
 
     /// The text of the file.
