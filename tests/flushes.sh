@@ -354,4 +354,40 @@ done
 unflushed 'the folder that a source stands in' EIO first/d 2 "$both" 'twosync: fault 5'
 holds_true 'the folder that a source stands in: the archive' test "$("$program" show archive)" = 'd /d'
 
+# A file that hasn't changed for a day isn't flushed again: the system has long written it. When a file was changed can't be set but on a
+# disk that isn't mounted, so both replicas are made on one: in each `/d/old` and `/old` were changed in 2020, and the rest just now.
+trap 'umount disk 2>/dev/null; leave' EXIT
+# aged_disk: makes that disk, and mounts it
+aged_disk() {
+  local replica path
+  fresh
+  command -v mke2fs >/dev/null && command -v debugfs >/dev/null || return
+  for replica in first second; do
+    mkdir -p "made/$replica/d" "made/$replica/e"
+    for path in d/old old e/new new; do printf '%s' "$path" >"made/$replica/$path"; done
+  done
+  mke2fs -q -F -t ext4 -d made disk.image 8M >/dev/null 2>&1 || return
+  for replica in first second; do
+    for path in d/old old; do echo "set_inode_field /$replica/$path ctime 20200101000000"; done
+  done >aging
+  mkdir disk
+  debugfs -w -f aging disk.image >/dev/null 2>&1 && mount -o loop disk.image disk 2>/dev/null
+}
+six='total 6 done 6 skipped 0 failed 0 blocked 0'
+if aged_disk; then
+  holds_true 'old files: they are old' test "$(stat -c %z disk/first/old disk/second/d/old | cut -c1-4 | sort -u)" = 2020
+  strace -qq -f -y -e signal=none -e trace=fsync,fdatasync -o log "$program" sync disk/first disk/second archive --workers 1 >out 2>err
+  answered 'old files' 0 $'done dir /d\ndone same /d/old\ndone dir /e\ndone same /e/new\ndone same /new\ndone same /old\n'"$six" '' "$?"
+  holds_true 'old files: the archive names them' test "$("$program" show archive | grep -c old)" = 2
+  for place in first/d first/e first/e/new first/new second/d second/e second/e/new second/new; do
+    holds_true "old files: $place is flushed" grep -q "<[^>]*/disk/$place>" log
+  done
+  for place in first/d/old first/old second/d/old second/old; do
+    holds_true "old files: $place isn't flushed" test -z "$(grep "<[^>]*/disk/$place>" log)"
+  done
+  umount disk
+else
+  echo "skipped: no disk can be made and mounted here, so what is flushed of old files isn't looked at"
+fi
+
 ended flushes
