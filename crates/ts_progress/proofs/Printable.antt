@@ -7,7 +7,7 @@ use Rattle.std.proofs.lemmas.Bool.{and_parts, leb-true}
 use Rattle.std.proofs.lemmas.Fmt.{decimal_is_IsNumeral}
 use Rattle.std.proofs.lemmas.Str.Parse.{tells_digits}
 use Rattle.ts_name.proofs.Utf8.{all_append}
-use Rattle.ts_progress.specs.Lines.{IsPrintable, actions_text, all_actions_text, bytes_text, files_text, left_text, line_text, product, rate_text, run_text, scan_text, text_in}
+use Rattle.ts_progress.specs.Lines.{IsPrintable, actions_text, all_actions_text, all_paths_text, bytes_text, files_text, flush_text, left_text, line_text, product, rate_text, run_text, scan_text, text_in}
 use Rattle.ts_progress.specs.Numbers.{duration_text, grouped, millions, size_text, tenths_text, thousands, three}
 use Rattle.ts_progress.specs.declared.line.Amount.{Amount}
 use Rattle.ts_progress.specs.declared.line.Phase.TheVariants as phase
@@ -162,6 +162,12 @@ fine_actions done all small large =
     let second = behind (codes " of ") (grouped all) refl (fine_grouped all large) in
     row (codes "carrying out: " ++ grouped done) (all_actions_text all) first (with_word (codes " of " ++ grouped all) (codes " actions, ") second refl)
 
+fine_flushed : (done all : ℕ) → done < 2 ^ 64 → all < 2 ^ 64 → Fine (flush_text done all)
+fine_flushed done all small large =
+    let first = behind (codes "flushing: ") (grouped done) refl (fine_grouped done small) in
+    let second = behind (codes " of ") (grouped all) refl (fine_grouped all large) in
+    row (codes "flushing: " ++ grouped done) (all_paths_text all) first (with_word (codes " of " ++ grouped all) (codes " paths") second refl)
+
 fine_bytes : (done all : ℕ) → done < 2 ^ 64 → all < 2 ^ 64 → Fine (bytes_text done all)
 fine_bytes done all small large =
     row (size_text done ++ codes " of ") (size_text all) (with_word (size_text done) (codes " of ") (fine_size done small) refl) (fine_size all large)
@@ -179,6 +185,7 @@ pub fine_line :
 fine_line s steps bytes all_steps all_bytes = elim s.phase as (λ p. Fine (text_in p s)) [
   | phase.Scanning ↦ fine_scan s.done s.elapsed steps bytes
   | phase.Checking ↦ fine_from_test (codes "checking the plan") refl
+  | phase.Flushing ↦ fine_flushed s.done.steps s.expected.steps steps all_steps
   | phase.CarryingOut ↦ fine_run s.done s.expected s.elapsed steps bytes all_steps all_bytes
 ]
 

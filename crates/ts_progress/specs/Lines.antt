@@ -33,6 +33,12 @@ files_text n = grouped n ++ (if nat_lt 1 n then codes " files" else if nat_lt 0 
 abbrev pub scan_text : Amount → ℕ → List ℕ
 scan_text done ms = codes "scanning: " ++ files_text done.steps ++ codes ", " ++ size_text done.bytes ++ rate_text done.bytes ms
 
+abbrev pub all_paths_text : ℕ → List ℕ
+all_paths_text all = codes " of " ++ grouped all ++ codes " paths"
+
+abbrev pub flush_text : ℕ → ℕ → List ℕ
+flush_text done all = codes "flushing: " ++ grouped done ++ all_paths_text all
+
 abbrev pub all_actions_text : ℕ → List ℕ
 all_actions_text all = codes " of " ++ grouped all ++ codes " actions, "
 
@@ -49,6 +55,7 @@ run_text done all ms =
 abbrev pub text_in : Phase → Standing → List ℕ
 text_in phase.Scanning s = scan_text s.done s.elapsed
 text_in phase.Checking s = codes "checking the plan"
+text_in phase.Flushing s = flush_text s.done.steps s.expected.steps
 text_in phase.CarryingOut s = run_text s.done s.expected s.elapsed
 
 abbrev pub line_text : Standing → List ℕ

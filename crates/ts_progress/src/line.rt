@@ -1,7 +1,7 @@
 //! What the line says.
 ghost use Rattle.std.specs.Prelude.{◌≡◌, ◌<◌, ◌≤◌, ◌^◌, ◌++◌, IfOk, OnOk, length, take};
 ghost use Rattle.std.specs.List.{AllByRecursion};
-ghost use Rattle.ts_progress.specs.Lines.{IsPrintable, actions_text, all_actions_text, bytes_text, files_text, left_text, line_text, rate_text, run_text, scan_text, text_in};
+ghost use Rattle.ts_progress.specs.Lines.{IsPrintable, actions_text, all_actions_text, all_paths_text, bytes_text, files_text, flush_text, left_text, line_text, rate_text, run_text, scan_text, text_in};
 
 use crate::numbers::{push_duration, push_grouped, push_size};
 use std::alloc::{AllocError, Global};
@@ -13,11 +13,13 @@ pub enum Phase {
     Scanning,
     /// It checks a plan.
     Checking,
+    /// It waits until what both replicas have already has reached their devices.
+    Flushing,
     /// It carries a plan out.
     CarryingOut,
 }
 
-/// Files of a scan or actions of a plan, and the bytes that were read of files.
+/// Files of a scan, paths that are flushed, or actions of a plan; and the bytes that were read of files.
 #[derive(Clone, Copy, Debug, PartialEq, Eq, Drop)]
 pub struct Amount {
     pub steps: u64,
@@ -70,6 +72,7 @@ fn push_line(line: &mut Vec<u8>, standing: &Standing) -> Result<(), AllocError>
     match standing.phase {
         Phase::Scanning => push_scan(line, &standing.done, standing.elapsed),
         Phase::Checking => line.extend_from_slice(b"checking the plan"),
+        Phase::Flushing => push_flushed(line, standing.done.steps, standing.expected.steps),
         Phase::CarryingOut => push_run(line, &standing.done, &standing.expected, standing.elapsed),
     }
 }
@@ -97,6 +100,24 @@ fn push_files(line: &mut Vec<u8>, count: u64) -> Result<(), AllocError>
     } else {
         line.extend_from_slice(b" files")
     }
+}
+
+/// Appends how many paths are flushed, of how many.
+fn push_flushed(line: &mut Vec<u8>, done: u64, expected: u64) -> Result<(), AllocError>
+    ensures { OnOk result (line.new.items ≡ line.old.items ++ flush_text done expected) }
+{
+    line.extend_from_slice(b"flushing: ")?;
+    push_grouped(line, done)?;
+    push_all_paths(line, expected)
+}
+
+/// Appends of how many paths.
+fn push_all_paths(line: &mut Vec<u8>, expected: u64) -> Result<(), AllocError>
+    ensures { OnOk result (line.new.items ≡ line.old.items ++ all_paths_text expected) }
+{
+    line.extend_from_slice(b" of ")?;
+    push_grouped(line, expected)?;
+    line.extend_from_slice(b" paths")
 }
 
 /// Appends how far a run is.

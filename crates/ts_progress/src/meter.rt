@@ -106,6 +106,14 @@ impl<S: Screen + Clock> Meter<'_, S> {
         }
     }
 
+    /// So many more paths were flushed.
+    pub fn add_paths(&self, count: u64) {
+        if self.start.is_some() {
+            self.steps.fetch_add(count, Ordering::SeqCst);
+            self.look();
+        }
+    }
+
     /// So many more bytes were read.
     pub fn add_bytes(&self, count: u64) {
         if self.start.is_some() {
