@@ -24,6 +24,7 @@ CARRIED = re.compile(
     r"carrying out: ([\d,]+) of ([\d,]+) actions, ([\d.]+) (B|kB|MB|GB|TB) of ([\d.]+) (B|kB|MB|GB|TB)"
     r"(, [\d.]+ [kMGT]?B/s)?(, \d+ (s|min|h) left)?"
 )
+FLUSHED = re.compile(r"flushing: ([\d,]+) of ([\d,]+) paths")
 UNITS = {"B": 1, "kB": 10**3, "MB": 10**6, "GB": 10**9, "TB": 10**12}
 
 
@@ -57,6 +58,8 @@ def shape_of(line):
         return "checking", ()
     if found := SCANNED.fullmatch(line):
         return "scanning", (number(found[1]), float(found[2]) * UNITS[found[3]])
+    if (found := FLUSHED.fullmatch(line)) and number(found[1]) <= number(found[2]):
+        return "flushing", (number(found[1]), number(found[2]))
     if found := CARRIED.fullmatch(line):
         return "carrying out", (number(found[1]), float(found[3]) * UNITS[found[4]])
     return None
@@ -120,13 +123,26 @@ def make_folder(place, sizes):
             file.truncate(size)
 
 
-def fresh():
+def clear():
     for it in "first", "second":
         shutil.rmtree(it, ignore_errors=True)
     if os.path.exists("archive"):
         os.remove("archive")
-    make_folder("first", [(f"file {k}", 40_000_000) for k in range(6)] + [(f"small {k}", 7) for k in range(1200)])
+
+
+SIZES = [(f"file {k}", 40_000_000) for k in range(6)] + [(f"small {k}", 7) for k in range(1200)]
+
+
+def fresh():
+    clear()
+    make_folder("first", SIZES)
     os.mkdir("second")
+
+
+def fresh_alike():
+    clear()
+    for it in "first", "second":
+        make_folder(it, SIZES)
 
 
 def scans():
@@ -159,6 +175,10 @@ def on_pairs():
     hold("a run carries out", None if "carrying out" in look_at_lines("a run", got) else "no line says so")
     got = look_at_rest("a sync", ["sync", "first", "second", "archive", "--workers", "2"], fresh)
     hold("a sync carries out", None if "carrying out" in look_at_lines("a sync", got) else "no line says so")
+    got = look_at_rest("a sync of what is alike", ["sync", "first", "second", "archive", "--workers", "1"], fresh_alike)
+    flushes = [shape_of(it)[1] for it in drawn_in(got)[0] if shape_of(it) and shape_of(it)[0] == "flushing"]
+    look_at_lines("a sync of what is alike", got)
+    hold("a sync of what is alike flushes it", None if any(it[1] == 2 * len(SIZES) for it in flushes) else repr(flushes))
 
 
 def undrawn():

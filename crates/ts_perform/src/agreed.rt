@@ -12,6 +12,10 @@ use ts_check::Checked;
 use ts_model::plan::{Entry, Plan, Side, Treatment};
 use ts_name::Path;
 use ts_print::Print;
+use ts_progress::{Amount, Meter, Phase};
+
+/// How many paths are flushed before the line that counts them may be drawn anew.
+const FLUSHED_AT_ONCE: usize = 1_024;
 
 /// Waits until both replicas' devices have what these agree on already and the archive doesn't say yet, as far as it was changed
 /// lately. If power fails later, the next run would take what is gone for a deletion.
@@ -21,15 +25,68 @@ pub(crate) fn flush_agreed<R: Machine>(
 ) -> Result<(), PerformFault>
     ensures quiet { IfErr result IsQuiet }
 {
-    flush_side(task, checked.plan(), checked.first(), Side::First)?;
-    flush_side(task, checked.plan(), checked.second(), Side::Second)
+    flush_existing(task, checked)?;
+    let entries = entries_agreed(task.rt.alloc(), checked.plan())?;
+    flush_around(task, entries.as_slice(), Side::First)?;
+    flush_around(task, entries.as_slice(), Side::Second)
 }
 
-/// The same for one replica, which has this print.
-fn flush_side<R: Machine>(
+/// The same of what is there, counted meanwhile.
+fn flush_existing<R: Machine>(task: &Task<'_, R>, checked: &Checked<'_>) -> Result<(), PerformFault>
+    ensures quiet { IfErr result IsQuiet }
+{
+    let alloc = task.rt.alloc();
+    let first = paths_agreed(alloc, checked.plan(), checked.first())?;
+    let second = paths_agreed(alloc, checked.plan(), checked.second())?;
+    let count = (first.len() as u64).saturating_add(second.len() as u64);
+    if count == 0 {
+        return Ok(());
+    }
+    let expected = Amount {
+        steps: count,
+        bytes: 0,
+    };
+    let meter = task.progress.begin(Phase::Flushing, expected);
+    let flushed = match flush_counted(task, Side::First, first.as_slice(), &meter) {
+        Ok(()) => flush_counted(task, Side::Second, second.as_slice(), &meter),
+        Err(fault) => Err(fault),
+    };
+    meter.end();
+    flushed
+}
+
+/// Flushes so many paths of a replica at a time, and counts them.
+fn flush_counted<R: Machine>(
     task: &Task<'_, R>,
-    plan: &Plan,
-    print: &Print,
+    side: Side,
+    paths: &[&Path],
+    meter: &Meter<'_, R>,
+) -> Result<(), PerformFault>
+    ensures quiet { IfErr result IsQuiet }
+{
+    let Task {
+        rt,
+        pair,
+        workers,
+        ..
+    } = task;
+    let root = replica(*pair, side).root;
+    let failed = |fault| of_disk(fault, replica_on(side));
+    let mut start = 0;
+    while start < paths.len() {
+        let end = start.saturating_add(FLUSHED_AT_ONCE).min(paths.len());
+        rt.flush_paths(*rt, rt.alloc(), root, &paths[start..end], *workers)
+            .map_err(failed)?;
+        meter.add_paths((end - start) as u64);
+        start = end;
+    }
+    Ok(())
+}
+
+/// Flushes the directories of a replica in which the paths of these entries stand.
+fn flush_around<R: Machine>(
+    task: &Task<'_, R>,
+    entries: &[&Path],
     side: Side,
 ) -> Result<(), PerformFault>
     ensures quiet { IfErr result IsQuiet }
@@ -40,15 +97,9 @@ fn flush_side<R: Machine>(
         workers,
         ..
     } = task;
-    let alloc = rt.alloc();
     let root = replica(*pair, side).root;
-    let failed = |fault| of_disk(fault, replica_on(side));
-    let paths = paths_agreed(alloc, plan, print)?;
-    rt.flush_paths(*rt, alloc, root, paths.as_slice(), *workers)
-        .map_err(failed)?;
-    let entries = entries_agreed(alloc, plan)?;
-    rt.flush_above(*rt, alloc, root, entries.as_slice(), *workers)
-        .map_err(failed)
+    rt.flush_above(*rt, rt.alloc(), root, entries, *workers)
+        .map_err(|fault| of_disk(fault, replica_on(side)))
 }
 
 /// The paths of what both replicas agree on and the archive doesn't say yet, in the print of one of them: all at and below the paths
