@@ -5,9 +5,9 @@ A word is a name that a file of code imports from a specs file of this repositor
 a function that other crates can call or of a function of a public trait, in a promise of a public trait, in an invariant of a
 public struct, or in the view and invariant of a public type. It is explained where a table has it between backticks in its
 first column, below a heading that names the specs file that defines it, or that file's folder or crate. In turn each word of a
-first column has to be defined in a file that its heading names.
+first column has to be defined in a file that its heading names. And no clause may be longer than can be read aloud.
 
-usage: tests/definitions.py            prints each word that isn't explained, and each that isn't defined
+usage: tests/definitions.py            prints each word that isn't explained, each that isn't defined, and each clause that is too long
        tests/definitions.py --missing  prints the words that aren't explained, by the file that defines them
 """
 import collections
@@ -28,6 +28,9 @@ FIELD = re.compile(r"^\s+(?:pub\s+)?([^\s:(){}=]+)\s*:\s")
 # A promise of a trait, which has a name too.
 PROMISE = re.compile(r"^\s*(?:pub )?ghost (\w+)\s*:", re.MULTILINE)
 TYPE = re.compile(r"^\s*pub (?:struct|enum|trait) (\w+)", re.MULTILINE)
+# Where a clause begins, and how many characters it may have between its braces.
+CLAUSE = re.compile(r"(?:ensures|requires)\b[^{}]*\{")
+LONGEST_CLAUSE = 160
 PLACE = re.compile(r"\bts_[\w*]+(?:/specs/(?:[\w{},]+\.antt)?)?")
 
 Token = collections.namedtuple("Token", "line kind text")
@@ -257,6 +260,29 @@ def faults_of_words(cited, rows):
     return [it for it in cited if (it.file, it.word) not in explained]
 
 
+def clauses_of(text):
+    """Yields each clause of a file of code, with the number of its first line: what stands between its braces, on one line."""
+    for found in CLAUSE.finditer(text):
+        if text[text.rfind("\n", 0, found.start()) + 1 : found.start()].strip():
+            continue
+        depth, at = 1, found.end()
+        while depth:
+            depth += {"{": 1, "}": -1}.get(text[at], 0)
+            at += 1
+        yield text.count("\n", 0, found.start()) + 1, " ".join(text[found.end() : at - 1].split())
+
+
+def faults_of_clauses(crates):
+    """Returns how many clauses the crates have, and those that are too long."""
+    count, found = 0, []
+    for file in (it for crate in crates for it in files_below(crate, "src", ".rt")):
+        for line, clause in clauses_of(text_of(file)):
+            count += 1
+            if len(clause) > LONGEST_CLAUSE:
+                found.append(f"{file}:{line}: the clause has {len(clause)} characters, more than {LONGEST_CLAUSE}")
+    return count, found
+
+
 def print_missing(missing):
     """Prints the words that aren't explained, a line for each file that defines some."""
     words = collections.defaultdict(list)
@@ -279,13 +305,14 @@ def main(words):
     if words:
         print_missing(missing)
         return 1 if missing else 0
-    faults = [fault for _, found in pages for fault in found] + faults_of_rows(rows, defined_words(crates))
+    clauses, long_ones = faults_of_clauses(crates)
+    faults = [fault for _, found in pages for fault in found] + faults_of_rows(rows, defined_words(crates)) + long_ones
     for it in missing:
         print(f"{it.place}: {it.owner} cites {it.word} of {os.path.relpath(it.file, 'crates')}, which isn't explained")
     for it in faults:
         print(it)
     failed = len(missing) + len(faults)
-    print(f"{len(cited) + len(rows) - failed} passed, {failed} failed")
+    print(f"{len(cited) + len(rows) + clauses - failed} passed, {failed} failed")
     return 1 if failed else 0
 
 

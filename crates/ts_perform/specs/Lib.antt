@@ -1,4 +1,5 @@
 pub mod Agreed
+pub mod Commands
 pub mod Failures
 pub mod Faults
 pub mod Inputs
@@ -15,5 +16,6 @@ pub mod Snapshots
 pub mod Spacing
 pub mod Specials
 pub mod Stands
+pub mod Tasks
 pub mod Trials
 pub mod Worlds

@@ -1,13 +1,17 @@
 -- What `run` and `sync` answer, and how a command is refused.
+--     failed_lines explain fault path cause     the fault of a failed action
 --     failure_lines entries actions results causes   the fault of each failed action, with its entry's path, in the order of the actions, and why it failed
 --     notice_line notice                        a fault where what a swap left can't be removed, its place where it was kept, a mount as such
 --     notice_lines notices                      a line for each
 --     remark_lines command notices skips        those, and a sentence for each skipped entry where that is asked for
+--     run_lines command plan results causes lost notices skips   all that is said of a run on standard error
+--     all_lines command plan results causes lost remarks   the same of these remarks
 --     run_report, run_faults, run_status        what is reported of a run on standard output, and on standard error but for notices, and its exit status
 --     Came                                      what came of a plan: the plan and what it was checked against, how its actions ended, and why, why the new archive wasn't written, if it wasn't, and what else is to be said
 --     report_of, faults_of, status_after        what is then reported, on standard output and standard error, and the exit status
 --     HasReported came                          both were written; or one of them could be written in part, and the status is 2
 --     IsRunOf w first second k results words slots  these are of one run, whose commits were made where they stand
+--     IsRunFor w pair k outcome                 the same of what an outcome has
 --     IsCarriedOut w pair came                  the plan is valid for the scans of the pair's replicas, and the results are those of a run of it there, whose archive was written
 --     IsRun w pair name came                    the same of a plan that was read from a file
 --     IsSynced w pair came                      the same of a plan that `resume` made, and not where just one replica took part before, or in the last run with the archive
@@ -21,6 +25,7 @@ use Rattle.std.specs.Io.KnownBytes.{Appends}
 use Rattle.std.specs.String.{string_bytes}
 use Rattle.ts_name.specs.Paths.{Path}
 use Rattle.ts_board.specs.Archives.{LeftArchive}
+use Rattle.ts_board.specs.Calls.{slots_of, words_of}
 use Rattle.ts_board.specs.Terms.{placed, terms_with}
 use Rattle.ts_board.specs.declared.law.Slot.{Slot}
 use Rattle.ts_cause.specs.declared.cause.Cause.{Cause}
@@ -36,8 +41,10 @@ use Rattle.ts_disk.specs.declared.notice.Notice.TheVariants as notice
 use Rattle.ts_exec.specs.Failures.{or_jammed, setting_with}
 use Rattle.ts_exec.specs.Faults.{fault_number as act_number}
 use Rattle.ts_exec.specs.Outcomes.{IsOutcome}
+use Rattle.ts_exec.specs.declared.fault.ActFault.{ActFault}
 use Rattle.ts_exec.specs.declared.outcome.ActionResult.{ActionResult}
 use Rattle.ts_exec.specs.declared.outcome.ActionResult.TheVariants as ended
+use Rattle.ts_exec.specs.declared.outcome.Outcome.{Outcome}
 use Rattle.ts_model.specs.Plans.{Broken, Valid}
 use Rattle.ts_model.specs.Texts.{IsPlanText, Line, text}
 use Rattle.ts_model.specs.Trees.{Listing}
@@ -48,6 +55,7 @@ use Rattle.ts_model.specs.declared.plan.Plan.{Plan}
 use Rattle.ts_model.specs.declared.plan.PlanRule.{PlanRule}
 use Rattle.ts_model.specs.declared.row.Stamp.{Stamp}
 use Rattle.ts_report.specs.Reports.{entry_of, fates, report_text, status_of, totals_of}
+use Rattle.ts_site.specs.declared.site.Site.{Ghosts}
 use Rattle.ts_text.specs.Sources.{AppendsFront}
 use Rattle.ts_trial.specs.Answers.{refusal}
 use Rattle.ts_exec.specs.Ends.{ending_at}
@@ -64,6 +72,7 @@ use Rattle.ts_perform.specs.Snapshots.{IsBegun, IsBrokenAt, IsPlanned, IsValidAt
 use Rattle.ts_perform.specs.Stands.{AreAtStands}
 use Rattle.ts_perform.specs.Trials.{IsQuiet}
 use Rattle.ts_perform.specs.Worlds.{World}
+use Rattle.ts_perform.specs.declared.reporting.Remarks.{Remarks}
 use Rattle.ts_explain.specs.declared.fault.PerformFault.{PerformFault}
 use Rattle.ts_explain.specs.declared.fault.PerformFault.TheVariants as fault
 
@@ -75,10 +84,12 @@ path_in (Some entry) = Some entry.path
 abbrev pub path_for : List Entry → Kind → Option Path
 path_for entries kind = path_in (slice_get entries (entry_of kind))
 
+abbrev pub failed_lines : Bool → ActFault → Option Path → Cause → List Line
+failed_lines explain fault path cause = with_sentence explain (failure_text fault path cause) (fault_line (act_number fault) path)
+
 abbrev pub failure_line : Bool → List Entry → Action → ActionResult → Cause → List Line
 failure_line explain entries action ended.Done cause = []
-failure_line explain entries action (ended.Failed fault) cause =
-    let path = path_for entries action.kind in with_sentence explain (failure_text fault path cause) (fault_line (act_number fault) path)
+failure_line explain entries action (ended.Failed fault) cause = failed_lines explain fault (path_for entries action.kind) cause
 failure_line explain entries action (ended.Blocked before) cause = []
 failure_line explain entries action ended.Left cause = []
 
@@ -135,6 +146,12 @@ run_report plan results = report_text (ending_at results) plan
 abbrev pub run_faults : Command → Plan → List ActionResult → List Cause → Option PerformFault → List Line
 run_faults command plan results causes lost = failure_lines command.explain plan.entries plan.actions results causes ++ lost_lines command lost
 
+abbrev pub run_lines : Command → Plan → List ActionResult → List Cause → Option PerformFault → List Notice → List Skipped → List Line
+run_lines command plan results causes lost notices skips = run_faults command plan results causes lost ++ remark_lines command notices skips
+
+abbrev pub all_lines : Command → Plan → List ActionResult → List Cause → Option PerformFault → Remarks → List Line
+all_lines command plan results causes lost remarks = run_lines command plan results causes lost remarks.notices.now remarks.skips.now
+
 -- the status of the report's totals, or 2 where the archive is lost
 abbrev pub run_status : Plan → List ActionResult → Option PerformFault → ℕ
 run_status plan results lost = status_with lost (status_of (totals_of (fates (ending_at results) plan)))
@@ -152,7 +169,7 @@ abbrev pub report_of : Came → List ℕ
 report_of came = run_report came.checkup.plan came.results
 
 abbrev pub faults_of : Command → Came → List ℕ
-faults_of command came = text (run_faults command came.checkup.plan came.results came.causes came.lost ++ remark_lines command came.notices came.skips)
+faults_of command came = text (run_lines command came.checkup.plan came.results came.causes came.lost came.notices came.skips)
 
 abbrev pub status_after : Came → ℕ
 status_after came = run_status came.checkup.plan came.results came.lost
@@ -183,6 +200,10 @@ pub record IsRunOf {S F P A L : Type 0} (w : World S F P A L) (first second : Li
   pub outcome :
       let t = terms_with w.content checkup.plan checkup.first checkup.second (placed checkup.plan.actions sites) in
       IsOutcome w.content (or_jammed (w.fails stage) (setting_with w.failures w.tells w.lets checkup from_first from_second t.told)) t results words slots
+
+abbrev pub IsRunFor : {S F P A L : Type 0} {site : Ghosts S} → World S F P A L → Pair → Checkup → Outcome S site → Type 0
+IsRunFor w pair checkup outcome =
+    IsRunOf w pair.first.now pair.second.now checkup outcome.results.items (words_of outcome.closed) (slots_of outcome.closed)
 
 -- the plan is valid for the archive and the rules that were read for the pair, and the scans of its replicas; the results are those of
 -- one run of it, whose commits were made where they stand; and the archive that this run left was written in the place that has its name,

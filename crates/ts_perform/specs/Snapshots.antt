@@ -1,5 +1,6 @@
 -- What a plan is made from and checked against, and what `plan` and `check` print.
 --     checkup_of snapshot plan       the plan, with the archive, the prints and the rules of a snapshot
+--     IsSeenIn w pair snapshot       a snapshot has scans of a pair's replicas, and the archive and the rules that were read for it
 --     IsPlanned k                    the plan is one that `resume` makes for what it goes with
 --     IsUnplanned snapshot fault     why there is no plan: memory ran out, or it would be past a limit
 --     IsUnchecked k fault            why a plan isn't taken: memory ran out, or it breaks this rule first, and here
@@ -30,6 +31,9 @@ use Rattle.ts_perform.specs.declared.snapshot.Snapshot.{Snapshot}
 
 abbrev pub checkup_of : Snapshot → Plan → Checkup
 checkup_of s plan = record { plan = plan; archive = s.archive; first = s.first; second = s.second; rules = s.holds }
+
+abbrev pub IsSeenIn : {S F P A L : Type 0} → World S F P A L → Pair → Snapshot → Type 0
+IsSeenIn w pair s = IsSeenFor w pair s.archive s.holds s.first s.second
 
 pub record IsPlanned (k : Checkup) : Type 0 where
   pub valid : Valid (snapshot_of k) k.plan

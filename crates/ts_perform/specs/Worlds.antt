@@ -42,6 +42,8 @@ pub record World (S F P A L : Type 0) : Type 1 where
   pub took : L → Bool → Type 0
   pub knows : L → A → Bool → Type 0
   pub stopped : L → Bool → Type 0
+  -- of which replica it was said whether a stopped run isn't brought to its end there
+  pub awaits : List ℕ → Bool → Type 0
 
 abbrev pub world : {R File F S Way P L A Opened : Type 0} → disks.Ghosts R File F S Way P L A Opened → sites.Ghosts S → folders.Ghosts F File → stages.Ghosts P
     → World S F P A L
@@ -62,4 +64,5 @@ world disk site folder stage = record {
   took = disk.took;
   knows = disk.knows;
   stopped = disk.stopped;
+  awaits = disk.awaits;
 }

@@ -3,14 +3,14 @@ ghost use Rattle.std.specs.Prelude.{◌≡◌, ◌≤◌, length, map, IfErr, If
 ghost use Rattle.std.specs.Option.{option_copied};
 ghost use Rattle.std.specs.Mem.Slots.{slots_items, slots_len};
 ghost use Rattle.ts_board.specs.Archives.{HasEnded};
-ghost use Rattle.ts_board.specs.Calls.{slots_of, words_of};
+ghost use Rattle.ts_board.specs.Calls.{words_of};
 ghost use Rattle.ts_board.specs.Terms.{commit_count};
 ghost use Rattle.ts_exec.specs.Failures.{of_side};
 ghost use Rattle.ts_perform.specs.Puts.{put_path, put_paths};
 ghost use Rattle.ts_perform.specs.Runs.{HasKept};
 ghost use Rattle.ts_perform.specs.Stands.{AreAtStands, source_root, target_root};
 ghost use Rattle.ts_perform.specs.Trials.{IsQuiet};
-ghost use Rattle.ts_perform.specs.Runs.{IsRunOf};
+ghost use Rattle.ts_perform.specs.Runs.{IsRunFor};
 ghost use Rattle.ts_perform.specs.Worlds.{world};
 
 use crate::agreed::flush_agreed;
@@ -50,8 +50,8 @@ pub(crate) fn act<R: Machine>(
     ensures words { IfOk result (λ came. length checked.now.plan.actions ≤ slots_len came.0.closed.row.words) }
     ensures slots { IfOk result (λ came. length checked.now.plan.actions ≤ slots_len came.0.closed.row.slots) }
     ensures ended { IfOk result (λ came. HasEnded checked.now (words_of came.0.closed)) }
-    ensures stands { IfOk result (λ came. IsRunOf (world R.Disk R.Site.Site R.Folder.Folder R.Stage.Stage)
-        task.now.pair.now.first.now task.now.pair.now.second.now checked.now came.0.results.items (words_of came.0.closed) (slots_of came.0.closed)) }
+    ensures stands { IfOk result (λ came. IsRunFor (world R.Disk R.Site.Site R.Folder.Folder R.Stage.Stage)
+        task.now.pair.now checked.now came.0) }
     ensures quiet { IfErr result IsQuiet }
 {
     let Task {

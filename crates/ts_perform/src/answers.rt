@@ -1,12 +1,10 @@
 //! The lines that report faults and verdicts.
 ghost use Rattle.std.specs.Prelude.{◌≡◌, ◌∷◌, ◌++◌, [], IfErr, OnOk};
 ghost use Rattle.std.specs.Option.{option_copied};
-ghost use Rattle.ts_exec.specs.Faults.{fault_number as act_number};
-ghost use Rattle.ts_explain.specs.Faults.{fault_line};
 ghost use Rattle.ts_explain.specs.Lines.{with_sentence};
 ghost use Rattle.ts_model.specs.Texts.{text};
 ghost use Rattle.ts_perform.specs.Faults.{kept_line, mount_line};
-ghost use Rattle.ts_perform.specs.Runs.{notice_line};
+ghost use Rattle.ts_perform.specs.Runs.{failed_lines, notice_line};
 ghost use Rattle.ts_perform.specs.Failures.{act_hint, act_text, failure_text, notice_text};
 ghost use Rattle.ts_perform.specs.Trials.{IsQuiet};
 ghost use Rattle.ts_text.specs.Sources.{Writes};
@@ -60,7 +58,7 @@ pub(crate) fn write_failure<W: Sink>(
     err: &mut W,
 ) -> Result<(), TextFault>
     ensures { Writes (W.holds err.old) (W.holds err.new)
-        (text (with_sentence explain (failure_text fault (option_copied path.entry) cause) (fault_line (act_number fault) (option_copied path.entry)))) result }
+        (text (failed_lines explain fault (option_copied path.entry) cause)) result }
 {
     let mut sentence = Vec::new(alloc);
     if explain {

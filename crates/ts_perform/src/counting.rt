@@ -102,7 +102,7 @@ pub(crate) fn run_counted<R: Machine, K: Keeper>(
     rt: &R,
     progress: &Progress<'_, R>,
     checked: &Checked<'_>,
-    folders: &Folders<'_, R::Folder>,
+    both: &Folders<'_, R::Folder>,
     sites: Vec<R::Site>,
     stage: &R::Stage,
     workers: u32,
@@ -113,18 +113,18 @@ pub(crate) fn run_counted<R: Machine, K: Keeper>(
     requires every { (1 ≤ every) × (every ≤ 1048576) }
     requires sites { length sites.items ≡ commit_count checked.now.plan.actions }
     ensures outcome { IfOk result (IsOutcomeOf (setting_over R.Site.Site R.Folder.Folder R.Stage.Stage
-        checked.now folders.now.first.now folders.now.second.now sites.items stage.now)) }
+        checked.now both.now.first.now both.now.second.now sites.items stage.now)) }
     ensures ended { IfOk result (λ o. HasEnded checked.now (words_of o.closed)) }
     ensures wide { IfOk result (λ o. HasPlaces o.closed (length checked.now.plan.actions)) }
     ensures quiet { IfErr result IsQuiet }
 {
     let meter = progress.begin(Phase::CarryingOut, amount_of(checked.plan()));
     let first = CountingFolder {
-        folder: folders.first,
+        folder: both.first,
         meter: &meter,
     };
     let second = CountingFolder {
-        folder: folders.second,
+        folder: both.second,
         meter: &meter,
     };
     let gate = CountingGate { meter: &meter };

@@ -2,7 +2,8 @@
 ghost use Rattle.std.specs.Prelude.{◌≡◌, ◌≤◌, [], Ok, length, option_map, IfErr, IfOk, IfSome, IsTrue, OnOk};
 ghost use Rattle.ts_explain.specs.Faults.{IsAbout};
 ghost use Rattle.ts_model.specs.Texts.{IsPlan, IsPlanText, IsRulesText};
-ghost use Rattle.ts_perform.specs.Inputs.{AreRulesAt, IsArchiveAt, IsArchiveIn, IsArchiveOf, IsFoundOrEmpty, IsHeldFor, IsReadAt, IsSeenFor, scanned_of};
+ghost use Rattle.ts_perform.specs.Inputs.{AreRulesAt, IsArchiveAt, IsArchiveIn, IsArchiveOf, IsFoundOrEmpty, IsHeldFor, IsReadAt, scanned_of};
+ghost use Rattle.ts_perform.specs.Snapshots.{IsSeenIn};
 ghost use Rattle.ts_perform.specs.Specials.{AreSpecials};
 ghost use Rattle.ts_perform.specs.Stands.{AreScans, IsScanOf};
 ghost use Rattle.ts_perform.specs.Trials.{IsQuiet};
@@ -352,8 +353,7 @@ impl Snapshot {
     ) -> Result<Snapshot, PerformFault>
         requires archive { IsArchiveAt R.finds task.now.pair.now.archive.now archive }
         requires held { IsHeldFor R.finds R.finds_special task.now.pair.now held }
-        ensures seen { IfOk result (λ s. IsSeenFor (world R.Disk R.Site.Site R.Folder.Folder R.Stage.Stage) task.now.pair.now
-            s.archive s.holds s.first s.second) }
+        ensures seen { IfOk result (IsSeenIn (world R.Disk R.Site.Site R.Folder.Folder R.Stage.Stage) task.now.pair.now) }
         ensures archive { IfOk result (λ s. s.archive ≡ archive) }
         ensures quiet { IfErr result IsQuiet }
     {
@@ -374,8 +374,7 @@ impl Snapshot {
     ) -> Result<Snapshot, PerformFault>
         requires found { R.finds task.now.pair.now.archive.now (option_map R.Opened.remaining file) }
         requires held { IsHeldFor R.finds R.finds_special task.now.pair.now held }
-        ensures seen { IfOk result (λ s. IsSeenFor (world R.Disk R.Site.Site R.Folder.Folder R.Stage.Stage) task.now.pair.now
-            s.archive s.holds s.first s.second) }
+        ensures seen { IfOk result (IsSeenIn (world R.Disk R.Site.Site R.Folder.Folder R.Stage.Stage) task.now.pair.now) }
         ensures quiet { IfErr result IsQuiet }
     {
         if task.workers == 1 {
@@ -394,8 +393,7 @@ impl Snapshot {
     /// Opens the archive and reads the rules, searches both replicas for what is special where the pair asks for it, and then scans
     /// them. The archive is decoded meanwhile.
     pub(crate) fn read<R: Machine>(task: &Task<'_, R>) -> Result<Snapshot, PerformFault>
-        ensures seen { IfOk result (λ s. IsSeenFor (world R.Disk R.Site.Site R.Folder.Folder R.Stage.Stage) task.now.pair.now
-            s.archive s.holds s.first s.second) }
+        ensures seen { IfOk result (IsSeenIn (world R.Disk R.Site.Site R.Folder.Folder R.Stage.Stage) task.now.pair.now) }
         ensures quiet { IfErr result IsQuiet }
     {
         let file = opened(task.rt, task.pair.archive, Subject::Archive)?;
@@ -412,8 +410,7 @@ impl Snapshot {
         is_one_new: bool,
         new: Subject,
     ) -> Result<Snapshot, PerformFault>
-        ensures seen { IfOk result (λ s. IsSeenFor (world R.Disk R.Site.Site R.Folder.Folder R.Stage.Stage) task.now.pair.now
-            s.archive s.holds s.first s.second) }
+        ensures seen { IfOk result (IsSeenIn (world R.Disk R.Site.Site R.Folder.Folder R.Stage.Stage) task.now.pair.now) }
         ensures both { IfOk result (λ s. IsTrue is_one_new → s.archive ≡ []) }
         ensures quiet { IfErr result IsQuiet }
     {
@@ -434,8 +431,7 @@ impl Snapshot {
     ) -> Result<(Snapshot, Plan), PerformFault>
         ensures fits { IfOk result (λ read. IsPlan read.1) }
         ensures plan { IfOk result (λ read. IsReadAt R.finds IsPlanText plan.now read.1) }
-        ensures seen { IfOk result (λ read. IsSeenFor (world R.Disk R.Site.Site R.Folder.Folder R.Stage.Stage) task.now.pair.now
-            read.0.archive read.0.holds read.0.first read.0.second) }
+        ensures seen { IfOk result (λ read. IsSeenIn (world R.Disk R.Site.Site R.Folder.Folder R.Stage.Stage) task.now.pair.now read.0) }
         ensures quiet { IfErr result IsQuiet }
     {
         let file = opened(task.rt, task.pair.archive, Subject::Archive)?;

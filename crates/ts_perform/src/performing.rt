@@ -1,11 +1,11 @@
 //! Commands, one by one.
 ghost use Rattle.std.specs.Prelude.{◌≡◌, ◌≤◌, IfErr, None};
 ghost use Rattle.ts_model.specs.Trial.{Trial};
-ghost use Rattle.ts_perform.specs.Jobs.{IfCheck, IfPlan, IfPreview, IfRun, IfScan, IfShow, IfSync, IfTell};
-ghost use Rattle.ts_perform.specs.Pending.{AnswersPending, AnswersVerdictPending, JudgesPending, PrintsPending};
-ghost use Rattle.ts_perform.specs.Previewing.{IsPreviewAt, form_of};
+ghost use Rattle.ts_perform.specs.Commands.{Checks, Plans, Previews, Runs, Scans, Syncs};
+ghost use Rattle.ts_perform.specs.Commands.{TriesCheck, TriesPlan, TriesPreview, TriesRun, TriesScan, TriesSync};
+ghost use Rattle.ts_perform.specs.Jobs.{IfShow, IfTell};
 ghost use Rattle.ts_perform.specs.Printouts.{IsBodyOf, IsScanText, IsShown, IsTold};
-ghost use Rattle.ts_perform.specs.Runs.{AnswersOne, AnswersRun, IsRun, IsSynced, Ran, Refuses};
+ghost use Rattle.ts_perform.specs.Runs.{AnswersOne, Refuses};
 ghost use Rattle.ts_perform.specs.Snapshots.{IsCheckupAt, IsPrintoutAt, Judges, Prints, PrintsAlone};
 ghost use Rattle.ts_perform.specs.Trials.{Answers, IfApart, IsQuiet};
 ghost use Rattle.ts_perform.specs.Worlds.{world};
@@ -48,23 +48,20 @@ pub fn perform<R: Machine, I: Source + SaysCause + Drop, O: Sink + SaysCause, E:
         (O.holds out.old) (O.holds out.new) (E.holds err.old) (E.holds err.new) result) }
     ensures trial { command.now.job ≡ Job.Trial → IfApart (I.holds input) (λ bytes. Answers (Trial bytes)
         (O.holds out.old) (O.holds out.new) result) }
-    ensures scan { IfScan command.now.job (λ root. AnswersOne command.now (IsScanText (world R.Disk R.Site.Site R.Folder.Folder R.Stage.Stage) root)
-        (O.holds out.old) (O.holds out.new) (E.holds err.old) (E.holds err.new) result) }
+    ensures scan { Scans (world R.Disk R.Site.Site R.Folder.Folder R.Stage.Stage) command.now
+        (O.holds out.old) (O.holds out.new) (E.holds err.old) (E.holds err.new) result }
     ensures show { IfShow command.now.job (λ name. AnswersOne command.now (IsShown R.finds name)
         (O.holds out.old) (O.holds out.new) (E.holds err.old) (E.holds err.new) result) }
-    ensures plan { IfPlan command.now.job (λ pair. AnswersPending R.awaits command.now pair
-        (IsPrintoutAt (world R.Disk R.Site.Site R.Folder.Folder R.Stage.Stage) pair)
-        (O.holds out.old) (O.holds out.new) (E.holds err.old) (E.holds err.new) result) }
-    ensures preview { IfPreview command.now.job (λ pair json. AnswersPending R.awaits command.now pair
-        (IsPreviewAt (world R.Disk R.Site.Site R.Folder.Folder R.Stage.Stage) pair (form_of command.now.coloured json))
-        (O.holds out.old) (O.holds out.new) (E.holds err.old) (E.holds err.new) result) }
-    ensures check { IfCheck command.now.job (λ pair plan. AnswersVerdictPending R.awaits command.now pair
-        (IsCheckupAt (world R.Disk R.Site.Site R.Folder.Folder R.Stage.Stage) pair plan)
-        (O.holds out.old) (O.holds out.new) (E.holds err.old) (E.holds err.new) result) }
-    ensures run { IfRun command.now.job (λ pair plan. AnswersRun command.now (IsRun (world R.Disk R.Site.Site R.Folder.Folder R.Stage.Stage) pair plan)
-        (O.holds out.old) (O.holds out.new) (E.holds err.old) (E.holds err.new) result) }
-    ensures sync { IfSync command.now.job (λ pair. AnswersRun command.now (IsSynced (world R.Disk R.Site.Site R.Folder.Folder R.Stage.Stage) pair)
-        (O.holds out.old) (O.holds out.new) (E.holds err.old) (E.holds err.new) result) }
+    ensures plan { Plans (world R.Disk R.Site.Site R.Folder.Folder R.Stage.Stage) command.now
+        (O.holds out.old) (O.holds out.new) (E.holds err.old) (E.holds err.new) result }
+    ensures preview { Previews (world R.Disk R.Site.Site R.Folder.Folder R.Stage.Stage) command.now
+        (O.holds out.old) (O.holds out.new) (E.holds err.old) (E.holds err.new) result }
+    ensures check { Checks (world R.Disk R.Site.Site R.Folder.Folder R.Stage.Stage) command.now
+        (O.holds out.old) (O.holds out.new) (E.holds err.old) (E.holds err.new) result }
+    ensures run { Runs (world R.Disk R.Site.Site R.Folder.Folder R.Stage.Stage) command.now
+        (O.holds out.old) (O.holds out.new) (E.holds err.old) (E.holds err.new) result }
+    ensures sync { Syncs (world R.Disk R.Site.Site R.Folder.Folder R.Stage.Stage) command.now
+        (O.holds out.old) (O.holds out.new) (E.holds err.old) (E.holds err.new) result }
 {
     match answer(rt, command, input, out, err) {
         Ok(status) => status,
@@ -113,23 +110,20 @@ fn answer<R: Machine, I: Source + SaysCause + Drop, O: Sink, E: Sink>(
     ensures trial { command.now.job ≡ Job.Trial → IfApart (I.holds input) (λ bytes. WritesOne (Trial bytes)
         (O.holds out.old) (O.holds out.new) result) }
     ensures quiet { command.now.job ≡ Job.Trial → IfErr result IsQuiet }
-    ensures scan { IfScan command.now.job (λ root. PrintsAlone (IsScanText (world R.Disk R.Site.Site R.Folder.Folder R.Stage.Stage) root)
-        (O.holds out.old) (O.holds out.new) (E.holds err.old) (E.holds err.new) result) }
+    ensures scan { TriesScan (world R.Disk R.Site.Site R.Folder.Folder R.Stage.Stage) command.now
+        (O.holds out.old) (O.holds out.new) (E.holds err.old) (E.holds err.new) result }
     ensures show { IfShow command.now.job (λ name. PrintsAlone (IsShown R.finds name)
         (O.holds out.old) (O.holds out.new) (E.holds err.old) (E.holds err.new) result) }
-    ensures plan { IfPlan command.now.job (λ pair. PrintsPending R.awaits command.now pair
-        (IsPrintoutAt (world R.Disk R.Site.Site R.Folder.Folder R.Stage.Stage) pair)
-        (O.holds out.old) (O.holds out.new) (E.holds err.old) (E.holds err.new) result) }
-    ensures preview { IfPreview command.now.job (λ pair json. PrintsPending R.awaits command.now pair
-        (IsPreviewAt (world R.Disk R.Site.Site R.Folder.Folder R.Stage.Stage) pair (form_of command.now.coloured json))
-        (O.holds out.old) (O.holds out.new) (E.holds err.old) (E.holds err.new) result) }
-    ensures check { IfCheck command.now.job (λ pair plan. JudgesPending R.awaits command.now pair
-        (IsCheckupAt (world R.Disk R.Site.Site R.Folder.Folder R.Stage.Stage) pair plan)
-        (O.holds out.old) (O.holds out.new) (E.holds err.old) (E.holds err.new) result) }
-    ensures run { IfRun command.now.job (λ pair plan. Ran command.now (IsRun (world R.Disk R.Site.Site R.Folder.Folder R.Stage.Stage) pair plan)
-        (O.holds out.old) (O.holds out.new) (E.holds err.old) (E.holds err.new) result) }
-    ensures sync { IfSync command.now.job (λ pair. Ran command.now (IsSynced (world R.Disk R.Site.Site R.Folder.Folder R.Stage.Stage) pair)
-        (O.holds out.old) (O.holds out.new) (E.holds err.old) (E.holds err.new) result) }
+    ensures plan { TriesPlan (world R.Disk R.Site.Site R.Folder.Folder R.Stage.Stage) command.now
+        (O.holds out.old) (O.holds out.new) (E.holds err.old) (E.holds err.new) result }
+    ensures preview { TriesPreview (world R.Disk R.Site.Site R.Folder.Folder R.Stage.Stage) command.now
+        (O.holds out.old) (O.holds out.new) (E.holds err.old) (E.holds err.new) result }
+    ensures check { TriesCheck (world R.Disk R.Site.Site R.Folder.Folder R.Stage.Stage) command.now
+        (O.holds out.old) (O.holds out.new) (E.holds err.old) (E.holds err.new) result }
+    ensures run { TriesRun (world R.Disk R.Site.Site R.Folder.Folder R.Stage.Stage) command.now
+        (O.holds out.old) (O.holds out.new) (E.holds err.old) (E.holds err.new) result }
+    ensures sync { TriesSync (world R.Disk R.Site.Site R.Folder.Folder R.Stage.Stage) command.now
+        (O.holds out.old) (O.holds out.new) (E.holds err.old) (E.holds err.new) result }
 {
     let workers = command.workers;
     match &command.job {

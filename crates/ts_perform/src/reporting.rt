@@ -1,9 +1,9 @@
 //! What is reported of a run.
 ghost use Rattle.std.specs.Option.{option_copied};
-ghost use Rattle.std.specs.Prelude.{◌≡◌, ◌≤◌, ◌++◌, Some, get_or, length, IfOk};
+ghost use Rattle.std.specs.Prelude.{◌≡◌, ◌≤◌, Some, get_or, length, IfOk};
 ghost use Rattle.ts_model.specs.Plans.{action_limit};
 ghost use Rattle.ts_model.specs.Texts.{text};
-ghost use Rattle.ts_perform.specs.Runs.{failure_line, failure_lines, lost_by, lost_lines, notice_lines, path_for, remark_lines, run_faults, run_report, run_status};
+ghost use Rattle.ts_perform.specs.Runs.{all_lines, failure_line, failure_lines, lost_by, lost_lines, notice_lines, path_for, remark_lines, run_faults, run_report, run_status};
 ghost use Rattle.ts_report.specs.Reports.{fates, report_text, totals_of};
 ghost use Rattle.ts_text.specs.Sources.{Writes};
 
@@ -99,8 +99,7 @@ pub(crate) fn report_all<O: Sink, E: Sink>(
     requires count { length ended.now.results.items ≡ length checked.now.plan.actions }
     ensures report { Writes (O.holds out.old) (O.holds out.new) (run_report checked.now.plan ended.now.results.items) result }
     ensures faults { Writes (E.holds err.old) (E.holds err.new)
-        (text (run_faults command.now checked.now.plan ended.now.results.items causes.now (lost_by kept)
-        ++ remark_lines command.now remarks.now.notices.now remarks.now.skips.now)) result }
+        (text (all_lines command.now checked.now.plan ended.now.results.items causes.now (lost_by kept) remarks.now)) result }
     ensures status { IfOk result (λ status. status ≡ run_status checked.now.plan ended.now.results.items (lost_by kept)) }
 {
     let status = report_outcome(alloc, command, checked, ended, causes, kept, out, err)?;

@@ -1,10 +1,10 @@
 //! Plans carried out on two folders.
 ghost use Rattle.std.specs.Prelude.{◌≡◌, ℕ, List, IfErr, IfOk};
 ghost use Rattle.ts_model.specs.Texts.{IsPlan};
-ghost use Rattle.ts_perform.specs.Inputs.{IsSeenFor};
 ghost use Rattle.ts_perform.specs.Pasts.{IsPastOf, SaysNew, SaysOneNew};
-ghost use Rattle.ts_perform.specs.Runs.{BeginsNotices, IsCarriedOutFor, IsRun, IsSynced, Ran, RanQuietly};
-ghost use Rattle.ts_perform.specs.Snapshots.{checkup_of, IsPlanned};
+ghost use Rattle.ts_perform.specs.Runs.{BeginsNotices};
+ghost use Rattle.ts_perform.specs.Snapshots.{IsSeenIn};
+ghost use Rattle.ts_perform.specs.Tasks.{CarriesOut, RanPlan, RanPlanQuietly, RanSync, RanSyncQuietly};
 ghost use Rattle.ts_perform.specs.Trials.{IsQuiet};
 ghost use Rattle.ts_perform.specs.Worlds.{world};
 
@@ -16,7 +16,7 @@ use crate::locks::{Locks, look_at_locks};
 use crate::past::{Past, is_one_new, new_one};
 use crate::reporting::{FAILED, Remarks, report_all, report_notices};
 use crate::skips::skips_of;
-use crate::snapshot::Snapshot;
+use crate::snapshot::{Proposal, Snapshot};
 use crate::task::Task;
 use std::alloc::Global;
 use ts_disk::{
@@ -45,7 +45,7 @@ impl<R: Machine> Task<'_, R> {
         out: &mut O,
         err: &mut E,
     ) -> Result<u8, PerformFault>
-        ensures ran { Ran self.now.command.now (IsRun (world R.Disk R.Site.Site R.Folder.Folder R.Stage.Stage) self.now.pair.now plan.now)
+        ensures ran { RanPlan R.Disk R.Site.Site R.Folder.Folder R.Stage.Stage self.now plan.now
             (O.holds out.old) (O.holds out.new) (E.holds err.old) (E.holds err.new) result }
     {
         let mut claims = self.claim()?;
@@ -61,7 +61,7 @@ impl<R: Machine> Task<'_, R> {
         out: &mut O,
         err: &mut E,
     ) -> Result<u8, PerformFault>
-        ensures ran { Ran self.now.command.now (IsSynced (world R.Disk R.Site.Site R.Folder.Folder R.Stage.Stage) self.now.pair.now)
+        ensures ran { RanSync R.Disk R.Site.Site R.Folder.Folder R.Stage.Stage self.now
             (O.holds out.old) (O.holds out.new) (E.holds err.old) (E.holds err.new) result }
     {
         let mut claims = self.claim()?;
@@ -234,13 +234,17 @@ impl<R: Machine> Task<'_, R> {
         out: &mut O,
         err: &mut E,
     ) -> Result<u8, PerformFault>
-        ensures ran { RanQuietly self.now.command.now (IsRun (world R.Disk R.Site.Site R.Folder.Folder R.Stage.Stage) self.now.pair.now plan.now)
+        ensures ran { RanPlanQuietly R.Disk R.Site.Site R.Folder.Folder R.Stage.Stage self.now plan.now
             (O.holds out.old) (O.holds out.new) (E.holds err.old) (E.holds err.new) result }
     {
         self.recover(notices)?;
         let (snapshot, plan) = Snapshot::read_for(self, plan)?;
         self.look_at_claims(&*claims)?;
-        self.carry_out(claims, &snapshot, &plan, notices, out, err)
+        let proposal = Proposal {
+            snapshot: &snapshot,
+            plan: &plan,
+        };
+        self.carry_out(claims, &proposal, notices, out, err)
     }
 
     /// Makes a plan, and carries it out.
@@ -254,7 +258,7 @@ impl<R: Machine> Task<'_, R> {
         requires first { R.is_locked claims.old.first self.now.pair.now.first.now }
         requires second { R.is_locked claims.old.second self.now.pair.now.second.now }
         requires named { R.is_named claims.old.archive self.now.pair.now.archive.now }
-        ensures ran { RanQuietly self.now.command.now (IsSynced (world R.Disk R.Site.Site R.Folder.Folder R.Stage.Stage) self.now.pair.now)
+        ensures ran { RanSyncQuietly R.Disk R.Site.Site R.Folder.Folder R.Stage.Stage self.now
             (O.holds out.old) (O.holds out.new) (E.holds err.old) (E.holds err.new) result }
     {
         self.recover(notices)?;
@@ -262,7 +266,11 @@ impl<R: Machine> Task<'_, R> {
         let snapshot = Snapshot::read_of_both(self, is_one_new, self.new_one(&*claims))?;
         let plan = snapshot.plan(self.rt.alloc())?;
         self.look_at_claims(&*claims)?;
-        self.carry_out(claims, &snapshot, &plan, notices, out, err)
+        let proposal = Proposal {
+            snapshot: &snapshot,
+            plan: &plan,
+        };
+        self.carry_out(claims, &proposal, notices, out, err)
     }
 
     /// Checks a plan, runs it, and tells what came of it. The plan lies in both replicas while swaps may be half done, and until
@@ -270,19 +278,17 @@ impl<R: Machine> Task<'_, R> {
     fn carry_out<O: Sink, E: Sink>(
         &self,
         claims: &mut Claims<R>,
-        snapshot: &Snapshot,
-        plan: &Plan,
+        proposal: &Proposal<'_>,
         notices: &mut Vec<Notice>,
         out: &mut O,
         err: &mut E,
     ) -> Result<u8, PerformFault>
-        requires plan { IsPlan plan.now }
-        requires seen { IsSeenFor (world R.Disk R.Site.Site R.Folder.Folder R.Stage.Stage) self.now.pair.now
-            snapshot.now.archive snapshot.now.holds snapshot.now.first snapshot.now.second }
-        ensures ran { RanQuietly self.now.command.now (IsCarriedOutFor (world R.Disk R.Site.Site R.Folder.Folder R.Stage.Stage)
-            (checkup_of snapshot.now plan.now) self.now.pair.now)
+        requires plan { IsPlan proposal.now.plan.now }
+        requires seen { IsSeenIn (world R.Disk R.Site.Site R.Folder.Folder R.Stage.Stage) self.now.pair.now proposal.now.snapshot.now }
+        ensures ran { CarriesOut R.Disk R.Site.Site R.Folder.Folder R.Stage.Stage self.now proposal.now
             (O.holds out.old) (O.holds out.new) (E.holds err.old) (E.holds err.new) result }
     {
+        let Proposal { snapshot, plan } = *proposal;
         let alloc = self.rt.alloc();
         let checked = snapshot.check_drawn(self.rt, alloc, &self.progress, plan)?;
         snapshot.look_at_lengths(alloc, self.pair, plan)?;

@@ -32,6 +32,13 @@ pub(crate) struct Snapshot {
     pub second: Print,
 }
 
+/// A plan, and what it is to be checked against.
+#[derive(Clone, Copy, Drop)]
+pub(crate) struct Proposal<'a> {
+    pub snapshot: &'a Snapshot,
+    pub plan: &'a Plan,
+}
+
 /// Written out, so that a proof of what drops one stays short.
 impl Drop for Snapshot {
     fn drop(self) {

@@ -40,4 +40,4 @@ returns-in-Ok g c =
 pub returns-in_err-checked : goal.returns-in_err-checked
 returns-in_err-checked g c =
     let p = err_from_is_err_and c.from_residual.result c.from_residual.ensures.1 in
-    rw (p.1, p.2) (record { ran = (unchecked_right (checkup_of c.args.snapshot.now c.args.plan.now) _ c.in_err-checked.ensures.refused, refl, refl) })
+    rw (p.1, p.2) (record { ran = (unchecked_right (checkup_of c.args.proposal.now.snapshot.now c.args.proposal.now.plan.now) _ c.in_err-checked.ensures.refused, refl, refl) })
