@@ -1,7 +1,8 @@
 //! What the line says.
 ghost use Rattle.std.specs.Prelude.{◌≡◌, ◌<◌, ◌≤◌, ◌^◌, ◌++◌, IfOk, OnOk, length, take};
 ghost use Rattle.std.specs.List.{AllByRecursion};
-ghost use Rattle.ts_progress.specs.Lines.{IsPrintable, actions_text, all_actions_text, all_paths_text, bytes_text, files_text, flush_text, left_text, line_text, rate_text, run_text, scan_text, text_in};
+ghost use Rattle.ts_progress.specs.Lines.{IsPrintable, actions_text, all_actions_text, all_paths_text, bytes_text, files_text, flush_text};
+ghost use Rattle.ts_progress.specs.Lines.{left_text, line_text, rate_text, run_text, scan_text, text_in};
 
 use crate::numbers::{push_duration, push_grouped, push_size};
 use std::alloc::{AllocError, Global};
