@@ -6,7 +6,7 @@
 --     range bytes offset n       the bytes from the offset on, n of them, or fewer where they end before
 --     Reads x offset n bytes     these are so many bytes of the file x
 --     Fills x offset buffer n    the buffer begins with n bytes of the file x, as many as fit
---     IsMissing told p           where the tree is told, nothing is at the path
+--     IsMissing told p           nothing is at the path, where the folder tells its tree
 --     MayAnswer lets missing     which faults a call may answer
 use Rattle.std.specs.Prelude.{◌≡◌, ◌≢◌, ℕ, List, [], ◌∷◌, ◌++◌, ◌↔◌, length, take, drop, Contains, Option, IfSome}
 use Rattle.std.specs.declared.cmp.Ordering.TheVariants.{Less}
