@@ -3,8 +3,8 @@
 Most of a check's time goes into reading what stands below a crate, and into proving again what the changed functions call. Each
 function is proved by itself, from the contracts of those that it calls: what the prover says of a function is said of the edit
 in it, whatever bodies the others have. So edits in different functions are tried in one check, in which all other functions have
-lost their bodies. An edit of which it says nothing there is tried alone, with all bodies, and where a check of its function
-doesn't refuse it, a whole check from nothing decides, as `rt ci` makes it.
+lost their bodies, and with them their proofs by hand. An edit of which it says nothing there, or little, is tried alone, with all
+bodies and proofs, and where a check of its function doesn't refuse it, a whole check from nothing decides, as `rt ci` makes it.
 """
 import itertools
 import os
@@ -17,6 +17,8 @@ from dataclasses import dataclass, replace
 FUNCTION = re.compile(r"(?m)^( *)(?:pub(?:\([^)]*\))? )?(?:const )?(?:final )?fn (\w+)")
 # Where a function keeps its body: others are proved with it, or it is a test, or computed by the compiler, or has to take its value apart.
 KEEPS_ITS_BODY = re.compile(r"#\[(?:cycle|test)|\bconst fn |\bfn (?:main|drop)\b")
+# The proofs by hand of a function's body. They name its steps.
+OF_A_BODY = ["Answers.antt", "Invariants.antt"]
 # An `impl`: its own parameters, its trait with the trait's arguments, and its type with the type's arguments.
 IMPL = re.compile(r"impl(?:<(.*?)>)? (?:(?:\w+::)*(\w+)(<.*>)? for )?(\w+)(<.*>)?(?: where\b.*)?")
 # What stands between brackets in the parameters of an `impl`: their bounds' arguments.
@@ -76,6 +78,11 @@ class Place:
         return replace(self, only=module if module != path else None) if self.only == path else self
 
 
+def read_text(file):
+    with open(file, encoding="utf-8") as it:
+        return it.read()
+
+
 def end_of_function(indent):
     """Returns what finds the last line of a function with this indent, as `rt fmt` lays it out."""
     return re.compile(rf"(?m)^{indent}(?:\}}|(?:\S.*)?\{{\}})$")
@@ -103,30 +110,57 @@ def body_of(text, found):
     return (head.end(), end.start()) if head else None
 
 
-def with_bodies_of(text, names):
-    """Returns the text of a file in which only the functions of these names have their bodies, with each line where it was."""
+def bodies_to_lose(text, names):
+    """Returns the functions in the text of a file that can do without their bodies, but for those of these names: for each what
+    FUNCTION found of it, and where its body begins and ends."""
+    found = []
+    for it in FUNCTION.finditer(text):
+        above = itertools.takewhile(lambda it: it.lstrip().startswith(("#[", "//")), text[: it.start()].split("\n")[-2::-1])
+        body = None if it[2] in names or KEEPS_ITS_BODY.search("\n".join([*above, it[0]])) else body_of(text, it)
+        # (a function within another one goes with it)
+        if body and (not found or body[0] > found[-1][1][1]):
+            found.append((it, body))
+    return found
+
+
+def with_bodies_of(text, lost):
+    """Returns the text of a file in which some functions have lost their bodies, with each line where it was."""
     parts, last = [], 0
-    for found in FUNCTION.finditer(text):
-        above = itertools.takewhile(lambda it: it.lstrip().startswith(("#[", "//")), text[: found.start()].split("\n")[-2::-1])
-        body = None if found[2] in names or KEEPS_ITS_BODY.search("\n".join([*above, found[0]])) else body_of(text, found)
-        if body:
-            parts += [text[last : body[0]], f"\n{found[1]}    unreachable!()", "\n" * (text.count("\n", *body) - 1)]
-            last = body[1]
+    for found, body in lost:
+        parts += [text[last : body[0]], f"\n{found[1]}    unreachable!()", "\n" * (text.count("\n", *body) - 1)]
+        last = body[1]
     return "".join([*parts, text[last:]])
 
 
-def without_bodies(crate, tries, texts):
-    """Returns the texts with the changes of several edits, in which no other function of the crate has its body."""
-    places = {place for it in tries for place in it.places}
+def without_proofs(crate, lost, kept):
+    """Returns empty texts for the proofs by hand of functions of some names, unless their names are among others.
+
+    With them the prover would refuse a function without its body for what they name, and wouldn't come to those that call it.
+    """
     found = {}
-    for at, _, names in os.walk(f"{crate.folder}/src"):
-        for path in (os.path.relpath(f"{at}/{it}", crate.folder) for it in names):
-            with open(f"{crate.folder}/{path}", encoding="utf-8") as it:
-                own = it.read()
-            text = with_bodies_of(texts.get(path, own), {it.name for it in places if it.file == path})
-            if text != own:
-                found[path] = text
-    return {**texts, **found}
+    for at, _, names in os.walk(f"{crate.folder}/proofs"):
+        folder = os.path.relpath(at, crate.folder)
+        parts = folder.split("/")
+        # (below `fn` are those of closures, which go by the names of what they are passed to)
+        if parts[-1] in lost - kept and "fn" not in parts:
+            found.update({f"{folder}/{it}": "" for it in OF_A_BODY if it in names})
+    return found
+
+
+def without_bodies(crate, tries, texts):
+    """Returns the texts with the changes of several edits, in which no other function of the crate has its body and its proofs."""
+    places = {place for it in tries for place in it.places}
+    found, lost, kept = {}, set(), set()
+    for at, _, files in os.walk(f"{crate.folder}/src"):
+        for path in (os.path.relpath(f"{at}/{it}", crate.folder) for it in files):
+            text = texts.get(path) or read_text(f"{crate.folder}/{path}")
+            bodies = bodies_to_lose(text, {it.name for it in places if it.file == path})
+            starts = {it.start() for it, _ in bodies}
+            lost.update(it[2] for it, _ in bodies)
+            kept.update(it[2] for it in FUNCTION.finditer(text) if it.start() not in starts and body_of(text, it))
+            if bodies:
+                found[path] = with_bodies_of(text, bodies)
+    return {**texts, **found, **without_proofs(crate, lost, kept)}
 
 
 def lines_of(text, start, indent):
@@ -180,21 +214,19 @@ def changed_place(path, text, at):
 def changes_of(edit):
     """Returns the changes of an edit: file, old text and new text."""
     path, old, found = "", "", []
-    with open(edit, encoding="utf-8") as it:
-        for line in it.read().split("\n"):
-            if line.startswith("file: "):
-                path = line.removeprefix("file: ").strip()
-            elif line.startswith("old: "):
-                old = line.removeprefix("old: ")
-            elif line.startswith("new:"):
-                found.append((path, old, line.removeprefix("new:").removeprefix(" ")))
+    for line in read_text(edit).split("\n"):
+        if line.startswith("file: "):
+            path = line.removeprefix("file: ").strip()
+        elif line.startswith("old: "):
+            old = line.removeprefix("old: ")
+        elif line.startswith("new:"):
+            found.append((path, old, line.removeprefix("new:").removeprefix(" ")))
     return found
 
 
 def clauses_to_break(edit):
     """Returns the clauses that an edit says it breaks."""
-    with open(edit, encoding="utf-8") as it:
-        return BREAKS.findall(it.read())
+    return BREAKS.findall(read_text(edit))
 
 
 class Try:
@@ -207,8 +239,7 @@ class Try:
         texts, places = {}, set()
         for path, old, new in self.changes:
             if path not in texts:
-                with open(f"{crate.folder}/{path}", encoding="utf-8") as it:
-                    texts[path] = it.read()
+                texts[path] = read_text(f"{crate.folder}/{path}")
             places.add(changed_place(path, texts[path], texts[path].find(old)))
             texts[path] = texts[path].replace(old, new)
         self.places = places
@@ -249,8 +280,7 @@ def texts_of(crate, tries):
     texts = {}
     for path, old, new in (change for it in tries for change in it.changes):
         if path not in texts:
-            with open(f"{crate.folder}/{path}", encoding="utf-8") as it:
-                texts[path] = it.read()
+            texts[path] = read_text(f"{crate.folder}/{path}")
         if texts[path].count(old) != 1:
             return None
         texts[path] = texts[path].replace(old, new)
@@ -262,8 +292,7 @@ def is_shared(crate, folder, file, name):
     path = f"{crate.folder}/{folder}/{file}"
     if file != "Answers.antt" or not os.path.isfile(path):
         return False
-    with open(path, encoding="utf-8") as it:
-        return f"\npub {name} : goal.{name}\n" not in f"\n{it.read()}"
+    return f"\npub {name} : goal.{name}\n" not in f"\n{read_text(path)}"
 
 
 def goals_in(crate, output):
@@ -312,8 +341,7 @@ def name_clause(edit, told):
     clauses = found[1].split(", ")
     clause = next((it for it in clauses if not it.endswith(" requires") and it not in WEAK), None)
     clause = clause or next((it for it in clauses if it.endswith(" requires")), None) or min(clauses, key=WEAK.index)
-    with open(edit, encoding="utf-8") as it:
-        text = it.read()
+    text = read_text(edit)
     with open(edit, "w", encoding="utf-8") as it:
         it.write(f"breaks: {clause}\n{text}")
     return True
@@ -374,7 +402,7 @@ def checked_by_functions(rt, crate, tries, texts, flags, kept):
 
 
 def try_together(rt, crate, tries, flags, kept):
-    """Tries edits of different functions in one check. Those of which it says nothing are left without an answer."""
+    """Tries edits of different functions in one check. Those of which it says nothing, or little, are left without an answer."""
     texts = texts_of(crate, tries)
     if texts is None:
         return
@@ -385,7 +413,7 @@ def try_together(rt, crate, tries, flags, kept):
     goals = goals_in(crate, LAST.said)
     for it in tries:
         said = goals_of(it.places, goals)
-        it.answer = judged(it, said) if said else None
+        it.answer = judged(it, said) if any(not SAYS_LITTLE.search(line) for _, line in said) else None
 
 
 def try_alone(rt, crate, it, flags, kept):

@@ -605,7 +605,7 @@ def edits_of_different_functions_are_tried_in_one_check(world):
     same((prover.answers(world, "a", "b", "c"), len(prover.texts[2])), ([True] * 3, 1))
 
 
-def other_functions_lose_their_bodies(world):
+def other_functions_lose_their_bodies_and_proofs(world):
     head = "fn one() {\n    q\n}\n\n"
     others = (
         # a contract before its body, an arm that does nothing, a body on several lines
@@ -617,11 +617,17 @@ def other_functions_lose_their_bodies(world):
     )
     left = others.replace("    match b {\n        0 => {}\n    }\n    d\n", "    unreachable!()\n\n\n\n").replace("    e\n", "    unreachable!()\n")
     world.put("crates/low/src/m.rt", head + others)
-    world.put("crates/low/src/n.rt", "fn one() {\n    k\n}\n")
+    world.put("crates/low/src/n.rt", "fn one() {\n    k\n}\n\nfn ten() {\n    l\n}\n")
     world.put("q.edit", "file: src/m.rt\nold: q\nnew: qq\n")
+    lost = ["m/two/Answers", "m/T/three/Answers", "m/T/three/Invariants", "n/ten/Answers"]
+    # those of the edited function's name, of what keeps its body, of closures, and what isn't of a body
+    for it in [*lost, "m/one/Answers", "n/one/Answers", "m/six/Answers", "m/eight/Answers", "m/fn/one/two/Answers", "m/two/Lemmas", "two"]:
+        world.put(f"crates/low/proofs/{it}.antt", "m = 1\n")
     prover = Prover(PROVED, failed(at(1, "returns")))
     same(prover.answers(world, "q"), [True])
-    same(prover.texts[1], {"src/m.rt": head.replace("q", "qq") + left, "src/n.rt": "fn one() {\n    unreachable!()\n}\n"})
+    body = "    unreachable!()\n"
+    code = {"src/m.rt": head.replace("q", "qq") + left, "src/n.rt": f"fn one() {{\n{body}}}\n\nfn ten() {{\n{body}}}\n"}
+    same(prover.texts[1], {**code, **{f"proofs/{it}.antt": "" for it in lost}})
 
 
 def an_edit_of_which_nothing_is_said_is_tried_alone(world):
@@ -639,8 +645,10 @@ def an_edit_has_to_break_what_it_says(world):
     world.put("a.edit", "breaks: some\nfile: src/m.rt\nold: a\nnew: aa\n")
     lost = "./proofs/m/one/Answers.antt:3:4: error: `returns-clause-some`: module has no `x` that can be named"
     for line, wanted in [(at(1, "returns-in-Ok-clause-some"), True), (at(1, "returns-clause-none"), False), (lost, False)]:
-        same((line, Prover(PROVED, failed(line)).answers(world, "a")), (line, [wanted]))
-        same((line, Prover(PROVED, failed(line, at(7, "returns"))).answers(world, "a", "b")), (line, [wanted, True]))
+        # what says little of the contract is asked again alone
+        again = [failed(line)] * (line == lost)
+        same((line, Prover(PROVED, failed(line), *again).answers(world, "a")), (line, [wanted]))
+        same((line, Prover(PROVED, failed(line, at(7, "returns")), *again).answers(world, "a", "b")), (line, [wanted, True]))
     same(Prover(PROVED, PROVED, PROVED, NOT_PROVED).answers(world, "a"), [False])
     same("it doesn't break some, but nothing that was named" in world.said, True)
 
@@ -698,7 +706,7 @@ TESTS = [
     a_function_of_another_name_is_checked_with_its_module,
     what_was_proved_is_not_checked_without_the_edits_again,
     edits_of_different_functions_are_tried_in_one_check,
-    other_functions_lose_their_bodies,
+    other_functions_lose_their_bodies_and_proofs,
     an_edit_of_which_nothing_is_said_is_tried_alone,
     an_edit_has_to_break_what_it_says,
     what_answers_share_breaks_what_they_answer,
