@@ -17,6 +17,9 @@ from dataclasses import dataclass, replace
 FUNCTION = re.compile(r"(?m)^( *)(?:pub(?:\([^)]*\))? )?(?:const )?(?:final )?fn (\w+)")
 # Where a function keeps its body: others are proved with it, or it is a test, or computed by the compiler, or has to take its value apart.
 KEEPS_ITS_BODY = re.compile(r"#\[(?:cycle|test)|\bconst fn |\bfn (?:main|drop)\b")
+# What a function without its body says, and what keeps the prover from a long search for why that might be right.
+NO_BODY = "unreachable!()"
+NO_SEARCH = "#[tactic(none)] "
 # The proofs by hand of a function's body. They name its steps.
 OF_A_BODY = ["Answers.antt", "Invariants.antt"]
 # An `impl`: its own parameters, its trait with the trait's arguments, and its type with the type's arguments.
@@ -110,13 +113,18 @@ def body_of(text, found):
     return (head.end(), end.start()) if head else None
 
 
+def lines_above(text, found):
+    """Returns the attributes and comments right above a function."""
+    lines = text[: found.start()].split("\n")[-2::-1]
+    return "\n".join(itertools.takewhile(lambda it: it.lstrip().startswith(("#[", "//")), lines))
+
+
 def bodies_to_lose(text, names):
     """Returns the functions in the text of a file that can do without their bodies, but for those of these names: for each what
     FUNCTION found of it, and where its body begins and ends."""
     found = []
     for it in FUNCTION.finditer(text):
-        above = itertools.takewhile(lambda it: it.lstrip().startswith(("#[", "//")), text[: it.start()].split("\n")[-2::-1])
-        body = None if it[2] in names or KEEPS_ITS_BODY.search("\n".join([*above, it[0]])) else body_of(text, it)
+        body = None if it[2] in names or KEEPS_ITS_BODY.search(f"{lines_above(text, it)}\n{it[0]}") else body_of(text, it)
         # (a function within another one goes with it)
         if body and (not found or body[0] > found[-1][1][1]):
             found.append((it, body))
@@ -126,9 +134,11 @@ def bodies_to_lose(text, names):
 def with_bodies_of(text, lost):
     """Returns the text of a file in which some functions have lost their bodies, with each line where it was."""
     parts, last = [], 0
-    for found, body in lost:
-        parts += [text[last : body[0]], f"\n{found[1]}    unreachable!()", "\n" * (text.count("\n", *body) - 1)]
-        last = body[1]
+    for found, (begin, end) in lost:
+        head = found.end(1)
+        says = "" if "tactic(" in lines_above(text, found) else NO_SEARCH
+        parts += [text[last:head], says, text[head:begin], f"\n{found[1]}    {NO_BODY}", "\n" * (text.count("\n", begin, end) - 1)]
+        last = end
     return "".join([*parts, text[last:]])
 
 

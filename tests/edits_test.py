@@ -616,8 +616,10 @@ def other_functions_lose_their_bodies_and_proofs(world):
         "#[cycle(odd)]\n/// Says eight.\nfn eight() {\n    g\n}\n\nimpl Drop for T {\n    fn drop(self) {\n        h\n    }\n}\n"
     )
     left = others.replace("    match b {\n        0 => {}\n    }\n    d\n", "    unreachable!()\n\n\n\n").replace("    e\n", "    unreachable!()\n")
+    left = left.replace("pub fn two", "#[tactic(none)] pub fn two").replace("fn three", "#[tactic(none)] fn three")
     world.put("crates/low/src/m.rt", head + others)
-    world.put("crates/low/src/n.rt", "fn one() {\n    k\n}\n\nfn ten() {\n    l\n}\n")
+    ten = "#[tactic(auto, using(o))]\nfn ten() {\n"
+    world.put("crates/low/src/n.rt", f"fn one() {{\n    k\n}}\n\n{ten}    l\n}}\n")
     world.put("q.edit", "file: src/m.rt\nold: q\nnew: qq\n")
     lost = ["m/two/Answers", "m/T/three/Answers", "m/T/three/Invariants", "n/ten/Answers"]
     # those of the edited function's name, of what keeps its body, of closures, and what isn't of a body
@@ -626,7 +628,7 @@ def other_functions_lose_their_bodies_and_proofs(world):
     prover = Prover(PROVED, failed(at(1, "returns")))
     same(prover.answers(world, "q"), [True])
     body = "    unreachable!()\n"
-    code = {"src/m.rt": head.replace("q", "qq") + left, "src/n.rt": f"fn one() {{\n{body}}}\n\nfn ten() {{\n{body}}}\n"}
+    code = {"src/m.rt": head.replace("q", "qq") + left, "src/n.rt": f"#[tactic(none)] fn one() {{\n{body}}}\n\n{ten}{body}}}\n"}
     same(prover.texts[1], {**code, **{f"proofs/{it}.antt": "" for it in lost}})
 
 
