@@ -1,6 +1,7 @@
 mod Standing
 mod Digits
 mod FaultLines
+mod Flushing
 mod Trials
 mod Failures
 mod Reported

@@ -44,6 +44,9 @@ pub record World (S F P A L : Type 0) : Type 1 where
   pub stopped : L → Bool → Type 0
   -- of which replica it was said whether a stopped run isn't brought to its end there
   pub awaits : List ℕ → Bool → Type 0
+  -- below which root what stood at a path has reached the device, and the directories in which it stood
+  pub is_flushed : List ℕ → Path → Type 0
+  pub is_flushed_above : List ℕ → Path → Type 0
 
 abbrev pub world : {R File F S Way P L A Opened : Type 0} → disks.Ghosts R File F S Way P L A Opened → sites.Ghosts S → folders.Ghosts F File → stages.Ghosts P
     → World S F P A L
@@ -65,4 +68,6 @@ world disk site folder stage = record {
   knows = disk.knows;
   stopped = disk.stopped;
   awaits = disk.awaits;
+  is_flushed = disk.is_flushed;
+  is_flushed_above = disk.is_flushed_above;
 }

@@ -10,6 +10,7 @@ ghost use Rattle.ts_perform.specs.Puts.{put_path, put_paths};
 ghost use Rattle.ts_perform.specs.Runs.{HasKept};
 ghost use Rattle.ts_perform.specs.Stands.{AreAtStands, source_root, target_root};
 ghost use Rattle.ts_perform.specs.Trials.{IsQuiet};
+ghost use Rattle.ts_perform.specs.Agreed.{HasFlushed};
 ghost use Rattle.ts_perform.specs.Runs.{IsRunFor};
 ghost use Rattle.ts_perform.specs.Worlds.{world};
 
@@ -52,6 +53,7 @@ pub(crate) fn act<R: Machine>(
     ensures ended { IfOk result (λ came. HasEnded checked.now (words_of came.0.closed)) }
     ensures stands { IfOk result (λ came. IsRunFor (world R.Disk R.Site.Site R.Folder.Folder R.Stage.Stage)
         task.now.pair.now checked.now came.0) }
+    ensures flushed { IfOk result (λ _. HasFlushed (world R.Disk R.Site.Site R.Folder.Folder R.Stage.Stage) task.now.pair.now checked.now) }
     ensures quiet { IfErr result IsQuiet }
 {
     let Task {

@@ -1,5 +1,6 @@
 //! The file system as commands see it.
 ghost use Rattle.std.specs.Prelude.{◌≡◌, ℕ, Bool, List, Option, IfErr, IfOk, IsTrue, OnOk, option_map};
+ghost use Rattle.std.specs.List.{All};
 ghost use Rattle.ts_cause.specs.declared.cause.Cause.{Cause};
 ghost use Rattle.ts_model.specs.declared.row.Row.{Row};
 ghost use Rattle.ts_model.specs.declared.row.Stamp.{Stamp};
@@ -94,6 +95,12 @@ pub trait Disk {
 
     // Whether it was said of the replica with this root that a stopped run isn't brought to its end there.
     ghost awaits: { List ℕ → Bool → Type 0 };
+
+    // What stood at this path below this root has reached the device, as far as it was changed lately.
+    ghost is_flushed: { List ℕ → List (List ℕ) → Type 0 };
+
+    // The directories in which it stood have.
+    ghost is_flushed_above: { List ℕ → List (List ℕ) → Type 0 };
 
     // What was found by this name: nothing, or a file, with its bytes where it tells them.
     ghost finds: { List ℕ → Option (Option (List ℕ)) → Type 0 };
@@ -239,7 +246,8 @@ pub trait Disk {
         paths: &[&Path],
         workers: u32,
     ) -> Result<(), DiskFault>
-        requires { IsSync T.row };
+        requires { IsSync T.row }
+        ensures flushed { IfOk result (λ _. All (λ path. is_flushed root.now path.now) paths.now) };
 
     /// Waits until the directories in which these paths of a replica stand have reached the device.
     fn flush_above<T: Threads + Sync>(
@@ -250,7 +258,8 @@ pub trait Disk {
         paths: &[&Path],
         workers: u32,
     ) -> Result<(), DiskFault>
-        requires { IsSync T.row };
+        requires { IsSync T.row }
+        ensures flushed { IfOk result (λ _. All (λ path. is_flushed_above root.now path.now) paths.now) };
 
     /// The same by the calling thread, while others are at work.
     fn flush_alone(&self, alloc: Global, root: &str, paths: &[&Path]) -> Result<(), DiskFault>;
@@ -293,6 +302,10 @@ impl Disk for HostRuntime {
     ghost stopped = { λ _ _. ⊤ };
 
     ghost awaits = { λ _ _. ⊤ };
+
+    ghost is_flushed = { λ _ _. ⊤ };
+
+    ghost is_flushed_above = { λ _ _. ⊤ };
 
     ghost finds = { λ _ _. ⊤ };
 

@@ -28,6 +28,7 @@ returns-in-Ok g c =
             words = words;
             slots = slots_of c.in-Ok.outcome.closed;
             run = rw same_results (rw same_words c.in-Ok.ensures.stands);
+            flushed = rw same c.in-Ok.ensures.flushed;
             archive = kept_in g.R.Disk.is_named g.R.Disk.has came.checkup words c.keep_archive-kept.new.place c.args.self.now.pair.now.archive.now c.keep_archive-kept.result
                 c.keep_archive-kept.ensures.named c.keep_archive-kept.ensures.kept;
           };
