@@ -105,6 +105,10 @@ pub kept_in : {A B : Type 0} (is_named : A → List ℕ → Type 0) (has : A →
 kept_in is_named has k words place name (Ok x) named is = (place, named, is)
 kept_in is_named has k words place name (Err e) named is = tt
 
+pub unlost : {B : Type 0} (P : Type 0) (kept : Result B PerformFault) → OnOk kept P → IfNone (lost_by kept) P
+unlost P (Ok x) is = is
+unlost P (Err e) is = tt
+
 -- ---- what commands answer
 
 -- a fault that is told for another calls just the same plan broken

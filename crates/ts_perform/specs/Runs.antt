@@ -63,7 +63,7 @@ use Rattle.ts_explain.specs.Faults.{fault_line, fault_number}
 use Rattle.ts_explain.specs.Lines.{BeginsLines, fault_lines, sentence_lines, with_sentence}
 use Rattle.ts_explain.specs.Sentences.{sentence_of}
 use Rattle.ts_explain.specs.declared.skipped.Skipped.{Skipped}
-use Rattle.ts_perform.specs.Agreed.{HasFlushed}
+use Rattle.ts_perform.specs.Agreed.{HasFlushed, HasFlushedPut}
 use Rattle.ts_perform.specs.Failures.{failure_text, notice_text}
 use Rattle.ts_perform.specs.Faults.{kept_line, mount_line}
 use Rattle.ts_perform.specs.Inputs.{IsReadAt, IsSeenFor}
@@ -208,7 +208,7 @@ IsRunFor w pair checkup outcome =
 
 -- the plan is valid for the archive and the rules that were read for the pair, and the scans of its replicas; the results are those of
 -- one run of it, whose commits were made where they stand; what both agree on had been flushed in both; and the archive that this run left was
--- written in the place that has its name, unless it is lost
+-- written in the place that has its name, once what it newly names was flushed in both, unless it is lost
 pub record IsCarriedOut {S F P A L : Type 0} (w : World S F P A L) (pair : Pair) (came : Came) : Type 0 where
   pub seen : IsSeenFor w pair came.checkup.archive came.checkup.rules came.checkup.first came.checkup.second
   pub valid : Valid (snapshot_of came.checkup) came.checkup.plan
@@ -218,6 +218,7 @@ pub record IsCarriedOut {S F P A L : Type 0} (w : World S F P A L) (pair : Pair)
   pub run : IsRunOf w pair.first.now pair.second.now came.checkup came.results words slots
   pub flushed : HasFlushed w pair came.checkup
   pub archive : IfNone came.lost ((place : A) × w.is_named place pair.archive.now × HasKept w.has came.checkup words place)
+  pub put : IfNone came.lost (HasFlushedPut w pair came.checkup.plan came.results)
 
 -- the same of this plan, with what it was checked against
 pub record IsCarriedOutFor {S F P A L : Type 0} (w : World S F P A L) (k : Checkup) (pair : Pair) (came : Came) : Type 0 where

@@ -10,11 +10,11 @@ ghost use Rattle.ts_perform.specs.Puts.{put_path, put_paths};
 ghost use Rattle.ts_perform.specs.Runs.{HasKept};
 ghost use Rattle.ts_perform.specs.Stands.{AreAtStands, source_root, target_root};
 ghost use Rattle.ts_perform.specs.Trials.{IsQuiet};
-ghost use Rattle.ts_perform.specs.Agreed.{HasFlushed};
+ghost use Rattle.ts_perform.specs.Agreed.{AreFlushedInBoth, HasFlushed, HasFlushedPut};
 ghost use Rattle.ts_perform.specs.Runs.{IsRunFor};
 ghost use Rattle.ts_perform.specs.Worlds.{world};
 
-use crate::agreed::flush_agreed;
+use crate::agreed::{flush_agreed, flush_around};
 use crate::counting::{Folders, run_counted};
 use crate::disk::{Disk, Machine};
 use crate::fault::{PerformFault, Subject, of_disk, replica_on};
@@ -158,6 +158,7 @@ pub(crate) fn keep_archive<R: Machine>(
     requires ended { HasEnded checked.now (slots_items closed.row.words) }
     ensures kept { OnOk result (HasKept R.has checked.now (words_of closed) place.new) }
     ensures named { OnOk result (R.is_named place.new task.now.pair.now.archive.now) }
+    ensures put { OnOk result (HasFlushedPut (world R.Disk R.Site.Site R.Folder.Folder R.Stage.Stage) task.now.pair.now checked.now.plan results.now) }
 {
     let Task { rt, pair, .. } = task;
     let alloc = rt.alloc();
@@ -183,23 +184,26 @@ fn flush_put<R: Machine>(
     results: &[ActionResult],
 ) -> Result<(), PerformFault>
     requires count { length results.now ≡ length plan.now.actions }
+    ensures flushed { IfOk result (λ _. HasFlushedPut (world R.Disk R.Site.Site R.Folder.Folder R.Stage.Stage) task.now.pair.now plan.now results.now) }
 {
-    let Task {
-        rt,
-        pair,
-        workers,
-        ..
-    } = task;
-    let alloc = rt.alloc();
-    for into in [Side::First, Side::Second] {
-        let paths = paths_put(alloc, plan, results, into)?;
-        for side in [Side::First, Side::Second] {
-            let root = replica(*pair, side).root;
-            rt.flush_above(*rt, alloc, root, paths.as_slice(), *workers)
-                .map_err(|fault| of_disk(fault, replica_on(side)))?;
-        }
-    }
-    Ok(())
+    flush_put_into(task, plan, results, Side::First)?;
+    flush_put_into(task, plan, results, Side::Second)
+}
+
+/// The same of what was put in place in one replica.
+fn flush_put_into<R: Machine>(
+    task: &Task<'_, R>,
+    plan: &Plan,
+    results: &[ActionResult],
+    into: Side,
+) -> Result<(), PerformFault>
+    requires count { length results.now ≡ length plan.now.actions }
+    ensures flushed { IfOk result (λ _. AreFlushedInBoth R.is_flushed_above task.now.pair.now
+        (put_paths into plan.now.entries plan.now.actions results.now)) }
+{
+    let paths = paths_put(task.rt.alloc(), plan, results, into)?;
+    flush_around(task, Side::First, paths.as_slice())?;
+    flush_around(task, Side::Second, paths.as_slice())
 }
 
 /// The paths of the entries that were put in place in a replica.

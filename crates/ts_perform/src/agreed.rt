@@ -122,7 +122,7 @@ fn flush_at<R: Machine>(task: &Task<'_, R>, side: Side, paths: &[&Path]) -> Resu
 }
 
 /// Flushes the directories of a replica in which the paths of these entries stand.
-fn flush_around<R: Machine>(
+pub(crate) fn flush_around<R: Machine>(
     task: &Task<'_, R>,
     side: Side,
     entries: &[&Path],

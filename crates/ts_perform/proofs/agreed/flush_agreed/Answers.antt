@@ -3,7 +3,7 @@ use Rattle.std.proofs.lemmas.Result.{IfOk-weaker}
 use Rattle.std.specs.List.{All}
 use Rattle.ts_model.specs.declared.plan.Plan.{Plan}
 use Rattle.ts_model.specs.declared.plan.Side.TheVariants.{First, Second}
-use Rattle.ts_perform.specs.Agreed.{AreFlushed, AreFlushedAbove, agreed_entries, root_of}
+use Rattle.ts_perform.specs.Agreed.{AreFlushed, AreFlushedInBoth, agreed_entries, root_of}
 use Rattle.ts_perform.proofs.Flushing.{all_listed}
 use Rattle.ts_perform.proofs.agreed.flush_agreed.Goals as goal
 
@@ -16,7 +16,7 @@ returns-clause-flushed g c =
     let listed : map (λ p. p.now) paths ≡ entries = ap (λ l. map (λ p. p.now) l) c.as_slice.ensures.value ∙ is in
     let other : map (λ p. p.now) others ≡ entries = ap (λ l. map (λ p. p.now) l) c.as_slice-2.ensures.value ∙ is in
     IfOk-weaker c.flush_around-2.result (λ _. All (λ p. second p.now) others)
-    (λ _. AreFlushed g.R.Disk.is_flushed pair checked.plan.entries checked.first checked.second × AreFlushedAbove g.R.Disk.is_flushed_above pair checked.plan.entries)
+    (λ _. AreFlushed g.R.Disk.is_flushed pair checked.plan.entries checked.first checked.second × AreFlushedInBoth g.R.Disk.is_flushed_above pair entries)
     (λ _ all. (
       c.in_ok-flush_existing.ensures.flushed,
       (

@@ -6,7 +6,7 @@ use Rattle.ts_check.specs.Verdict.{IsSafe}
 use Rattle.ts_model.specs.Plans.{Valid}
 use Rattle.ts_perform.specs.Runs.{Came, lost_by}
 use Rattle.ts_perform.specs.Snapshots.{checkup_of}
-use Rattle.ts_perform.proofs.Reported.{kept_in, reported, unchecked_right}
+use Rattle.ts_perform.proofs.Reported.{kept_in, reported, unchecked_right, unlost}
 use Rattle.ts_perform.proofs.task.Task.carry_out.Goals as goal
 
 pub returns-in-Ok : goal.returns-in-Ok
@@ -28,9 +28,10 @@ returns-in-Ok g c =
             words = words;
             slots = slots_of c.in-Ok.outcome.closed;
             run = rw same_results (rw same_words c.in-Ok.ensures.stands);
-            flushed = rw same c.in-Ok.ensures.flushed;
+            flushed = c.in-Ok.ensures.flushed;
             archive = kept_in g.R.Disk.is_named g.R.Disk.has came.checkup words c.keep_archive-kept.new.place c.args.self.now.pair.now.archive.now c.keep_archive-kept.result
                 c.keep_archive-kept.ensures.named c.keep_archive-kept.ensures.kept;
+            put = unlost _ c.keep_archive-kept.result (rw (← c.as_slice-results.ensures) c.keep_archive-kept.ensures.put);
           };
         },
         reported c.args.self.now.command.now came (g.O.Sink.holds c.args.out.now) (g.O.Sink.holds c.report_all-told.new.out) (g.E.Sink.holds c.args.err.now) (g.E.Sink.holds c.report_all-told.new.err) c.report_all-told.result c.unwrap_or.result
