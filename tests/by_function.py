@@ -71,9 +71,13 @@ class Place:
         return bool(self.name) and file == self.file and self.first <= line <= self.last
 
     def is_proved_in(self, folder):
-        """Whether a folder of proofs is the function's: its path has the module, for a method the block, and the name."""
-        parts = folder.split("/")
-        return bool(self.name) and parts[-1] == self.name and (not self.owner or self.owner in parts)
+        """Whether a folder of proofs is the function's. For a method its path ends in the block and the name, since its module is
+        that of the type, which may stand in another file; else it has just the module and the name."""
+        parts = folder.split("/")[1:]
+        if self.owner:
+            return parts[-2:] == [self.owner, self.name]
+        module = module_of(self.file) if self.file else None
+        return bool(self.name) and parts == [*(module.split("::") if module else []), self.name]
 
     def without(self, path):
         """Returns the place as it is to be checked where rattle has nothing of this path: with its module, or else with all."""

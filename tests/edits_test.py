@@ -488,6 +488,14 @@ def an_impl_is_named_as_rattle_names_it(_world):
         same((head, place.only, place.owner), (head, f"{wanted}::one" if wanted else "m", wanted))
     [mine, other] = [place_in(f"impl From<{it}> for Fault") for it in ("Lost", "Late")]
     same([it.is_proved_in("proofs/m/FaultFromLost/one") for it in (mine, other)], [True, False])
+    same([mine.is_proved_in(f"proofs/{it}") for it in ("n/FaultFromLost/one", "FaultFromLost/one/m", "m/one")], [True, False, False])
+
+
+def what_is_said_of_another_function_of_the_name_is_not_said_of_it(_world):
+    for path, own in [("src/m/n.rt", "m/n/one"), ("src/lib.rt", "one")]:
+        place = by_function.Place(None, path, "one", "", 1, 3)
+        found = [it for it in ("one", "m/one", "m/n/one", "m/n/P/one", "n/one", "m/n/two") if place.is_proved_in(f"proofs/{it}")]
+        same((path, found), (path, [own]))
 
 
 class Prover:
@@ -704,6 +712,7 @@ TESTS = [
     libraries_without_a_stamp_have_to_be_newer_than_their_sources,
     the_changed_function_is_named,
     an_impl_is_named_as_rattle_names_it,
+    what_is_said_of_another_function_of_the_name_is_not_said_of_it,
     a_function_is_checked_before_its_crate,
     a_function_of_another_name_is_checked_with_its_module,
     what_was_proved_is_not_checked_without_the_edits_again,
