@@ -430,6 +430,18 @@ def try_together(rt, crate, tries, flags, kept):
         it.answer = judged(it, said) if any(not SAYS_LITTLE.search(line) for _, line in said) else None
 
 
+def said_unedited(rt, crate, edits, flags):
+    """Makes the checks in which a crate's edits are tried together, without the edits, and returns those of whose functions the
+    prover says something even so. Whatever is put into these functions would count as refused."""
+    judge_by_functions(rt)
+    found = []
+    for part in rounds_of([Try(crate, edit) for edit in edits]):
+        if checked_by_functions(rt, crate, part, without_bodies(crate, part, {}), flags, None) is not None:
+            goals = goals_in(crate, LAST.said)
+            found += [it.edit for it in part if goals_of(it.places, goals)]
+    return found
+
+
 def try_alone(rt, crate, it, flags, kept):
     """Tries an edit alone: by its functions over what was proved, and where they don't refuse it by a whole check from nothing."""
     is_refused, text = False, ""

@@ -12,6 +12,8 @@ usage: tests/edits.py                  tries the named edits, those that have no
        tests/edits.py --look           says which edits these are, and tries none
        tests/edits.py --try CRATE ..   tries all edits of these crates
        tests/edits.py --try-all        tries all edits, which takes hours
+       tests/edits.py --unedited CRATE ..   makes the checks in which these crates' edits are tried together, without the edits: then
+                                       the prover has to say nothing of their functions, or it would refuse any edit in them
 
 An edit that is tried by hand and has no line `breaks: CLAUSE` gets one, with a clause that the prover named; where it only named
 a stored proof, the edit says little of the contract and gets none.
@@ -413,15 +415,32 @@ class Trial:
             repository.record.keep(seen)
 
 
+class Unedited(Trial):
+    """Makes the checks of a trial without its edits. What is said of a function then says nothing of any edit in it."""
+
+    def attempt(self, crate, edits, given):
+        lacking = [it.name for it in crate.below() if not given.get((it.name, "proof"), True)]
+        said = [] if lacking else by_function.said_unedited(self.rt, crate, [it.file for it in edits], ["--jobs", "1"])
+        wrong = f"{lacking[0]} isn't proved" if lacking else "the prover says something of its function without it"
+        right = "nothing is said of its function without it"
+        self.note([(it, False, f"{it.key}: {wrong}") if lacking or it.file in said else (it, True, f"{it.key}: {right}") for it in edits], {})
+
+
+def crates_named(repository, names):
+    """Returns the names of crates, where crates.txt has them all."""
+    unknown = sorted({*names} - {*repository.crates})
+    if unknown:
+        raise SystemExit(f"tests/edits.py: crates.txt has no crate {unknown[0]}")
+    return names
+
+
 def chosen(repository, words):
     """Returns the edits to try: those without a record that fits, and others that stand on theirs."""
     if words == ["--try-all"]:
         return repository.edits, []
     if words[:1] == ["--try"]:
-        unknown = sorted({*words[1:]} - {*repository.crates})
-        if unknown:
-            raise SystemExit(f"tests/edits.py: crates.txt has no crate {unknown[0]}")
-        return [it for it in repository.edits if it.crate in words[1:]], []
+        names = crates_named(repository, words[1:])
+        return [it for it in repository.edits if it.crate in names], []
     standing = [it for it in repository.standing() if it.key not in repository.named]
     keys = {it.key for it in standing}
     return [it for it in repository.edits if it.key not in keys], repository.sample(standing)
@@ -498,16 +517,27 @@ def look(repository):
     return 1 if wrong else 0
 
 
+def make_unedited(repository, names):
+    """Makes the checks of some crates' edits without the edits, and says of how many functions the prover says nothing, as it has to."""
+    names = crates_named(repository, names)
+    trial = Unedited(repository, [it for it in repository.edits if it.crate in names])
+    trial.run()
+    print(f"{len(trial.refused)} passed, {len(trial.failed)} failed")
+    return 1 if trial.failed else 0
+
+
 def main(words):
     is_after_ci = words == ["--after-ci"]
     words = [] if is_after_ci else words
-    if words not in ([], ["--look"], ["--try-all"]) and (words[0] != "--try" or len(words) == 1):
+    if words not in ([], ["--look"], ["--try-all"]) and (words[0] not in ("--try", "--unedited") or len(words) == 1):
         print(__doc__, file=sys.stderr)
         return 2
     os.chdir(TOP)
     repository = Repository(load_rt(), TOP, is_after_ci)
     if words == ["--look"]:
         return look(repository)
+    if words[:1] == ["--unedited"]:
+        return make_unedited(repository, words[1:])
     passed, failed = step(repository, words)
     print(f"{passed} passed, {failed} failed")
     return 1 if failed else 0

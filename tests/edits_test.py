@@ -650,6 +650,18 @@ def an_edit_of_which_nothing_is_said_is_tried_alone(world):
     same(prover.answers(world, "a", "b"), [True, True])
 
 
+def what_is_said_without_the_edits_is_found(world):
+    put_functions(world)
+    crate = RT.rtlib.crates_below(world.root)[0]
+    prover, was = Prover(failed(at(7, "returns"))), RT.checked
+    RT.checked = prover.checked
+    try:
+        found = by_function.said_unedited(RT, crate, [f"{world.root}/{it}.edit" for it in "ab"], [])
+    finally:
+        RT.checked = was
+    same((found, prover.texts, prover.flags), ([f"{world.root}/b.edit"], [{}], [["T::two", "m::one"]]))
+
+
 def an_edit_has_to_break_what_it_says(world):
     put_functions(world)
     world.put("a.edit", "breaks: some\nfile: src/m.rt\nold: a\nnew: aa\n")
@@ -719,6 +731,7 @@ TESTS = [
     edits_of_different_functions_are_tried_in_one_check,
     other_functions_lose_their_bodies_and_proofs,
     an_edit_of_which_nothing_is_said_is_tried_alone,
+    what_is_said_without_the_edits_is_found,
     an_edit_has_to_break_what_it_says,
     what_answers_share_breaks_what_they_answer,
 ]
