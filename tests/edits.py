@@ -1,13 +1,13 @@
 #!/usr/bin/env python3
 """The edits that the prover must refuse: tests/edits/CRATE/NAME.edit.
 
-Those that docs/WRONG_BODIES.md names are tried on each run. The others are tried where something that their check reads has
-changed. Refusals that were seen are kept in tests/edits.record. A line there has an edit, the kit that refused it, and a digest
+Of each line of docs/WRONG_BODIES.md one that it names is tried on each run, another one for each commit. The others are tried
+where something that their check reads has changed. Refusals that were seen are kept in tests/edits.record. A line there has an edit, the kit that refused it, and a digest
 of all that its check reads: the edit, the files of its crate, the statements of the crates below it, their lines of crates.txt,
 and what the kit was made from. While the digest stays the same the answer does too, and the edit stands on its record. An edit
 has a line for each kit that it was tried with, since machines have different ones. Only this program writes the record.
 
-usage: tests/edits.py                  tries the named edits, those that have no record, and ten of the others
+usage: tests/edits.py                  tries a named edit of each line, those that have no record, and ten of the others
        tests/edits.py --after-ci       the same, right after `rt ci` has proved each crate, over the libraries that it left
        tests/edits.py --look           says which edits these are, and tries none
        tests/edits.py --try CRATE ..   tries all edits of these crates
@@ -19,7 +19,7 @@ An edit that is tried by hand and has no line `breaks: CLAUSE` gets one, with a 
 a stored proof, the edit says little of the contract and gets none.
 
 Every edit has to apply, every name has to have an edit, and so has every line of the record. The ten are chosen by the
-commit. Libraries that aren't built, or that are older than their sources, are built first. The gate tries the named edits and
+commit. Libraries that aren't built, or that are older than their sources, are built first. The gate tries the named ones and
 the ten first, and begins no other once it has tried edits for 30 minutes, or 75 minutes after it began itself: those that it
 doesn't come to it lists, and counts neither as passed nor as failed.
 """
@@ -57,7 +57,7 @@ LAST_SECOND = 75 * 60
 MOST_IN_A_LANE = 24
 NAME = re.compile(r"[A-Za-z0-9_-][A-Za-z0-9_.-]*\.edit")
 LINE = re.compile(r"(\w+/\S+\.edit) (\S+) ([0-9a-f]{64})")
-# A wrong body that has to be refused on each run, as docs/WRONG_BODIES.md names its edit.
+# An edit as a line of docs/WRONG_BODIES.md names it in its second column.
 NAMED = re.compile(r"`(\w+/\w+)`")
 # The crates of laws: their functions have empty bodies, so an edit there turns a statement.
 LAWS = ("ts_laws", "ts_text_laws")
@@ -201,13 +201,30 @@ class Repository:
         self.record = Record(f"{root}/tests/edits.record", name_of_kit(rt))
         self.printing = threading.Lock()
         self.edits, self.faults = self.find_edits()
-        self.named = self.find_named()
+        self.wrong_bodies = self.find_wrong_bodies()
 
-    def find_named(self):
-        """Returns the keys of the edits that docs/WRONG_BODIES.md names."""
+    def find_wrong_bodies(self):
+        """Returns the keys of the edits that docs/WRONG_BODIES.md names, those of each line together."""
         page = f"{self.root}/docs/WRONG_BODIES.md"
         text = read_bytes(page).decode() if os.path.isfile(page) else ""
-        return {f"{it}.edit" for it in NAMED.findall(text) if it.split("/")[0] in self.crates}
+        lines = ([f"{it}.edit" for it in NAMED.findall(line) if it.split("/")[0] in self.crates] for line in text.split("\n"))
+        return [it for it in lines if it]
+
+    def named(self):
+        """Returns the keys of all edits that docs/WRONG_BODIES.md names."""
+        return {key for keys in self.wrong_bodies for key in keys}
+
+    def due(self):
+        """Returns the keys of the named edits that this run has to try, one of each line: over time, each."""
+        at = self.place_for_commit()
+        return {min(keys, key=at) for keys in self.wrong_bodies}
+
+    def place_for_commit(self):
+        """Returns what puts keys of edits in an order, another one for each commit."""
+        # (the repository may belong to another user than the one who runs the gate)
+        words = ["git", "-c", f"safe.directory={self.root}", "-C", self.root, "rev-parse", "HEAD"]
+        commit = subprocess.run(words, stdout=subprocess.PIPE, text=True, check=True).stdout.strip()
+        return lambda key: hashlib.sha256((commit + key).encode()).digest()
 
     def find_edits(self):
         """Returns the edits that apply, and by its key why another one doesn't."""
@@ -242,13 +259,8 @@ class Repository:
 
     def sample(self, edits):
         """Returns some of the edits, others for each commit, so that over time each is tried again. They are of few crates."""
-        if not edits:
-            return []
-        # (the repository may belong to another user than the one who runs the gate)
-        words = ["git", "-c", f"safe.directory={self.root}", "-C", self.root, "rev-parse", "HEAD"]
-        commit = subprocess.run(words, stdout=subprocess.PIPE, text=True, check=True).stdout.strip()
-        by_crate = {}
-        for it in sorted(edits, key=lambda it: hashlib.sha256((commit + it.key).encode()).digest()):
+        at, by_crate = self.place_for_commit(), {}
+        for it in sorted(edits, key=lambda it: at(it.key)):
             by_crate.setdefault(it.crate, []).append(it)
         return [it for some in by_crate.values() for it in some[:FROM_A_CRATE]][:SAMPLE]
 
@@ -435,13 +447,14 @@ def crates_named(repository, names):
 
 
 def chosen(repository, words):
-    """Returns the edits to try: those without a record that fits, and others that stand on theirs."""
+    """Returns the edits to try: those that are due or have no record that fits, and others that stand on theirs."""
     if words == ["--try-all"]:
         return repository.edits, []
     if words[:1] == ["--try"]:
         names = crates_named(repository, words[1:])
         return [it for it in repository.edits if it.crate in names], []
-    standing = [it for it in repository.standing() if it.key not in repository.named]
+    due = repository.due()
+    standing = [it for it in repository.standing() if it.key not in due]
     keys = {it.key for it in standing}
     return [it for it in repository.edits if it.key not in keys], repository.sample(standing)
 
@@ -450,7 +463,7 @@ def faults_of(repository):
     """Prints what is wrong with the edits and the record before any is tried, and returns how many things that are."""
     found = [f"{key}: {why}" for key, why in sorted(repository.faults.items())] + repository.record.faults
     found += [f"{key}: the record names it, and there is no such edit" for key in repository.unknown()]
-    missing = sorted(repository.named - {it.key for it in repository.edits} - {*repository.faults})
+    missing = sorted(repository.named() - {it.key for it in repository.edits} - {*repository.faults})
     found += [f"{key}: docs/WRONG_BODIES.md names it, and there is no such edit" for key in missing]
     for it in found:
         print(it)
@@ -472,7 +485,8 @@ def step(repository, words):
     wrong = faults_of(repository)
     until = None if is_by_hand else last_begin()
     new, again = chosen(repository, words)
-    first = [it for it in new if it.key in repository.named] + again
+    due = repository.due()
+    first = [it for it in new if it.key in due] + again
     keys = {it.key for it in first}
     others = [it for it in new if it.key not in keys]
     trials = [Trial(repository, first, names_clauses=is_by_hand), Trial(repository, others, until, is_by_hand)]
@@ -507,8 +521,9 @@ def look(repository):
     """Says which edits the gate would try."""
     wrong = faults_of(repository)
     new, again = chosen(repository, [])
+    due = repository.due()
     for edit in new:
-        print(f"{'a named wrong body' if edit.key in repository.named else 'no record'}: {edit.key}")
+        print(f"{'a named wrong body' if edit.key in due else 'no record'}: {edit.key}")
     for edit in again:
         print(f"in the sample: {edit.key}")
     others = len(repository.edits) - len(new) - len(again)

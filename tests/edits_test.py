@@ -268,12 +268,20 @@ def what_is_not_refused_fails_and_loses_its_record(world):
         same((world.run(), world.asked), ((4, 0), ["high/b.edit"]))
 
 
-def a_named_edit_is_tried_on_each_run(world):
-    world.put("docs/WRONG_BODIES.md", "| wrong | `low/a`, `high/c` | `low::f`; `result` |\n")
+def a_named_edit_of_each_line_is_tried_on_each_run(world):
+    world.put("docs/WRONG_BODIES.md", "| wrong | `low/a`, `high/c` | `low::f`; `result` |\n| worse | `other/d` | `other::f` |\n")
     same((world.run(), sorted(world.asked)), ((4, 0), ALL))
-    same((world.run(), sorted(world.asked)), ((4, 0), ALL[1:3]))
+    seen = set()
+    for _ in range(20):
+        world.commit()
+        same((world.run(), len(world.asked), "other/d.edit" in world.asked), ((4, 0), 2, True))
+        seen.update(world.asked)
+    same(sorted(seen), ALL[1:])
+    asked = world.asked
+    world.run()
+    same(world.asked, asked)
     same((world.run(sample=1), len(world.asked)), ((4, 0), 3))
-    world.put("docs/WRONG_BODIES.md", "| wrong | `low/a`, `high/gone` |\n")
+    world.put("docs/WRONG_BODIES.md", "| wrong | `low/a` | |\n| worse | `high/gone` | |\n")
     same((world.run(), world.asked), ((4, 1), ALL[2:3]))
     same("high/gone.edit: docs/WRONG_BODIES.md names it" in world.said, True)
 
@@ -707,7 +715,7 @@ TESTS = [
     the_sample_is_another_one_for_each_commit,
     the_sample_is_of_few_crates,
     what_is_not_refused_fails_and_loses_its_record,
-    a_named_edit_is_tried_on_each_run,
+    a_named_edit_of_each_line_is_tried_on_each_run,
     what_there_is_no_time_for_is_listed_and_not_counted,
     a_gate_that_began_long_ago_tries_the_named_edits_alone,
     a_record_of_no_edit_fails,
