@@ -1,10 +1,11 @@
 #!/usr/bin/env python3
 """Says which functions of a crate the prover takes longest for.
 
-Each module that a check has read it writes to a file, one after another, so what the check has taken of a processor when a file
-comes tells how long that module took. Most of it goes into what a function borrows and drops (`Lts`): that grows with the values
-that are dropped where a `?` may end it, with all that their types are made of. What helps is a function of its own for what is
-done with such a value, or an `impl Drop` written out in the place of a derived one, where the type has enums among its parts.
+Each module that a check has read it writes to a file, one after another, so when a file was written, and what the check has taken
+of a processor by then, tells how long that module took. Most of it goes into what a function borrows and drops (`Lts`): that grows
+with the values that are dropped where a `?` may end it, with all that their types are made of. What helps is a function of its own
+for what is done with such a value, or an `impl Drop` written out in the place of a derived one, where the type has enums among its
+parts.
 
 usage: tools/slow.py CLONE CRATE [COUNT] [--test]
        checks the crate from nothing over the libraries that another clone has built, by one processor, and lists the COUNT
@@ -123,20 +124,32 @@ def spent_by(process):
     return ticks / os.sysconf("SC_CLK_TCK")
 
 
+def shared(spent, began, modules):
+    """Shares seconds of a processor among modules, each a file's name and when it was written, by how long each took since the one
+    before it by the clock, the first one since `began`. Returns the names with the seconds, and when the last one was written."""
+    took = []
+    for name, written in sorted(modules, key=lambda it: it[1]):
+        took.append((name, max(written - began, 0)))
+        began = max(written, began)
+    whole = sum(seconds for _, seconds in took)
+    return [(name, spent * seconds / whole if whole else spent / len(took)) for name, seconds in took], began
+
+
 def measured(kept, words):
     """Makes a check that keeps its modules below a folder. Returns its status, what it printed, and each module's file with the
-    seconds of a processor since the one before it, and its bytes; modules that came between two looks share theirs."""
-    found, modules, before = {}, [], None
+    seconds of a processor since the one before it, and its bytes. Modules of a long check come many at a time: those that came
+    between two looks share what the check took since the look before."""
+    found, modules, spent, last = {}, [], 0, time.time()
     with tempfile.TemporaryFile("w+") as out:
         check = subprocess.Popen(words, stdout=out, stderr=subprocess.STDOUT)
         while check.poll() is None:
             now, there = spent_by(check.pid), modules_in(kept)
-            new = [name for name in there if name not in found]
+            new = [(name, there[name][0]) for name in there if name not in found]
             found.update(there)
             if new:
-                part = 0 if before is None else (now - before) / len(new)
-                before = now
-                modules += [(name, part) for name in new]
+                parts, last = shared(max(now - spent, 0), last, new)
+                modules += parts
+                spent = max(now, spent)
             time.sleep(SHORT_INTERVAL)
         out.seek(0)
         said = out.read()
