@@ -1,44 +1,32 @@
-//! Tries the checker, the planner, the executor, stopped runs, the board and the decoders on cases, and compares what they answer with what
-//! another reading of the rules wants. Ends with an error where something differs. The module of each says what its cases are.
-//! After the words `hostile NUMBER` it reads so many hostile texts, and does nothing else.
+//! Tries the executor, stopped runs and the board on cases, and compares what they answer with what another reading of the
+//! rules wants. Ends with an error where something differs. The module of each says what its cases are.
+//! After the word `answers` it does nothing of that: it answers the cases that it reads from standard input (`answers`).
 #![tactic(auto)]
 
+mod answers;
 mod board;
-mod checker;
 mod executor;
-mod hostile;
-mod planner;
 mod stops;
 
-use anyhow::{Context, Result, bail};
+use anyhow::{Result, bail};
 use std::env;
 use std::thread::Threads;
 
 /// Tries all cases, and says what came of them.
 fn try_all<R: Threads + Print + AllocGlobal + Sync>(rt: &R) -> Result<()> {
-    println!(rt; "== the checker")?;
-    checker::try_cases(rt)?;
-    println!(rt; "== the planner")?;
-    planner::try_cases(rt)?;
     println!(rt; "== the executor")?;
     executor::try_cases(rt)?;
     println!(rt; "== stopped runs")?;
     stops::try_cases(rt)?;
     println!(rt; "== the board")?;
-    board::try_cases(rt)?;
-    println!(rt; "== hostile inputs")?;
-    hostile::try_cases(rt)
+    board::try_cases(rt)
 }
 
 fn main(rt: HostRuntime) -> Result<()> {
     let words: Vec<String> = env::args(&rt)?.skip(1).collect(rt.alloc())?;
-    let Some((part, others)) = words.as_slice().split_first() else {
-        return try_all(&rt);
-    };
-    if part.as_str() != "hostile" {
-        bail!("no words, or hostile and a number");
+    match words.as_slice() {
+        [] => try_all(&rt),
+        [word] if word.as_str() == "answers" => answers::answer_all(&rt),
+        _ => bail!("no words, or answers"),
     }
-    let number = others.first().context("a number is missing")?;
-    let texts = number.as_str().parse::<u32>().context("reading a number")?;
-    hostile::read_texts(&rt, texts)
 }

@@ -1,16 +1,22 @@
-"""Counts what `crates/cases/stdout` wants of hostile inputs: makes the same texts from the same dice, and reads them by
-decoders of its own, written from docs/FORMATS.md. No code is shared with the program, and the numbers were written down
-before the program printed them.
-usage: tests/hostile_counts.py [NUMBER]
-"""
+"""Compares what the decoders make of hostile texts with decoders written from docs/FORMATS.md, for `tests/generated_cases.sh`. The
+words are the program `cases`, and how many texts are read, if not 20,000.
+
+The texts are archives, plans, hold rules and bundles in turn, drawn with near misses, or valid and then changed. Each has to be
+refused by the same fault, and hold rules at the same line, or to be read; the program writes what it reads again, and ends with an
+error where that isn't the same text."""
+
 import hashlib
 import re
 import sys
 
-from checked_cases_counts import Pcg
+from generated import Dice, answers, compare, tell
+from runs import write_counts
 
-# --- the texts, as crates/cases/src/hostile makes them
+TEXTS = 20000
+# The program is asked about so many at once.
+MOST_AT_ONCE = 20000
 
+# ---- the pieces that texts are drawn from: right ones, and near misses, among which are pieces that are right elsewhere
 LIKELY = b"\n /%*.019aAfFxd\x00\x7f\xff"
 SPACES = [b"  ", b"\t", b""]
 FEEDS = [b"", b"\n\n", b"\r\n", b" \n"]
@@ -69,15 +75,15 @@ ENDS = [b"End", b"end ", b"en", b"", b"ends"]
 TAILS = [b"\n", b"d /z\n", b"end 0 0\n", b"\x00", b" "]
 
 
-class Draft:
+class Draft(Dice):
+    """A text that is drawn piece by piece."""
+
     def __init__(self):
-        self.random = Pcg(2026, 13)
+        super().__init__(2026, 13)
+        # whether all of the text is to be as its grammar has it; else one piece in so many is a near miss
         self.careful = True
         self.rarity = 64
         self.text = bytearray()
-
-    def below(self, end):
-        return self.random.next() % end
 
     def begin(self, rarity):
         """Begins a text, in half of the cases one where one piece in so many is a near miss."""
@@ -125,6 +131,7 @@ class Draft:
 
 
 def begin_row(draft, word, directory, name):
+    """Puts a row up to the end of its path."""
     draft.word(word, WORDS)
     draft.space()
     if directory:
@@ -143,6 +150,7 @@ def stamp(draft):
 
 
 def contents(draft):
+    """Puts a size and so many bytes, which are all the same."""
     size = LENGTHS[draft.below(8)]
     draft.space()
     draft.count(size)
@@ -158,6 +166,7 @@ def contents(draft):
 
 
 def rows(draft, filling):
+    """Puts rows whose paths ascend: files, and directories with files in them. A file in a file is a near miss."""
     at = draft.below(3)
     for _ in range(draft.below(5)):
         if at >= len(NAMES):
@@ -179,6 +188,7 @@ def rows(draft, filling):
 
 
 def directory(draft, name, filling):
+    """Puts a directory, and up to two files in it."""
     begin_row(draft, b"d", b"", name)
     draft.feed()
     at = draft.below(8)
@@ -192,6 +202,7 @@ def directory(draft, name, filling):
 
 
 def long_path(draft):
+    """Puts a path at one of its limits: the bytes of a name, the number of names, and the bytes of all of them."""
     how = draft.below(3)
     filler = draft.one_of(FILLERS)
     past = draft.past()
@@ -216,6 +227,7 @@ def path(draft):
 
 
 def pattern(draft):
+    """Puts the pattern of a rule, in which no two stars stand side by side but by a near miss."""
     if draft.below(16) == 0:
         draft.put(draft.one_of(PATTERN_SYMBOLS) * (254 + draft.past()))
         return
@@ -229,6 +241,7 @@ def pattern(draft):
 
 
 def rules(draft):
+    """Puts hold rules, now and then as many as there may be, or one less or one more."""
     if not draft.careful and draft.below(40) == 0:
         draft.put(b"name a\n" * (4095 + draft.below(3)))
         return
@@ -245,6 +258,7 @@ def rules(draft):
 
 
 def action(draft):
+    """Puts an action and what it waits for."""
     kind = draft.below(4)
     draft.word(b"piece" if kind < 2 else b"commit" if kind == 2 else b"mark", ACTION_WORDS)
     draft.space()
@@ -265,6 +279,7 @@ def action(draft):
 
 
 def plan(draft):
+    """Puts a plan's header, entries and actions."""
     draft.word(b"twosync-plan 1", HEADERS)
     draft.feed()
     for _ in range(draft.below(4)):
@@ -305,6 +320,7 @@ def bundle(draft):
 
 
 def close_archive(draft):
+    """Puts the end line, which mostly fits what is before it, and now and then something after it."""
     count = max(draft.text.count(b"\n") - 1, 0)
     slip = draft.slip()
     digest = hashlib.sha256(draft.text[:-1] if slip == 2 else draft.text).hexdigest().encode()
@@ -318,6 +334,7 @@ def close_archive(draft):
 
 
 def close_plan(draft):
+    """The same of a plan, which ends a bundle, too."""
     lines = draft.text.split(b"\n")
     entries = sum(line.startswith(b"entry ") for line in lines)
     actions = sum(line.startswith((b"piece ", b"commit ", b"mark ")) for line in lines)
@@ -332,6 +349,7 @@ def close_plan(draft):
 
 
 def change_bytes(draft, way):
+    """Inserts, replaces or deletes a byte, gives it the other case, or cuts the text there."""
     text = draft.text
     at = draft.below(len(text) + 1)
     byte = LIKELY[draft.below(len(LIKELY))] if draft.below(2) == 0 else draft.below(256)
@@ -349,6 +367,7 @@ def change_bytes(draft, way):
 
 
 def change_lines(draft, way):
+    """Doubles or deletes a line, or swaps two. What follows the last line feed counts as one."""
     lines = draft.text.split(b"\n")
     at = draft.below(len(lines))
     other = draft.below(len(lines))
@@ -362,6 +381,7 @@ def change_lines(draft, way):
 
 
 def change(draft):
+    """Changes a text in one to three places."""
     for _ in range(1 + draft.below(3)):
         way = draft.below(8)
         if way < 5:
@@ -385,7 +405,7 @@ def text_of(draft, body, close):
     return bytes(draft.text)
 
 
-# --- reading, by docs/FORMATS.md
+# ---- reading, by docs/FORMATS.md
 
 class Refused(Exception):
     """The text isn't one of its kind. `line` counts from 1, where it is known."""
@@ -589,37 +609,48 @@ def read_bundle(text):
         raise Refused(17)
 
 
+# Each kind's name to the program and its title, what draws its texts and their end lines, and what reads them.
 KINDS = [
-    ("archives", archive, close_archive, read_archive),
-    ("plans", plan, close_plan, read_plan),
-    ("hold rules", rules, lambda draft: None, read_rules),
-    ("bundles", bundle, close_plan, read_bundle),
+    (b"archive", "archives", archive, close_archive, read_archive),
+    (b"plan", "plans", plan, close_plan, read_plan),
+    (b"rules", "hold rules", rules, lambda draft: None, read_rules),
+    (b"bundle", "bundles", bundle, close_plan, read_bundle),
 ]
 
 
-def main(number):
-    draft = Draft()
-    met = [[0] * 32 for _ in KINDS]
-    answers = hashlib.sha256()
-    for at in range(number):
-        kind = at % len(KINDS)
-        _, body, close, read = KINDS[kind]
+def answer_to(read, text):
+    """The fault that a text has to be refused with and its bad line, zero each where there is none."""
+    try:
+        read(text)
+    except Refused as refused:
+        return "%d %d" % (refused.fault, refused.line)
+    return "0 0"
+
+
+def read_some(program, draft, numbers, met):
+    """Has the program read the texts of these numbers, and counts what comes of them."""
+    cases, wanted = [], []
+    for number in numbers:
+        kind, title, body, close, read = KINDS[number % len(KINDS)]
         text = text_of(draft, body, close)
-        fault = line = 0
-        try:
-            read(text)
-        except Refused as refused:
-            fault, line = refused.fault, refused.line
-        met[kind][fault] += 1
-        answers.update(b"%d %d\n" % (fault, line))
-    print("%d texts, and each that is read is written again byte for byte" % number)
-    for (name, *_), counts in zip(KINDS, met):
-        print("%s: %d read" % (name, counts[0]))
-        for fault, count in enumerate(counts):
-            if fault and count:
-                print("%s: %d refused with fault %d" % (name, count, fault))
-    print("SHA-256 of all answers: %s" % answers.hexdigest())
+        cases.append((kind, text))
+        wanted.append(answer_to(read, text))
+        fault = wanted[-1].split()[0]
+        came = "read" if fault == "0" else "refused with fault %s" % fault
+        met[title][came] = met[title].get(came, 0) + 1
+    for number, answer, answer_wanted in zip(numbers, answers(program, cases), wanted):
+        compare("hostile text %d" % number, answer, answer_wanted)
+
+
+def main(program, count):
+    draft = Draft()
+    met = {title: {"read": 0} for _, title, *_ in KINDS}
+    for begin in range(0, count, MOST_AT_ONCE):
+        read_some(program, draft, range(begin, min(begin + MOST_AT_ONCE, count)), met)
+    for title, counts in met.items():
+        tell(title, counts)
+    write_counts()
 
 
 if __name__ == "__main__":
-    main(int(sys.argv[1]) if len(sys.argv) > 1 else 20_000)
+    main(sys.argv[1], int(sys.argv[2]) if len(sys.argv) > 2 else TEXTS)

@@ -1,7 +1,8 @@
-//! Reads texts by the product's decoders. What is read is written again, and has to be the text that was read: archives,
-//! plans and rules by their encoders, a bundle part by part, each behind its title.
+//! The kinds `archive`, `plan`, `rules` and `bundle` have one part, the text. It is read by the product's decoder. What is
+//! read is written again, and has to be the text that was read: archives, plans and rules by their encoders, a bundle part by
+//! part, each behind its title. The answer is the number of the fault that the text was refused with, and that of its bad
+//! line; each is zero where there is none.
 
-use crate::hostile::texts::Kind;
 use anyhow::{Result, bail, ensure};
 use std::alloc::Global;
 use ts_bundle::Bundle;
@@ -9,98 +10,78 @@ use ts_hold::{HoldFault, Holds};
 use ts_model::plan::Plan;
 use ts_text::{Counted, Lines, write_line};
 
-/// What came of a text: the number of the fault that it was refused with, and of its bad line; zero where there is none.
-#[derive(Clone, Copy)]
-pub struct Answer {
-    pub fault: u8,
-    pub line: u64,
-}
-
-/// The text was read.
-const READ: Answer = Answer { fault: 0, line: 0 };
-
 type Written = Counted<Vec<u8>>;
 
-/// Reads a text.
-pub fn read(alloc: Global, kind: Kind, text: &[u8]) -> Result<Answer> {
-    match kind {
-        Kind::Archive => read_archive(alloc, text),
-        Kind::Plan => read_plan(alloc, text),
-        Kind::Rules => read_rules(alloc, text),
-        Kind::Bundle => read_bundle(alloc, text),
-    }
-}
-
-fn refused(fault: u8) -> Answer {
-    Answer { fault, line: 0 }
+fn refused(alloc: Global, fault: u8, line: u64) -> Result<String> {
+    Ok(format!(in alloc; "{fault} {line}")?)
 }
 
 /// What was read was written as it was.
-fn compared(written: Written, text: &[u8]) -> Result<Answer> {
+fn compared(alloc: Global, written: Written, text: &[u8]) -> Result<String> {
     let written = written.into_inner();
     ensure!(written.as_slice() == text, "it is written otherwise");
-    Ok(READ)
+    refused(alloc, 0, 0)
 }
 
-fn read_archive(alloc: Global, text: &[u8]) -> Result<Answer> {
+pub fn archive(alloc: Global, text: &[u8]) -> Result<String> {
     let mut lines = Lines::new(alloc, Counted::new(text))?;
     match ts_archive::decode(alloc, &mut lines) {
         Ok(print) => {
             let mut written = Counted::new(Vec::new(alloc));
             ts_archive::encode(alloc, &print, &mut written)?;
-            compared(written, text)
+            compared(alloc, written, text)
         }
-        Err(fault) => Ok(refused(fault.number())),
+        Err(fault) => refused(alloc, fault.number(), 0),
     }
 }
 
-fn read_plan(alloc: Global, text: &[u8]) -> Result<Answer> {
+pub fn plan(alloc: Global, text: &[u8]) -> Result<String> {
     let mut lines = Lines::new(alloc, Counted::new(text))?;
     match ts_plan::decode(alloc, &mut lines) {
         Ok(plan) => {
             let mut written = Counted::new(Vec::new(alloc));
             write_plan(alloc, &plan, &mut written)?;
-            compared(written, text)
+            compared(alloc, written, text)
         }
-        Err(fault) => Ok(refused(fault.number())),
+        Err(fault) => refused(alloc, fault.number(), 0),
     }
 }
 
-fn write_plan(alloc: Global, plan: &Plan, written: &mut Written) -> Result<()> {
+/// Writes a plan's text.
+pub fn write_plan(alloc: Global, plan: &Plan, written: &mut Written) -> Result<()> {
     if !ts_plan::fits(plan) {
-        bail!("a plan that was read has no text");
+        bail!("a plan that was read or built has no text");
     }
     ts_plan::encode(alloc, plan, written)?;
     Ok(())
 }
 
-fn read_rules(alloc: Global, text: &[u8]) -> Result<Answer> {
+pub fn rules(alloc: Global, text: &[u8]) -> Result<String> {
     match Holds::parse(alloc, text) {
         Ok(holds) => {
             let mut written = Counted::new(Vec::new(alloc));
             holds.encode(alloc, &mut written)?;
-            compared(written, text)
+            compared(alloc, written, text)
         }
         Err(fault) => {
             let line = match &fault {
                 HoldFault::BadRule { line } => *line,
                 HoldFault::OutOfMemory => 0,
             };
-            let fault = fault.number();
-            Ok(Answer { fault, line })
+            refused(alloc, fault.number(), line)
         }
     }
 }
 
-fn read_bundle(alloc: Global, text: &[u8]) -> Result<Answer> {
+pub fn bundle(alloc: Global, text: &[u8]) -> Result<String> {
     let mut lines = Lines::new(alloc, Counted::new(text))?;
     match ts_bundle::decode(alloc, &mut lines) {
         Ok(bundle) => {
             let mut written = Counted::new(Vec::new(alloc));
             write_bundle(alloc, &bundle, &mut written)?;
-            compared(written, text)
+            compared(alloc, written, text)
         }
-        Err(fault) => Ok(refused(fault.number())),
+        Err(fault) => refused(alloc, fault.number(), 0),
     }
 }
 

@@ -1,0 +1,36 @@
+#!/usr/bin/env bash
+# Generated cases for the checker, the planner and the decoders: they are drawn and judged in Python, by another reading of the
+# rules, the reasons and the formats, and the program `cases` has to answer each as it is judged.
+# usage: tests/generated_cases.sh [PROGRAM]; HOSTILE_TEXTS=NUMBER for another number of hostile texts than 20,000
+set -u
+cd "$(dirname "$0")/.." || exit 1
+tests=$PWD/tests
+. tests/program.sh
+program=$(program_of cases "${1:-}") || exit 1
+work=$(mktemp -d) || exit 1
+trap 'rm -rf "$work"' EXIT
+cd "$work" || exit 1
+
+passed=0
+failed=0
+# try SCRIPT WORDS..: lets a script compare its cases, and adds what it counted
+try() {
+  local script=$1 more less
+  shift
+  PYTHONPATH=$tests python3 -B "$tests/$script.py" "$program" "$@"
+  if [ -e counts ]; then
+    read -r more less <counts
+    passed=$((passed + more))
+    failed=$((failed + less))
+    rm counts
+  else
+    failed=$((failed + 1))
+    echo "FAILED: tests/$script.py came to no end"
+  fi
+}
+
+try checked_cases
+try planned_cases
+try hostile_cases "${HOSTILE_TEXTS:-20000}"
+echo "generated cases: $passed passed, $failed failed"
+[ "$failed" = 0 ]
