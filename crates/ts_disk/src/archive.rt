@@ -128,13 +128,7 @@ impl ArchivePlace {
         if self.is_lost(files)? {
             self.renew(files)?;
         }
-        if self.is_begun {
-            empty(&self.file).map_err(failed)?;
-        }
-        self.is_begun = true;
-        write_text(&self.file, alloc, archive)?;
-        self.file.sync_all().map_err(failed)?;
-        let digest = digest_in(alloc, &self.file)?.ok_or(unusable())?;
+        let digest = self.write_new(alloc, archive)?;
         for lock in [first, second] {
             if let Some(lock) = lock {
                 lock.note_archive(files, alloc, self.digest, digest)?;
@@ -144,6 +138,19 @@ impl ArchivePlace {
         self.digest = Some(digest);
         self.is_done = true;
         Ok(())
+    }
+
+    /// Writes the archive to the file beside its place, and waits until it has reached the device. Answers the digest in its end line.
+    fn write_new(&mut self, alloc: Global, archive: &Print) -> Result<ArchiveDigest, DiskFault>
+        ensures kept { (self.exit.now.place ≡ self.entry.now.place) × (self.exit.now.new ≡ self.entry.now.new) }
+    {
+        if self.is_begun {
+            empty(&self.file).map_err(failed)?;
+        }
+        self.is_begun = true;
+        write_text(&self.file, alloc, archive)?;
+        self.file.sync_all().map_err(failed)?;
+        digest_in(alloc, &self.file)?.ok_or(unusable())
     }
 
     /// Whether what was written last doesn't lie beside the archive any more. A rename that was reported as failed may have put

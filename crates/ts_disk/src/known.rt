@@ -16,7 +16,7 @@ use std::fs::{File, Files, OpenFile};
 use std::io::{BufReader, ErrorKind, Read, Seek, SeekFrom, Write};
 use std::{fs, io};
 use ts_cause::Cause;
-use ts_text::{Counted, Lines, TextFault, field_digest, push_digest, split_word};
+use ts_text::{Counted, Lines, Source, TextFault, field_digest, push_digest, split_word};
 
 /// The name under which the file is written before it gets its own.
 pub(crate) const NEW_NAME: &str = "archives.new";
@@ -161,6 +161,21 @@ impl KnownArchives {
         None
     }
 
+    /// Takes over what a line of the file says. Answers whether it is one that this program writes.
+    fn take(&mut self, line: &[u8], is_first: bool) -> Result<bool, AllocError> {
+        if is_first && line == OLDER {
+            self.is_older = true;
+            return Ok(true);
+        }
+        match pair_in(line) {
+            Some(pair) if self.pairs.len() < MOST_PAIRS => {
+                self.pairs.push(pair)?;
+                Ok(true)
+            }
+            _ => Ok(false),
+        }
+    }
+
     /// The text of the file.
     fn text(&self, alloc: Global) -> Result<Vec<u8>, AllocError> {
         let mut text = Vec::new(alloc);
@@ -220,30 +235,38 @@ pub(crate) fn read_known<R: Files>(
 fn known_in<F: Read + Drop>(alloc: Global, file: F) -> Result<Option<KnownArchives>, DiskFault> {
     let reader = BufReader::new(alloc, file).map_err(|_| DiskFault::OutOfMemory)?;
     let mut lines = Lines::new(alloc, Counted::new(reader)).map_err(|_| DiskFault::OutOfMemory)?;
+    known_of(alloc, &mut lines)
+}
+
+/// What lines say, if they are those of a file that this program writes. It writes no empty one.
+fn known_of<S: Source>(
+    alloc: Global,
+    lines: &mut Lines<S>,
+) -> Result<Option<KnownArchives>, DiskFault> {
     let mut known = KnownArchives::none(alloc, false);
     for number in 0..MOST_PAIRS + 2 {
-        let line = match lines.next() {
-            Ok(Some(line)) => line,
-            Ok(None) if number > 0 => return Ok(Some(known)),
-            Err(TextFault::OutOfMemory) => return Err(DiskFault::OutOfMemory),
-            Err(TextFault::Failed) => {
-                return Err(DiskFault::Own {
-                    cause: Cause::Unknown,
-                });
+        match lines.next() {
+            Ok(Some(line)) => {
+                if !known.take(line, number == 0)? {
+                    return Ok(None);
+                }
             }
-            Ok(None) | Err(TextFault::NotCanonical) => return Ok(None),
-        };
-        if number == 0 && line == OLDER {
-            known.is_older = true;
-        } else if let Some(pair) = pair_in(line)
-            && known.pairs.len() < MOST_PAIRS
-        {
-            known.pairs.push(pair)?;
-        } else {
-            return Ok(None);
+            Ok(None) => return Ok((number > 0).then_some(known)),
+            Err(fault) => return not_read(&fault),
         }
     }
     Ok(None)
+}
+
+/// What comes of lines that end with this fault: those that aren't canonical aren't this program's.
+fn not_read(fault: &TextFault) -> Result<Option<KnownArchives>, DiskFault> {
+    match fault {
+        TextFault::OutOfMemory => Err(DiskFault::OutOfMemory),
+        TextFault::Failed => Err(DiskFault::Own {
+            cause: Cause::Unknown,
+        }),
+        TextFault::NotCanonical => Ok(None),
+    }
 }
 
 /// The pair that a line is about, if it is about one.
@@ -278,11 +301,21 @@ pub(crate) fn note_archive<R: Files<File = File>>(
         return own.check(files);
     }
     let text = known.text(alloc)?;
+    replace_known(files, alloc, own, text.as_slice())
+}
+
+/// Puts a file with this text in the place of the one that is there. Both have reached the device when the call ends.
+fn replace_known<R: Files<File = File>>(
+    files: &R,
+    alloc: Global,
+    own: &OwnPlace<'_>,
+    text: &[u8],
+) -> Result<(), DiskFault> {
     let place = known_place(alloc, own.place)?;
     let new = format!(in alloc; "{}/{NEW_NAME}", own.place)?;
     remove_file_at(files, new.as_str()).map_err(failed)?;
     let file = create_file(files, new.as_str()).map_err(failed)?;
-    let written = write_known(files, &file, own, new.as_str(), text.as_slice());
+    let written = write_known(files, &file, own, new.as_str(), text);
     settle_new(files, new.as_str(), place.as_str(), written)?;
     flush_at(files, own.place).map_err(failed)?;
     own.check_file(files, &file, place.as_str())

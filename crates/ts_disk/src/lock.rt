@@ -149,27 +149,43 @@ pub fn take_lock<R: Files<File = File>>(
     if !is_directory(files, root)? {
         return Ok(None);
     }
-    let own = own_place(alloc, root)?;
-    let place = format!(in alloc; "{own}/lock")?;
     for _ in 0..TRIES {
-        let took_part = make_own(files, own.as_str()).map_err(own_failed)?;
-        check_place(files, place.as_str(), root.len())?;
-        let was_stopped = holds_plan(files, alloc, root)?;
-        if let Some(file) = make_lock_file(files, place.as_str())? {
-            let home = take_own(files, &file, own.as_str(), place.as_str())?;
-            let known = known_at(files, alloc, own.as_str(), place.as_str(), took_part)?;
-            return Ok(Some(Lock {
-                file,
-                place,
-                own,
-                home,
-                took_part,
-                was_stopped,
-                known,
-            }));
+        if let Some(lock) = try_lock(files, alloc, root)? {
+            return Ok(Some(lock));
         }
     }
     Err(DiskFault::Own { cause: Cause::Busy })
+}
+
+/// Takes the lock of a replica whose root is a directory. None where a stopped run had left its file, which is removed, and where `.twosync`
+/// is gone again: then it may be tried again.
+fn try_lock<R: Files<File = File>>(
+    files: &R,
+    alloc: Global,
+    root: &str,
+) -> Result<Option<Lock>, DiskFault>
+    ensures own { IfOk result (λ lock. IfSome lock (λ held. string_bytes held.own ≡ root.now ++ codes "/.twosync")) }
+    ensures place { IfOk result (λ lock. IfSome lock (λ held. string_bytes held.place ≡ root.now ++ codes "/.twosync/lock")) }
+{
+    let own = own_place(alloc, root)?;
+    let place = format!(in alloc; "{own}/lock")?;
+    let took_part = make_own(files, own.as_str()).map_err(own_failed)?;
+    check_place(files, place.as_str(), root.len())?;
+    let was_stopped = holds_plan(files, alloc, root)?;
+    let Some(file) = make_lock_file(files, place.as_str())? else {
+        return Ok(None);
+    };
+    let home = take_own(files, &file, own.as_str(), place.as_str())?;
+    let known = known_at(files, alloc, own.as_str(), place.as_str(), took_part)?;
+    Ok(Some(Lock {
+        file,
+        place,
+        own,
+        home,
+        took_part,
+        was_stopped,
+        known,
+    }))
 }
 
 /// Whether a root is a directory, or a link to one. What can't be looked at may be one.
