@@ -1,5 +1,5 @@
 //! What a checked plan comes to on two folders.
-ghost use Rattle.std.specs.Prelude.{◌≡◌, ◌≤◌, length, map, IfErr, IfOk, OnOk};
+ghost use Rattle.std.specs.Prelude.{◌≡◌, ◌≤◌, ℕ, List, length, map, IfErr, IfOk, OnOk};
 ghost use Rattle.std.specs.Option.{option_copied};
 ghost use Rattle.std.specs.Mem.Slots.{slots_items, slots_len};
 ghost use Rattle.ts_board.specs.Archives.{HasEnded};
@@ -56,6 +56,30 @@ pub(crate) fn act<R: Machine>(
     ensures flushed { IfOk result (λ _. HasFlushed (world R.Disk R.Site.Site R.Folder.Folder R.Stage.Stage) task.now.pair.now checked.now) }
     ensures quiet { IfErr result IsQuiet }
 {
+    flush_agreed(task, checked)?;
+    let Task { rt, pair, .. } = task;
+    let stage = rt.stage(rt.alloc(), checked, locks, pair.first, pair.second)?;
+    let outcome = act_over(task, locks, place, checked, &stage)?;
+    Ok((outcome, stage))
+}
+
+/// The same over a stage for the plan's pieces, where what both replicas agree on has reached their devices.
+fn act_over<R: Machine>(
+    task: &Task<'_, R>,
+    locks: &Locks<'_, R::Lock>,
+    place: &mut R::Archive,
+    checked: &Checked<'_>,
+    stage: &R::Stage,
+) -> Result<Outcome<R::Site>, PerformFault>
+    requires staged { R.is_staged stage.now task.now.pair.now.first.now task.now.pair.now.second.now }
+    ensures count { IfOk result (λ outcome. length outcome.results.items ≡ length checked.now.plan.actions) }
+    ensures words { IfOk result (λ outcome. length checked.now.plan.actions ≤ slots_len outcome.closed.row.words) }
+    ensures slots { IfOk result (λ outcome. length checked.now.plan.actions ≤ slots_len outcome.closed.row.slots) }
+    ensures ended { IfOk result (λ outcome. HasEnded checked.now (words_of outcome.closed)) }
+    ensures stands { IfOk result (IsRunFor (world R.Disk R.Site.Site R.Folder.Folder R.Stage.Stage)
+        task.now.pair.now checked.now) }
+    ensures quiet { IfErr result IsQuiet }
+{
     let Task {
         rt,
         pair,
@@ -64,17 +88,15 @@ pub(crate) fn act<R: Machine>(
         progress,
         ..
     } = task;
-    flush_agreed(task, checked)?;
     let alloc = rt.alloc();
     let workers = (*workers).min(MOST_WORKERS);
     let every = match command.checkpoint {
         Some(every) => every,
         None => usual_spacing(checked, workers),
     };
-    let sites = sites(*rt, locks, *pair, checked)?;
-    let stage = rt.stage(alloc, checked, locks, pair.first, pair.second)?;
     let first = rt.folder(alloc, pair.first, Specials::none(alloc))?;
     let second = rt.folder(alloc, pair.second, Specials::none(alloc))?;
+    let sites = sites(*rt, locks, *pair, checked)?;
     let folders = Folders {
         first: &first,
         second: &second,
@@ -85,10 +107,9 @@ pub(crate) fn act<R: Machine>(
         place,
         plan: checked.plan(),
     };
-    let outcome = run_counted(
-        *rt, progress, checked, &folders, sites, &stage, workers, keeper, every,
-    )?;
-    Ok((outcome, stage))
+    run_counted(
+        *rt, progress, checked, &folders, sites, stage, workers, keeper, every,
+    )
 }
 
 /// The places of a plan's commits, in the order of the actions: each in the replica that its entry is copied to.
@@ -161,17 +182,33 @@ pub(crate) fn keep_archive<R: Machine>(
     ensures put { OnOk result (HasFlushedPut (world R.Disk R.Site.Site R.Folder.Folder R.Stage.Stage) task.now.pair.now checked.now.plan results.now) }
 {
     let Task { rt, pair, .. } = task;
-    let alloc = rt.alloc();
     // while checkpoints were written the place was out of hand
     if !rt.is_claim_of(&*place, pair.archive) {
         let cause = Cause::Unknown;
         return Err(of_disk(DiskFault::Failed { cause }, Subject::Archive));
     }
     flush_put(task, checked.plan(), results)?;
+    write_left(*rt, locks, place, checked, closed)
+}
+
+/// Writes what the archive is after a run to its place, as long as both replicas are there.
+fn write_left<R: Machine>(
+    rt: &R,
+    locks: &Locks<'_, R::Lock>,
+    place: &mut R::Archive,
+    checked: &Checked<'_>,
+    closed: Closed<R::Site>,
+) -> Result<(), PerformFault>
+    requires words { length checked.now.plan.actions ≤ slots_len closed.row.words }
+    requires ended { HasEnded checked.now (slots_items closed.row.words) }
+    ensures kept { OnOk result (HasKept R.has checked.now (words_of closed) place.new) }
+    ensures named { (name : List ℕ) → R.is_named place.old name → R.is_named place.new name }
+{
+    let alloc = rt.alloc();
     let Ok(archive) = closed.into_archive(alloc, checked) else {
         return Err(PerformFault::OutOfMemory);
     };
-    look_at_locks(*rt, locks)?;
+    look_at_locks(rt, locks)?;
     rt.write_archive(alloc, place, &archive, locks)
         .map_err(|fault| of_disk(fault, Subject::Archive))
 }
