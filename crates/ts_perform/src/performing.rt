@@ -4,8 +4,6 @@ ghost use Rattle.ts_model.specs.Trial.{Trial};
 ghost use Rattle.ts_perform.specs.Commands.{Checks, Plans, Previews, Runs, Scans, Syncs};
 ghost use Rattle.ts_perform.specs.Commands.{TriesCheck, TriesPlan, TriesPreview, TriesRun, TriesScan, TriesSync};
 ghost use Rattle.ts_perform.specs.Jobs.{IfShow, IfTell};
-ghost use Rattle.ts_perform.specs.Pending.{JudgesPending, PrintsPending};
-ghost use Rattle.ts_perform.specs.Previewing.{IsPreviewAt, form_of};
 ghost use Rattle.ts_perform.specs.Printouts.{IsBodyOf, IsScanText, IsShown, IsTold};
 ghost use Rattle.ts_perform.specs.Runs.{AnswersOne, Refuses};
 ghost use Rattle.ts_perform.specs.Snapshots.{IsCheckupAt, IsPrintoutAt, Judges, Prints, PrintsAlone};
@@ -26,7 +24,7 @@ use crate::task::Task;
 use std::alloc::Global;
 use std::fmt::Display;
 use std::thread::Threads;
-use ts_command::{Command, Job, Pair};
+use ts_command::{Command, Job};
 use ts_explain::{write_fault, write_sentence};
 use ts_print::{Print, PrintFault};
 use ts_progress::Progress;
@@ -127,80 +125,33 @@ fn answer<R: Machine, I: Source + SaysCause + Drop, O: Sink, E: Sink>(
     ensures sync { TriesSync (world R.Disk R.Site.Site R.Folder.Folder R.Stage.Stage) command.now
         (O.holds out.old) (O.holds out.new) (E.holds err.old) (E.holds err.new) result }
 {
+    let workers = command.workers;
     match &command.job {
         Job::Tell { text } => tell(rt.alloc(), text, out),
-        Job::Trial => answer_bundle(rt, input, out, command.workers),
-        Job::Scan { folder } => answer_scan(rt, command, folder, out),
+        Job::Trial => answer_bundle(rt, input, out, workers),
+        Job::Scan { folder } => {
+            let progress = Progress::new(rt, rt.alloc(), command.quiet);
+            print_scan(rt, &progress, command, folder, out)
+        }
         Job::Show { archive } => show(rt, archive, out),
-        Job::Plan { pair } => answer_plan(rt, command, pair, out, err),
-        Job::Preview { pair, json } => answer_preview(rt, command, pair, *json, out, err),
-        Job::Check { pair, plan } => answer_check(rt, command, pair, plan, out, err),
+        Job::Plan { pair } => {
+            let task = Task::new(rt, command, pair);
+            report_pending(&task, err);
+            print_plan(&task, out)
+        }
+        Job::Preview { pair, json } => {
+            let task = Task::new(rt, command, pair);
+            report_pending(&task, err);
+            preview(&task, form_of(command.coloured, *json), out)
+        }
+        Job::Check { pair, plan } => {
+            let task = Task::new(rt, command, pair);
+            report_pending(&task, err);
+            check_plan(&task, plan, out)
+        }
         Job::Run { pair, plan } => Task::new(rt, command, pair).run_plan(plan, out, err),
         Job::Sync { pair } => Task::new(rt, command, pair).sync(out, err),
     }
-}
-
-/// Prints the archive that a folder would give, and shows how far it is.
-fn answer_scan<R: Machine, O: Sink>(
-    rt: &R,
-    command: &Command<'_>,
-    folder: &str,
-    out: &mut O,
-) -> Result<u8, PerformFault>
-    ensures { Prints (IsScanText (world R.Disk R.Site.Site R.Folder.Folder R.Stage.Stage) folder.now) (O.holds out.old) (O.holds out.new) result }
-{
-    let progress = Progress::new(rt, rt.alloc(), command.quiet);
-    print_scan(rt, &progress, command, folder, out)
-}
-
-/// Prints a plan for the pair, once it is said where a stopped run isn't brought to its end.
-fn answer_plan<R: Machine, O: Sink, E: Sink>(
-    rt: &R,
-    command: &Command<'_>,
-    pair: &Pair<'_>,
-    out: &mut O,
-    err: &mut E,
-) -> Result<u8, PerformFault>
-    ensures { PrintsPending R.awaits command.now pair.now (IsPrintoutAt (world R.Disk R.Site.Site R.Folder.Folder R.Stage.Stage) pair.now)
-        (O.holds out.old) (O.holds out.new) (E.holds err.old) (E.holds err.new) result }
-{
-    let task = Task::new(rt, command, pair);
-    report_pending(&task, err);
-    print_plan(&task, out)
-}
-
-/// Shows what `sync` would do for the pair, once it is said where a stopped run isn't brought to its end.
-fn answer_preview<R: Machine, O: Sink, E: Sink>(
-    rt: &R,
-    command: &Command<'_>,
-    pair: &Pair<'_>,
-    json: bool,
-    out: &mut O,
-    err: &mut E,
-) -> Result<u8, PerformFault>
-    ensures { PrintsPending R.awaits command.now pair.now (IsPreviewAt (world R.Disk R.Site.Site R.Folder.Folder R.Stage.Stage) pair.now (form_of command.now.coloured json))
-        (O.holds out.old) (O.holds out.new) (E.holds err.old) (E.holds err.new) result }
-{
-    let task = Task::new(rt, command, pair);
-    report_pending(&task, err);
-    preview(&task, form_of(command.coloured, json), out)
-}
-
-/// Says whether a plan is valid for the pair, once it is said where a stopped run isn't brought to its end.
-fn answer_check<R: Machine, O: Sink, E: Sink>(
-    rt: &R,
-    command: &Command<'_>,
-    pair: &Pair<'_>,
-    plan: &str,
-    out: &mut O,
-    err: &mut E,
-) -> Result<u8, PerformFault>
-    ensures { JudgesPending R.awaits command.now pair.now (IsCheckupAt (world R.Disk R.Site.Site R.Folder.Folder R.Stage.Stage) pair.now plan.now)
-        (O.holds out.old) (O.holds out.new) (E.holds err.old) (E.holds err.new) result }
-{
-    let task = Task::new(rt, command, pair);
-    report_pending(&task, err);
-    check_plan(&task, plan, out)
 }
 
 /// Prints what is to be told, and nothing else.
