@@ -23,6 +23,8 @@ NEARLY = 0.95
 # How many jobs a library of such a chain has at least, where there are as many processors. Any other has one. Each job reads what
 # stands below, so that several take far more of the processors in all: ts_disk took 726 seconds by two, and over 1,100 by three.
 JOBS = 2
+# How many jobs the last library has at most, which waits for all others: nobody else uses the processors then, but each job takes memory.
+LAST_JOBS = 4
 # How far the other libraries give way to it, as `nice` counts that.
 NICENESS = 10
 
@@ -70,8 +72,9 @@ def tasks_of(rt, libraries):
     """Returns a task for each library that isn't built, lowest first, as rt.in_lanes takes them.
 
     A library of a longest chain has several jobs from the start, and the others give way to it: rt gives a crate its jobs when it
-    begins, and one that begins beside others would keep a single one to its end, while all the chain waits for it. Further jobs
-    take no memory beyond what rt reckons for one: four jobs of ts_exec held 4 GB together, where it reckons 5.7.
+    begins, and one that begins beside others would keep a single one to its end, while all the chain waits for it. The last one,
+    which waits for all others, has more. Further jobs take no memory beyond what rt reckons for one: four jobs of ts_exec
+    held 4 GB together, where it reckons 5.7.
     """
     missing = [it for it in libraries if not it.is_built()]
     names = {it.name for it in missing}
@@ -84,6 +87,8 @@ def tasks_of(rt, libraries):
         def call(given, jobs, it=crate):
             if not all(given[below, "proof"] for below in waits[it.name]):
                 return False
+            if len(waits[it.name]) == len(missing) - 1:
+                return build(it, min(LAST_JOBS, rt.processors()), started)
             if it.name in first:
                 return build(it, max(jobs, min(JOBS, rt.processors())), started)
             return giving_way(lambda: build(it, 1, started))
