@@ -2,6 +2,7 @@
 # words: the first one names the program. After it the script is in an empty folder of its own, which goes when it ends.
 # shellcheck shell=bash
 . tests/program.sh
+. tests/counts.sh
 program=$(program_of twosync "${1:-}") || exit 1
 # A script that writes much says before how many MiB: it works in memory where as much is free.
 if [ -n "${room:-}" ] && [ -w /dev/shm ] && [ "$(df --output=avail -m /dev/shm | tail -n 1)" -gt "$room" ]; then
@@ -20,8 +21,6 @@ chmod 755 "$work"
 cd "$work" || exit 1
 # What was started last by a script that stops it and lets it go on.
 child=
-passed=0
-failed=0
 # The digests of the one-byte files `a` and `b`.
 # shellcheck disable=SC2034
 SA=ca978112ca1bbdcafac231b39a23dc4da786eff8147c4e72b9807785afee48bb
@@ -30,31 +29,6 @@ SB=3e23e8160039594a33894f6564e1b1348bbd7a0088d42c4acb73eeaed59c009d
 # The command that most cases run.
 # shellcheck disable=SC2034
 sync=(sync first second archive)
-
-ok() { passed=$((passed + 1)); }
-bad() {
-  failed=$((failed + 1))
-  echo "FAILED: $*"
-}
-
-# add_counts WHAT: takes over what a part in Python has counted (`write_counts` of runs.py); WHAT went wrong where it left nothing
-add_counts() {
-  local more less
-  if [ -e counts ]; then
-    read -r more less <counts
-    passed=$((passed + more))
-    failed=$((failed + less))
-    rm counts
-  else
-    bad "$1"
-  fi
-}
-
-# ended NAME: the script's last line, and its status
-ended() {
-  echo "$1: $passed passed, $failed failed"
-  [ "$failed" = 0 ]
-}
 
 # needs_strace NAME WHY: ends the script of this name here where strace is missing, and says what isn't tried then
 needs_strace() {

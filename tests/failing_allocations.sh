@@ -4,16 +4,15 @@
 # is the same allocation in every run.
 # usage: tests/failing_allocations.sh [PROGRAM]
 set -u
-cd "$(dirname "$0")/.."
+cd "$(dirname "$0")/.." || exit 1
 . tests/program.sh
+. tests/counts.sh
 program=$(program_of twosync "${1:-}") || exit 1
 bundles=tests/worked_bundles
 work=$(mktemp -d)
 trap 'rm -rf "$work"' EXIT
 ${CC:-cc} -O1 -shared -fPIC -o "$work/refuse.so" tests/failing_allocations.c -ldl || exit 1
 
-passed=0
-failed=0
 for name in copy_new_file new_directory_on_both_sides chain_through_all_actions; do
   want=$bundles/$name.out
   number=0
@@ -34,11 +33,10 @@ for name in copy_new_file new_directory_on_both_sides chain_through_all_actions;
   done
   # The last run met no refusal, so it gave the whole answer; one allocation at least was refused before.
   if [ "$good" = 1 ] && [ ! -e "$work/refused" ] && [ "$status" = 0 ] && [ "$number" -gt 1 ]; then
-    passed=$((passed + 1))
+    ok
     echo "$name: $((number - 1)) allocations refused in turn"
   else
-    failed=$((failed + 1))
+    bad "$name, $number allocations"
   fi
 done
-echo "failing allocations: $passed passed, $failed failed"
-[ "$failed" = 0 ]
+ended 'failing allocations'

@@ -4,15 +4,14 @@
 # usage: tests/folders.sh [PROGRAM]
 set -u
 umask 022
-cd "$(dirname "$0")/.."
+cd "$(dirname "$0")/.." || exit 1
 . tests/program.sh
+. tests/counts.sh
 program=$(program_of twosync "${1:-}") || exit 1
 work=$(mktemp -d)
 trap 'chmod -R u+rwx "$work"; rm -rf "$work"' EXIT
 chmod 755 "$work"
 cp "$program" "$work/twosync" && chmod 755 "$work/twosync"
-passed=0
-failed=0
 
 # Who may do everything may list every folder, so such a user runs the program as nobody.
 as=(env)
@@ -32,10 +31,9 @@ expect_scan() {
   for workers in 1 2 64; do
     got=$("${as[@]}" "$work/twosync" scan "$work/$3" --workers "$workers" 2>&1; echo "status $?")
     if [ "$got" = "$1"$'\n'"status $2" ]; then
-      passed=$((passed + 1))
+      ok
     else
-      failed=$((failed + 1))
-      echo "FAILED: scan $3 by $workers"
+      bad "scan $3 by $workers"
       diff <(echo "$1"; echo "status $2") <(echo "$got") | head -n 5
     fi
   done
@@ -119,5 +117,4 @@ if [ "$may_be_refused" = 1 ]; then
   # its names may be read, but what they name may not be looked at
   refused closed 10 /x/shut
 fi
-echo "folders: $passed passed, $failed failed"
-[ "$failed" = 0 ]
+ended folders

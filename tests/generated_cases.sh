@@ -7,6 +7,7 @@ set -u
 cd "$(dirname "$0")/.." || exit 1
 tests=$PWD/tests
 . tests/program.sh
+. tests/counts.sh
 program=$(program_of cases "${1:-}") || exit 1
 programs=("$program")
 # The gate has two compilers build the program, the second one after the first. Both have to answer alike.
@@ -16,22 +17,12 @@ work=$(mktemp -d) || exit 1
 trap 'rm -rf "$work"' EXIT
 cd "$work" || exit 1
 
-passed=0
-failed=0
 # try SCRIPT WORDS..: lets a script compare its cases, and adds what it counted
 try() {
-  local script=$1 more less
+  local script=$1
   shift
   PYTHONPATH=$tests python3 -B "$tests/$script.py" "$program" "$@"
-  if [ -e counts ]; then
-    read -r more less <counts
-    passed=$((passed + more))
-    failed=$((failed + less))
-    rm counts
-  else
-    failed=$((failed + 1))
-    echo "FAILED: tests/$script.py came to no end"
-  fi
+  add_counts "tests/$script.py came to no end"
 }
 
 for program in "${programs[@]}"; do
@@ -40,5 +31,4 @@ for program in "${programs[@]}"; do
   try planned_cases
   try hostile_cases "${HOSTILE_TEXTS:-20000}"
 done
-echo "generated cases: $passed passed, $failed failed"
-[ "$failed" = 0 ]
+ended 'generated cases'

@@ -5,9 +5,10 @@
 # a small plan it begins none.
 # usage: tests/large_bundle.sh [ENTRIES] [PROGRAM]
 set -u
-cd "$(dirname "$0")/.."
+cd "$(dirname "$0")/.." || exit 1
 entries=${1:-20000}
 . tests/program.sh
+. tests/counts.sh
 program=$(program_of twosync "${2:-}") || exit 1
 work=$(mktemp -d)
 trap 'rm -rf "$work"' EXIT
@@ -41,11 +42,8 @@ tree() { awk -v n="$entries" -v x="$byte" 'BEGIN { for (i = 0; i < n; i++) print
   }'
 } >"$work/want"
 
-passed=0
-failed=0
-note() {
-  if [ "$1" = 0 ]; then passed=$((passed + 1)); else failed=$((failed + 1)); echo "FAILED: $2"; fi
-}
+# note STATUS WHAT: it is well where the status is 0
+note() { if [ "$1" = 0 ]; then ok; else bad "$2"; fi; }
 
 "$program" trial <"$work/in" >"$work/got"
 status=$?
@@ -61,5 +59,4 @@ begun=$(threads tests/worked_bundles/copy_new_file.in)
 [ "$begun" = 0 ]
 note $? "$begun threads for a plan of three actions"
 
-echo "$passed passed, $failed failed"
-[ "$failed" = 0 ]
+ended 'large bundle'

@@ -3,14 +3,13 @@
 # status.
 # usage: tests/worked_bundles.sh [PROGRAM]
 set -u
-cd "$(dirname "$0")/.."
+cd "$(dirname "$0")/.." || exit 1
 . tests/program.sh
+. tests/counts.sh
 program=$(program_of twosync "${1:-}") || exit 1
 bundles=tests/worked_bundles
 # The versions of texts that the program knows. Bundles of others are malformed to it.
 known=plan_1
-passed=0
-failed=0
 work=$(mktemp -d)
 trap 'rm -rf "$work"' EXIT
 
@@ -24,14 +23,12 @@ while IFS=$'\t' read -r name level status size title; do
     "$program" trial --workers "$workers" <"$work/in" >"$work/got" 2>"$work/err"
     got=$?
     if [ "$got" = "$status" ] && cmp -s "$work/got" "$work/want" && [ ! -s "$work/err" ]; then
-      passed=$((passed + 1))
+      ok
     else
-      failed=$((failed + 1))
-      echo "FAILED: $name ($title), $workers workers: status $got, wanted $status"
+      bad "$name ($title), $workers workers: status $got, wanted $status"
       head -c 300 "$work/err"
       diff "$work/want" "$work/got" | head -n 5
     fi
   done
 done <"$bundles/index.tsv"
-echo "worked bundles: $passed passed, $failed failed"
-[ "$failed" = 0 ]
+ended 'worked bundles'
