@@ -11,7 +11,6 @@ import os
 import re
 import tempfile
 import threading
-import time
 from dataclasses import dataclass, replace
 
 FUNCTION = re.compile(r"(?m)^( *)(?:pub(?:\([^)]*\))? )?(?:const )?(?:final )?fn (\w+)")
@@ -467,22 +466,22 @@ def is_proved_alone(rt, crate, tries, flags, kept):
     return ran is not None and not ran.returncode
 
 
-def try_all(rt, crate, edits, flags, until=None, is_proved=False):
-    """Tries a crate's edits, and returns for each whether it was refused, and what to say; or None where it wasn't begun by
-    the time `until`. What is said by functions counts only where the crate without any edit is proved: by a check of these functions
+def try_all(rt, crate, edits, flags, limit=None, is_proved=False):
+    """Tries a crate's edits, and returns for each whether it was refused, and what to say; or None where it wasn't begun before
+    the limit was passed. What is said by functions counts only where the crate without any edit is proved: by a check of these functions
     that comes first, or where `is_proved` says that the whole crate was."""
     judge_by_functions(rt)
     tries = [Try(crate, edit) for edit in edits]
     with tempfile.TemporaryDirectory(prefix="rt-edits-") as kept:
-        is_sound = not is_over(until) and (is_proved or is_proved_alone(rt, crate, tries, flags, kept))
+        is_sound = not is_over(limit) and (is_proved or is_proved_alone(rt, crate, tries, flags, kept))
         for part in rounds_of(tries) if is_sound else []:
-            if not is_over(until):
+            if not is_over(limit):
                 try_together(rt, crate, part, flags, kept)
         for it in tries:
-            if it.answer is None and not is_over(until):
+            if it.answer is None and not is_over(limit):
                 try_alone(rt, crate, it, flags, kept if is_sound else None)
     return [it.answer for it in tries]
 
 
-def is_over(until):
-    return until is not None and time.monotonic() > until
+def is_over(limit):
+    return limit is not None and limit.is_passed()

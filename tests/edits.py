@@ -19,9 +19,10 @@ An edit that is tried by hand and has no line `breaks: CLAUSE` gets one, with a 
 a stored proof, the edit says little of the contract and gets none.
 
 Every edit has to apply, every name has to have an edit, and so has every line of the record. The ten are chosen by the
-commit. Libraries that aren't built, or that are older than their sources, are built first. The gate tries the named ones and
-the ten first, and begins no other once it has tried edits for 30 minutes, or 75 minutes after it began itself: those that it
-doesn't come to it lists, and counts neither as passed nor as failed.
+commit, of crates that are checked for others anyway, as far as these have as many. Libraries that aren't built, or that are older
+than their sources, are built first. The gate tries the named ones, the ten, and ten of those without a record first, chosen in
+the same way. It begins no other once it has tried edits for 30 minutes, 75 minutes after it began itself, or when it has taken 110
+minutes of a processor: those that it doesn't come to it lists, and counts neither as passed nor as failed.
 """
 import copy
 import fcntl
@@ -44,15 +45,18 @@ sys.path.insert(0, f"{TOP}/tests")
 import by_function
 from statements import statements_of, unfolded_names
 
-# How many of the recorded edits the gate tries again, and how many of one crate at most: the first of a crate takes one to two
-# minutes of a processor, and each further one some ten seconds.
+# How many of the recorded edits the gate tries again, how many without a record it tries in any case, and how many of one crate at
+# most: the first of a crate takes one to two minutes of a processor, and each further one some ten seconds.
 SAMPLE = 10
 FROM_A_CRATE = 5
 # For how many seconds the gate begins edits that have no record, and up to how many seconds after it began itself, as .ci/run says
-# by GATE_BEGAN: where all is proved from nothing, which takes most of that, it leaves them to later runs. It has three hours on two
-# processors for all that it does.
+# by GATE_BEGAN: it has three hours on two processors for all that it does.
 MOST_SECONDS = 30 * 60
 LAST_SECOND = 75 * 60
+# How many seconds of a processor the gate may have taken by then, those that .ci/run names by GATE_SPENT among them: of its budget of
+# 130 minutes this leaves what the scripts after this step take. Where all is proved from nothing, which takes more, it leaves most of
+# these edits to later runs: with another kit nearly all lack a record, though nothing of this repository has changed.
+MOST_SPENT = 110 * 60
 # A crate's edits are tried over what a check of it without any proved; where there are more, in several lanes.
 MOST_IN_A_LANE = 24
 NAME = re.compile(r"[A-Za-z0-9_-][A-Za-z0-9_.-]*\.edit")
@@ -257,10 +261,11 @@ class Repository:
         digests, kept, kit = Digests(self), self.record.digests, self.record.kit
         return [it for it in self.edits if kept.get((it.key, kit)) == digests.of_edit(it, self.crates[it.crate])]
 
-    def sample(self, edits):
-        """Returns some of the edits, others for each commit, so that over time each is tried again. They are of few crates."""
-        at, by_crate = self.place_for_commit(), {}
-        for it in sorted(edits, key=lambda it: at(it.key)):
+    def sample(self, edits, others):
+        """Returns some of the edits, other ones for each commit, so that over time each is tried again. They are of few crates, first
+        of those of the others that this run tries: the first edit of a crate takes as long as several more."""
+        at, by_crate, near = self.place_for_commit(), {}, {it.crate for it in others}
+        for it in sorted(edits, key=lambda it: (it.crate not in near, at(it.key))):
             by_crate.setdefault(it.crate, []).append(it)
         return [it for some in by_crate.values() for it in some[:FROM_A_CRATE]][:SAMPLE]
 
@@ -350,12 +355,29 @@ class Libraries:
         return not status
 
 
+def spent():
+    """Returns the seconds of a processor that this program took, and those of its children that have ended."""
+    taken = os.times()
+    return taken.user + taken.system + taken.children_user + taken.children_system
+
+
+@dataclass(frozen=True)
+class Limit:
+    """What a gate has for edits without a record: a time by the monotonic clock, and seconds of a processor."""
+
+    time: float
+    spent: float
+
+    def is_passed(self):
+        return time.monotonic() > self.time or spent() > self.spent
+
+
 class Trial:
     """Has the prover try some edits, and notes what it answers. Where it is told to, it names in each edit a clause that it breaks."""
 
-    def __init__(self, repository, edits, until=None, names_clauses=False):
+    def __init__(self, repository, edits, limit=None, names_clauses=False):
         self.repository, self.rt = repository, repository.rt
-        self.edits, self.until, self.names_clauses = edits, until, names_clauses
+        self.edits, self.limit, self.names_clauses = edits, limit, names_clauses
         self.refused, self.little, self.failed, self.left = set(), [], [], []
 
     def run(self):
@@ -399,7 +421,7 @@ class Trial:
         read = Digests(self.repository)
         before = {it.key: read.of_edit(it, crate) for it in edits}
         files, is_proved = [it.file for it in edits], self.repository.is_after_ci
-        answers = by_function.try_all(self.rt, crate, files, ["--jobs", "1"], self.until, is_proved)
+        answers = by_function.try_all(self.rt, crate, files, ["--jobs", "1"], self.limit, is_proved)
         self.left += [edit.key for edit, answer in zip(edits, answers) if answer is None]
         after, seen, tried = Digests(self.repository), {}, []
         for edit, (is_refused, text) in ((edit, answer) for edit, answer in zip(edits, answers) if answer):
@@ -456,7 +478,8 @@ def chosen(repository, words):
     due = repository.due()
     standing = [it for it in repository.standing() if it.key not in due]
     keys = {it.key for it in standing}
-    return [it for it in repository.edits if it.key not in keys], repository.sample(standing)
+    new = [it for it in repository.edits if it.key not in keys]
+    return new, repository.sample(standing, [it for it in new if it.key in due])
 
 
 def faults_of(repository):
@@ -470,11 +493,17 @@ def faults_of(repository):
     return len(found)
 
 
-def last_begin():
-    """Returns when the gate begins the last edit that has no record, by the monotonic clock."""
-    began = os.environ.get("GATE_BEGAN", "")
-    since = time.time() - int(began) if began.isdigit() else 0
-    return time.monotonic() + min(MOST_SECONDS, LAST_SECOND - since)
+def number_of_gate(name):
+    """Returns the number that the gate tells by this variable, or None where no gate runs."""
+    told = os.environ.get(name, "")
+    return int(told) if told.isdigit() else None
+
+
+def gate_limit():
+    """Returns the limit up to which the gate begins edits that have no record."""
+    began, before = number_of_gate("GATE_BEGAN"), number_of_gate("GATE_SPENT")
+    since = 0 if began is None else time.time() - began
+    return Limit(time.monotonic() + min(MOST_SECONDS, LAST_SECOND - since), MOST_SPENT - (before or 0))
 
 
 def step(repository, words):
@@ -483,13 +512,15 @@ def step(repository, words):
     if is_by_hand:
         repository.clean_record()
     wrong = faults_of(repository)
-    until = None if is_by_hand else last_begin()
+    limit = None if is_by_hand else gate_limit()
     new, again = chosen(repository, words)
     due = repository.due()
-    first = [it for it in new if it.key in due] + again
+    named = [it for it in new if it.key in due]
+    some = repository.sample([it for it in new if it.key not in due], named)
+    first = named + again + some
     keys = {it.key for it in first}
-    others = [it for it in new if it.key not in keys]
-    trials = [Trial(repository, first, names_clauses=is_by_hand), Trial(repository, others, until, is_by_hand)]
+    rest = [it for it in new if it.key not in keys]
+    trials = [Trial(repository, first, names_clauses=is_by_hand), Trial(repository, rest, limit, is_by_hand)]
     for it in trials:
         it.run()
     return tell(repository, trials, len(again), is_by_hand, wrong)

@@ -24,7 +24,8 @@ TRY_ALL = by_function.try_all
 # One lane, so that crates come one after the other.
 os.environ["RT_JOBS"] = "1"
 # (the gate that runs these tests has begun long ago)
-os.environ.pop("GATE_BEGAN", None)
+for name in "GATE_BEGAN", "GATE_SPENT":
+    os.environ.pop(name, None)
 REFUSED = "refused, as it must be: src/lib.rt:1:1: error"
 LITTLE = f"refused, as it must be ({by_function.LITTLE})"
 
@@ -89,11 +90,11 @@ class World:
             with open(f"{crate.folder}/out/rlib/stamp", "w", encoding="utf-8") as it:
                 it.write(crate.stamp())
 
-    def prove(self, _rt, crate, files, flags, until=None, is_proved=False):
+    def prove(self, _rt, crate, files, flags, limit=None, is_proved=False):
         """Takes the place of try_all: an answer is a text, or a call that is made while the edit is tried."""
         found = []
         for file in files:
-            if until is not None and time.monotonic() > until:
+            if limit is not None and limit.is_passed():
                 found.append(None)
                 continue
             key = f"{crate.name}/{os.path.basename(file)}"
@@ -306,6 +307,30 @@ def a_gate_that_began_long_ago_tries_the_named_edits_alone(world):
         same((world.run(), sorted(world.asked)), ((4, 0), ALL))
     finally:
         del os.environ["GATE_BEGAN"]
+
+
+def a_gate_that_has_taken_its_share_tries_the_named_edits_alone(world):
+    world.put("docs/WRONG_BODIES.md", "| wrong | `low/a` | `low::f` |\n")
+    try:
+        os.environ["GATE_SPENT"] = str(edits.MOST_SPENT)
+        same((world.run(), world.asked), ((1, 0), ["low/a.edit"]))
+        same("not tried, for there was no time: high/b.edit high/c.edit other/d.edit\n" in world.said, True)
+        # some without a record are tried even so
+        same((world.run(sample=1), "low/a.edit" in world.asked, len(world.asked)), ((2, 0), True, 2))
+        # (this program has taken little itself)
+        os.environ["GATE_SPENT"] = str(edits.MOST_SPENT - 600)
+        same((world.run(), len(world.record().splitlines())), ((4, 0), 4))
+    finally:
+        del os.environ["GATE_SPENT"]
+
+
+def the_sample_is_of_crates_that_are_checked_anyway(world):
+    world.run()
+    # one edit of `high` is named, so the other one is the sample, whatever the commit
+    world.put("docs/WRONG_BODIES.md", "| wrong | `high/b` | `high::f` |\n")
+    for _ in range(4):
+        world.commit()
+        same((world.run(sample=1), sorted(world.asked)), ((4, 0), ["high/b.edit", "high/c.edit"]))
 
 
 def a_record_of_no_edit_fails(world):
@@ -714,10 +739,12 @@ TESTS = [
     another_kit_has_every_edit_tried_again,
     the_sample_is_another_one_for_each_commit,
     the_sample_is_of_few_crates,
+    the_sample_is_of_crates_that_are_checked_anyway,
     what_is_not_refused_fails_and_loses_its_record,
     a_named_edit_of_each_line_is_tried_on_each_run,
     what_there_is_no_time_for_is_listed_and_not_counted,
     a_gate_that_began_long_ago_tries_the_named_edits_alone,
+    a_gate_that_has_taken_its_share_tries_the_named_edits_alone,
     a_record_of_no_edit_fails,
     a_record_that_was_not_written_by_the_tool_fails,
     a_digest_that_was_made_up_does_not_count,
