@@ -6,7 +6,7 @@ always gives up would be proved. This looks for a test of each such call (`publi
 out), by its crate and its type and not by its name alone.
 
 A test is a function `#[test]` of a crate of tests, or `main` of a program that the gate runs, with all that it reaches in its
-own crate. It makes the call of a function where the file imports it, and that of a method where it says `Type::name(`, or where
+own crate and in `fixtures`. It makes the call of a function where the file imports it, and that of a method where it says `Type::name(`, or where
 it says `.name(` in a file that imports from the method's crate, and nothing else has a method of that name. For a name that
 others have, too, SHARED says which test it is: that has to make a call of this name, and to name the type or to make a value of
 it. What only the program calls stands in SCRIPTS, with the case of a script that fails where the call gives up.
@@ -29,6 +29,8 @@ from public_calls import Call, code_of, functions_of, may_give_up, name_of, publ
 
 LAWS = ("ts_laws", "ts_text_laws")
 TESTING = ("library_calls", "text_calls", "tree_calls", "cases", "benchmarks")
+# The crate of what they share.
+FIXTURES = "fixtures"
 # Methods that types of the standard library have, too.
 OF_STD = set("fill finish join lock next parse push read remove rename replace split take write".split())
 
@@ -157,22 +159,28 @@ def calls_in(function, crates):
 
 
 def called(files, file, function):
-    """Yields the functions of its own crate that a function calls by name, each with its file: those of its own file, or else
-    of one that this file names, or methods."""
+    """Yields the functions of its own crate and of the fixtures that a function calls by name, each with its file: those of its own
+    file, or else of one that this file names, or from which it imports them, or methods."""
     for before, word, after in zip(function.body, function.body[1:], function.body[2:]):
         if after in ("(", ":") and word.isidentifier():
             own = [(file, it) for it in file.functions if it.name == word]
-            is_named = lambda other: os.path.basename(other.path).removesuffix(".rt") in file.links
             yield from own or (
                 (other, it)
                 for other in files
                 for it in other.functions
-                if it.name == word and (is_named(other) or it.owner and before == ".")
+                if it.name == word and (is_named(file, other, word) or it.owner and before == ".")
             )
 
 
+def is_named(file, other, word):
+    """Whether a file names another one of its crate, or imports a word from the fixtures, of which the other one is."""
+    if other.path.startswith(f"crates/{FIXTURES}/"):
+        return file.crates.get(word) == FIXTURES
+    return os.path.basename(other.path).removesuffix(".rt") in file.links
+
+
 def reached(files, file, test):
-    """Yields a test and the functions of its own crate that it reaches, each with its file."""
+    """Yields a test and the functions of its own crate and of the fixtures that it reaches, each with its file."""
     todo, seen = [(file, test)], set()
     while todo:
         file, function = todo.pop()
@@ -185,7 +193,7 @@ def reached(files, file, test):
 def tests_of(crate):
     """Yields the tests of a crate."""
     files = []
-    paths = files_below(crate, "src", ".rt")
+    paths = files_below(crate, "src", ".rt") + files_below(FIXTURES, "src", ".rt")
     for path, tokens in zip(paths, tokens_of(paths)):
         crates, links = imports_of(tokens)
         files.append(File(path, crates, functions_of(tokens), links))

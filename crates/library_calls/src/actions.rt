@@ -1,5 +1,5 @@
 //! Actions that are kept in little room.
-use crate::shared::path;
+use fixtures::path;
 use std::alloc::Global;
 use ts_model::packed::{KindRef, PackedAction};
 use ts_model::plan::{Kind, PIECE_SIZE};

@@ -1,7 +1,6 @@
 //! Texts of bundles and results, whatever the source and the sink do.
+use fixtures::{Drip, dripping, front, sink_of};
 use std::alloc::Global;
-use std::io;
-use std::io::{ErrorKind, Read, Write};
 use ts_bundle::{Bundle, BundleFault, BundleReader, count_skipped, decode, write_result};
 use ts_text::{Counted, Lines};
 
@@ -55,46 +54,6 @@ skip held /e
 total 3 done 2 skipped 1 failed 0 blocked 0
 ";
 
-/// Gives at most `step` bytes a call, and fails once no more than `fails_at` bytes are left.
-#[derive(Drop)]
-struct Drip<'a> {
-    left: &'a [u8],
-    step: usize,
-    fails_at: Option<usize>,
-}
-
-impl Read for Drip<'_> {
-    fn read(&mut self, buf: &mut [u8]) -> io::Result<usize> {
-        if let Some(most) = self.fails_at {
-            if self.left.len() <= most {
-                return Err(io::Error::from(ErrorKind::Other));
-            }
-        }
-        let room = self.step.min(buf.len());
-        self.left.read(&mut buf[..room])
-    }
-}
-
-/// Takes at most two bytes a call, until it has `room` bytes.
-#[derive(Drop)]
-struct Tight {
-    taken: Vec<u8>,
-    room: usize,
-}
-
-impl Write for Tight {
-    fn write(&mut self, buf: &[u8]) -> io::Result<usize> {
-        let count = self.room.min(2).min(buf.len());
-        self.taken.extend_from_slice(&buf[..count])?;
-        self.room -= count;
-        Ok(count)
-    }
-
-    fn flush(&mut self) -> io::Result<()> {
-        Ok(())
-    }
-}
-
 fn read(alloc: Global, source: Drip<'_>) -> Result<Bundle, BundleFault> {
     let mut lines = Lines::new(alloc, Counted::new(source))?;
     decode(alloc, &mut lines)
@@ -102,11 +61,7 @@ fn read(alloc: Global, source: Drip<'_>) -> Result<Bundle, BundleFault> {
 
 /// The text as a source that doesn't fail.
 fn whole(text: &[u8]) -> Drip<'_> {
-    Drip {
-        left: text,
-        step: 1_000,
-        fails_at: None,
-    }
+    dripping(text, 1_000)
 }
 
 /// The number of the fault that the source is refused with, or 0.
@@ -134,8 +89,7 @@ fn sizes(bundle: &Bundle) -> [usize; 7] {
 
 /// The number of the fault of writing the result into a sink, or 0, and what the sink then has.
 fn result_in(alloc: Global, bundle: &Bundle, room: usize) -> (u8, Vec<u8>) {
-    let taken = Vec::new(alloc);
-    let mut sink = Counted::new(Tight { taken, room });
+    let mut sink = sink_of(alloc, 2, room);
     let written = write_result(
         alloc,
         bundle.first.rows(),
@@ -154,9 +108,8 @@ fn result_in(alloc: Global, bundle: &Bundle, room: usize) -> (u8, Vec<u8>) {
 /// Whether the result is written as far as there is room for it, and a fault told where that isn't all.
 fn writes_into(alloc: Global, bundle: &Bundle, room: usize) -> bool {
     let (number, taken) = result_in(alloc, bundle, room);
-    let end = room.min(RESULT.len());
     let want = if room < RESULT.len() { 5 } else { 0 };
-    number == want && taken.as_slice() == &RESULT[..end]
+    number == want && taken.as_slice() == front(RESULT, room)
 }
 
 #[test]

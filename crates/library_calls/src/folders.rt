@@ -1,5 +1,5 @@
 //! Listings and bytes of folders, in memory and on a disk.
-use crate::shared::path;
+use fixtures::{path, tree_of};
 use std::alloc::Global;
 use std::fs;
 use std::fs::Files;
@@ -7,13 +7,6 @@ use std::os::unix::fs::symlink;
 use std::process::Abort;
 use ts_folder::{DiskFolder, Failing, FaultyFolder, Folder, Kind, MemFolder, Names, Trouble};
 use ts_name::Name;
-use ts_text::{Counted, Lines};
-use ts_tree::{Tree, decode};
-
-fn tree_of(alloc: Global, text: &[u8]) -> Option<Tree> {
-    let mut lines = Lines::new(alloc, Counted::new(text)).ok()?;
-    decode(alloc, &mut lines).ok()
-}
 
 /// Directory `/a` with the file `/a/b` of the byte `a`, and the file `/c` of the byte `b`.
 fn small(alloc: Global) -> Option<MemFolder> {

@@ -15,8 +15,6 @@ mod packing;
 #[cfg(test)]
 mod plans;
 #[cfg(test)]
-mod shared;
-#[cfg(test)]
 mod sites;
 #[cfg(test)]
 mod tables;

@@ -1,5 +1,5 @@
 //! What changed since the archive, and what is held.
-use crate::shared::{path, print_of};
+use fixtures::{path, print_of};
 use std::alloc::Global;
 use ts_dirty::{Marks, detect};
 use ts_hold::Holds;

@@ -1,5 +1,5 @@
 //! Paths, and names, that share one buffer.
-use crate::shared::path;
+use fixtures::path;
 use std::alloc::Global;
 use ts_model::row::{Content, Row, Stamp};
 use ts_name::{Name, Packing, Path};

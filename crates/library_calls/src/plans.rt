@@ -1,5 +1,5 @@
 //! Why paths need attention, and what is done about it.
-use crate::shared::{path, print_of};
+use fixtures::{path, print_of};
 use std::alloc::Global;
 use ts_dirty::detect;
 use ts_hold::Holds;

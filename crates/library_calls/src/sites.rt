@@ -1,5 +1,5 @@
 //! Commits to sites over memory.
-use crate::shared::path;
+use fixtures::path;
 use std::alloc::Global;
 use ts_model::items::Items;
 use ts_model::row::{Content, Row};

@@ -1,5 +1,5 @@
 //! Tables of paths, on the tree of `/a`, `/a/b` and `/a.b`.
-use crate::shared::path;
+use fixtures::path;
 use std::alloc::Global;
 use ts_model::items::Items;
 use ts_model::row::{Content, Row, Stamp};

@@ -1,5 +1,5 @@
 //! The text of an archive, both ways.
-use crate::shared::{Drip, dripping, has_taken, print_of, sink_of};
+use fixtures::{Drip, dripping, front, has_taken, print_of, sink_of};
 use std::alloc::Global;
 use ts_archive::{ArchiveFault, decode, encode};
 use ts_name::Path;
@@ -57,14 +57,14 @@ const ARCHIVES: &[(&[&[u8]], &[u8])] = &[
 
 /// Whether the archive is written as far as there is room, and a fault told where that isn't all.
 fn writes_into(alloc: Global, print: &Print, text: &[u8], step: usize, room: usize) -> bool {
-    let mut sink = sink_of(alloc, step, room, None);
+    let mut sink = sink_of(alloc, step, room);
     let written = encode(alloc, print, &mut sink);
     let is_told = if room < text.len() {
         written == Err(ArchiveFault::Failed) && sink.failures != 0
     } else {
         written == Ok(()) && sink.failures == 0
     };
-    is_told && has_taken(sink, text, room)
+    is_told && has_taken(sink, front(text, room))
 }
 
 /// How much room makes a difference, if any does.

@@ -1,5 +1,6 @@
 //! Which paths hold rules name, and their text.
-use crate::shared::{has_taken, path, repeated, sink_of};
+use crate::shared::{path, repeated};
+use fixtures::{failing_sink_of, front, has_taken};
 use std::alloc::Global;
 use std::io::ErrorKind;
 use ts_hold::{HoldFault, Holds, RuleReader};
@@ -278,9 +279,9 @@ fn limits_are_kept(rt: HostRuntime) {
 
 /// Whether the rules are written as far as there is room, and it is reported where that isn't all.
 fn writes_into(alloc: Global, holds: &Holds, text: &[u8], room: usize) -> bool {
-    let mut sink = sink_of(alloc, 1, room, Some(ErrorKind::WriteZero));
+    let mut sink = failing_sink_of(alloc, 1, room, ErrorKind::WriteZero);
     let result = holds.encode(alloc, &mut sink);
-    result.is_ok() == (room == text.len()) && has_taken(sink, text, room)
+    result.is_ok() == (room == text.len()) && has_taken(sink, front(text, room))
 }
 
 #[test]

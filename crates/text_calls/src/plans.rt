@@ -2,7 +2,8 @@
 ghost use Rattle.std.specs.Prelude.{IfOk};
 ghost use Rattle.ts_model.specs.Texts.{IsPlan};
 
-use crate::shared::{Drip, dripping, has_taken, path, plan_of, repeated, sink_of};
+use crate::shared::{path, plan_of, repeated};
+use fixtures::{Drip, dripping, front, has_taken, sink_of};
 use std::alloc::Global;
 use ts_model::items::Items;
 use ts_model::packed::{KindRef, PackedAction};
@@ -220,14 +221,14 @@ fn each_text_has_one_value(rt: HostRuntime) {
 fn writes_into(alloc: Global, plan: &Plan, room: usize) -> bool
     requires { IsPlan plan.now }
 {
-    let mut sink = sink_of(alloc, 3, room, None);
+    let mut sink = sink_of(alloc, 3, room);
     let written = encode(alloc, plan, &mut sink);
     let is_told = if room < NEW_DIRECTORY.len() {
         written == Err(PlanFault::Failed)
     } else {
         written == Ok(())
     };
-    is_told && has_taken(sink, NEW_DIRECTORY, room)
+    is_told && has_taken(sink, front(NEW_DIRECTORY, room))
 }
 
 #[test]

@@ -1,5 +1,6 @@
 //! Reports as texts.
-use crate::shared::{Tight, has_taken, plan_of, sink_of};
+use crate::shared::plan_of;
+use fixtures::{Tight, failing_sink_of, front, has_taken, sink_of};
 use std::alloc::Global;
 use std::io::ErrorKind;
 use ts_model::plan::Plan;
@@ -48,7 +49,7 @@ fn report(
     room: usize,
 ) -> Option<((u8, u8), Counted<Tight>)> {
     let plan = plan_of(alloc, text)?;
-    let mut sink = sink_of(alloc, 2, room, Some(ErrorKind::StorageFull));
+    let mut sink = failing_sink_of(alloc, 2, room, ErrorKind::StorageFull);
     let numbers = written(alloc, &plan, ends, &mut sink);
     Some((numbers, sink))
 }
@@ -63,7 +64,7 @@ fn reports(
     want: &[u8],
 ) -> bool {
     match report(alloc, text, ends, room) {
-        Some((found, sink)) => found == numbers && has_taken(sink, want, room),
+        Some((found, sink)) => found == numbers && has_taken(sink, front(want, room)),
         None => false,
     }
 }
@@ -156,9 +157,9 @@ fn reports_fates(alloc: Global, text: &[u8], fates: &[Fate], want: &[u8]) -> boo
     if fates.len() != entries.len() {
         return false;
     }
-    let mut sink = sink_of(alloc, 2, 1_000, None);
+    let mut sink = sink_of(alloc, 2, 1_000);
     match write_fates(alloc, entries, fates, &mut sink) {
-        Ok(totals) => totals.status() == 2 && has_taken(sink, want, 1_000),
+        Ok(totals) => totals.status() == 2 && has_taken(sink, want),
         Err(_) => false,
     }
 }

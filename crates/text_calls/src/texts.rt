@@ -1,5 +1,6 @@
 //! Lines, and the fields of a line.
-use crate::shared::{Drip, Tight, dripping, has_taken, repeated, sink_of};
+use crate::shared::repeated;
+use fixtures::{Drip, Tight, dripping, front, has_taken, sink_of};
 use std::alloc::Global;
 use ts_text::{
     Counted, Lines, Sink, Source, TextFault, field_dec, field_digest, push_decimal, push_digest,
@@ -131,14 +132,14 @@ fn takes_no_line_past_the_limit(rt: HostRuntime) {
 
 /// Whether the line is written as far as there is room, and a fault told where that isn't all.
 fn writes_into(alloc: Global, room: usize) -> bool {
-    let mut sink = sink_of(alloc, 2, room, None);
+    let mut sink = sink_of(alloc, 2, room);
     let result = write_line(&mut sink, b"abcde");
     let is_told = if room < 6 {
         result == Err(TextFault::Failed) && sink.failures == 1
     } else {
         result == Ok(()) && sink.failures == 0
     };
-    is_told && has_taken(sink, b"abcde\n", room)
+    is_told && has_taken(sink, front(b"abcde\n", room))
 }
 
 #[test]
@@ -175,17 +176,17 @@ fn takes(sink: &mut Counted<Tight>, bytes: &[u8], want: usize) -> bool {
 
 #[test]
 fn a_sink_takes_bytes(rt: HostRuntime) {
-    let mut sink = sink_of(rt.alloc(), 2, 3, None);
+    let mut sink = sink_of(rt.alloc(), 2, 3);
     assert!(rt; takes(&mut sink, b"abc", 2));
     assert!(rt; takes(&mut sink, b"c", 1));
-    assert!(rt; has_taken(sink, b"abc", 3));
+    assert!(rt; has_taken(sink, b"abc"));
 }
 
 #[test]
 fn writes_all_bytes(rt: HostRuntime) {
-    let mut sink = sink_of(rt.alloc(), 2, 9, None);
+    let mut sink = sink_of(rt.alloc(), 2, 9);
     assert!(rt; write_all(&mut sink, b"ab\nc\0").is_ok());
-    assert!(rt; has_taken(sink, b"ab\nc\0", 9));
+    assert!(rt; has_taken(sink, b"ab\nc\0"));
 }
 
 #[test]

@@ -2,8 +2,9 @@
 ghost use Rattle.std.specs.Prelude.{◌≡◌, IfSome};
 ghost use Rattle.ts_model.specs.Trees.{at, print_of};
 
-use crate::shared::{source_of, spelled, tree_of};
+use crate::shared::spelled;
 use crate::{prints, shared, trees};
+use fixtures::{source_of, tree_of};
 use std::alloc::Global;
 use std::thread::Threads;
 use ts_check::{Checked, check};

@@ -1,5 +1,5 @@
 //! Real folders, each test in one of its own below the system's place for such.
-use crate::shared::{path, tree_of};
+use fixtures::{path, tree_of};
 use std::alloc::Global;
 use std::fs::{File, Files};
 use std::rt::Env;

@@ -1,5 +1,5 @@
 //! Parts of the tree of `/a`, `/a/b` and `/a.b`: looked up, taken out and put in place.
-use crate::shared::{path, tree_of};
+use fixtures::{path, tree_of};
 use std::alloc::Global;
 use ts_model::row::Content;
 use ts_name::Path;

@@ -1,5 +1,6 @@
 //! Texts of prints both ways, whatever the source and the sink do, and stamps.
-use crate::shared::{BODY, Drip, TREE, has_taken, print_of, sink_of, source_of, spelled, tree_of};
+use crate::shared::{BODY, TREE, print_of, spelled};
+use fixtures::{Drip, front, has_taken, sink_of, source_of, tree_of};
 use std::alloc::Global;
 use ts_print::{Print, PrintFault, PrintReader, decode, encode, stamp_of, write_row};
 use ts_text::{Counted, Lines, field_digest};
@@ -138,7 +139,7 @@ fn writes_into(alloc: Global, print: &Print, text: &[u8], step: usize, room: usi
     let is_cut = room < text.len();
     let want = if is_cut { 5 } else { 0 };
     let is_told = number == want && (sink.failures != 0) == is_cut;
-    has_taken(sink, &text[..room.min(text.len())]) && is_told
+    has_taken(sink, front(text, room)) && is_told
 }
 
 #[test]

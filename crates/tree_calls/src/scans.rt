@@ -1,7 +1,7 @@
 //! Scans of small folders with 1, 2 and 64 workers.
 ghost use Rattle.std.specs.Prelude.{◌≤◌};
 
-use crate::shared::{path, tree_of};
+use fixtures::{path, tree_of};
 use std::alloc::Global;
 use std::fs::Files;
 use std::sync::atomic::{AtomicU64, Ordering};

@@ -1,6 +1,7 @@
 //! Pieces that are stored on a disk, and the commits that take them.
 use crate::disks::{ground, has, makes, writes};
-use crate::shared::{print_of, source_of};
+use crate::shared::print_of;
+use fixtures::source_of;
 use std::alloc::Global;
 use std::sync::Arc;
 use std::thread::Threads;

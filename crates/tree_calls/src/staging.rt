@@ -1,5 +1,6 @@
 //! Pieces in memory and stored elsewhere, what was read back of them, and the assemblies of commits.
-use crate::shared::{BODY, path, print_of};
+use crate::shared::{BODY, print_of};
+use fixtures::path;
 use std::alloc::Global;
 use ts_model::items::Items;
 use ts_model::plan::{Entry, Reason};

@@ -1,5 +1,6 @@
 //! Prints looked up, compared and changed.
-use crate::shared::{BODY, TREE, path, print_of, tree_of};
+use crate::shared::{BODY, TREE, print_of};
+use fixtures::{path, tree_of};
 use std::alloc::Global;
 use ts_model::row::{Content, Row};
 use ts_name::Path;

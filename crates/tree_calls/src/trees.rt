@@ -1,5 +1,5 @@
 //! Texts of trees both ways, whatever the source and the sink do.
-use crate::shared::{Drip, has_taken, path, sink_of, source_of, tree_of};
+use fixtures::{Drip, front, has_taken, path, sink_of, source_of, tree_of};
 use std::alloc::Global;
 use ts_name::Path;
 use ts_text::{Counted, Lines};
@@ -109,7 +109,7 @@ fn writes_into(alloc: Global, tree: &Tree, text: &[u8], step: usize, room: usize
     let is_cut = room < text.len();
     let want = if is_cut { 5 } else { 0 };
     let is_told = number == want && (sink.failures != 0) == is_cut;
-    has_taken(sink, &text[..room.min(text.len())]) && is_told
+    has_taken(sink, front(text, room)) && is_told
 }
 
 #[test]

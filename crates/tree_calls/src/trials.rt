@@ -1,5 +1,6 @@
 //! Bundles answered, whatever the reader and the writer do.
-use crate::shared::{failing_sink_of, has_taken, source_of};
+use fixtures::{failing_sink_of, has_taken, source_of};
+use std::io::ErrorKind;
 use std::thread::Threads;
 use ts_text::Lines;
 use ts_trial::trial;
@@ -44,7 +45,7 @@ fn answers<R: AllocGlobal + Threads + Sync>(
     let Ok(mut reader) = Lines::new(alloc, source_of(bundle, step, fails_at)) else {
         return false;
     };
-    let mut writer = failing_sink_of(alloc, step, room);
+    let mut writer = failing_sink_of(alloc, step, room, ErrorKind::Other);
     let told = match trial(rt, alloc, &mut reader, &mut writer, WORKERS) {
         Ok(told) => told,
         Err(fault) => 100 + fault.number(),
