@@ -14,9 +14,9 @@ import time
 from concurrent.futures import ThreadPoolExecutor
 
 TOP = os.path.dirname(os.path.dirname(os.path.abspath(__file__)))
-sys.path.insert(0, f"{TOP}/tests")
+sys.path.insert(0, f"{TOP}/tools")
 
-from edits import load_rt
+from kit import load_rt
 
 # How long a chain of libraries is, beside the longest, for the others to wait for it.
 NEARLY = 0.95

@@ -13,10 +13,9 @@ import subprocess
 import sys
 
 TOP = os.path.dirname(os.path.dirname(os.path.abspath(__file__)))
-sys.path.insert(0, f"{TOP}/tests")
+sys.path.insert(0, f"{TOP}/tools")
 
-from edits import load_rt
-from by_function import only
+from kit import load_rt, only
 
 
 def over(clone, word):

@@ -13,9 +13,9 @@ import sys
 import tempfile
 
 TOP = os.path.dirname(os.path.dirname(os.path.abspath(__file__)))
-sys.path.insert(0, f"{TOP}/tests")
+sys.path.insert(0, f"{TOP}/tools")
 
-from edits import load_rt
+from kit import load_rt
 
 # What takes the place of the compiler: the same one, told to optimize, and without AddressSanitizer.
 COMPILER = """#!/usr/bin/env bash
