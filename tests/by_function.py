@@ -3,15 +3,20 @@
 Most of a check's time goes into reading what stands below a crate, and into proving again what the changed functions call. Each
 function is proved by itself, from the contracts of those that it calls: what the prover says of a function is said of the edit
 in it, whatever bodies the others have. So edits in different functions are tried in one check, in which all other functions have
-lost their bodies, and with them their proofs by hand. An edit of which it says nothing there, or little, is tried alone, with all
-bodies and proofs, and where a check of its function doesn't refuse it, a whole check from nothing decides, as `rt ci` makes it.
+lost their bodies, and with them their proofs by hand. An edit is refused where the prover names a goal of its function that is
+about a contract. Silence says nothing there, since a goal may wait for another function's proof: such an edit is tried alone,
+with all bodies and proofs.
 """
 import itertools
 import os
 import re
+import sys
 import tempfile
-import threading
 from dataclasses import dataclass, replace
+
+sys.path.insert(0, f"{os.path.dirname(os.path.dirname(os.path.abspath(__file__)))}/tools")
+
+from kit import only
 
 FUNCTION = re.compile(r"(?m)^( *)(?:pub(?:\([^)]*\))? )?(?:const )?(?:final )?fn (\w+)")
 # Where a function keeps its body: others are proved with it, or it is a test, or computed by the compiler, or has to take its value apart.
@@ -30,27 +35,18 @@ IN_ARGUMENTS = re.compile(r"(?<!')\b\w+|[^\s<>,'\w]")
 # How rattle says that it has a function by another name.
 UNKNOWN = re.compile(r"has no function `(.+?)`")
 OTHER_BLOCK = re.compile(r"(?m)^(?:pub(?:\([^)]*\))? )?(?:unsafe )?(?:impl|trait|mod)\b")
-# What ends the output of a check of some functions, of which one is refused.
-REFUSED = "logic=not-proved, by a check of the function alone"
 # The prover's lines on a goal: with a place in the code, or with the proof file of a function.
 AT_A_PLACE = re.compile(r"note: (src/\S+?):(\d+):\d+: .*?\(`([\w-]+)`\)")
 IN_A_PROOF = re.compile(r"(?:\./)?(proofs/\S+)/(\w+\.antt):\d+:\d+: error: `([\w-]+)`: (.*)")
 OF_A_PROOF = re.compile(r"note: `([\w-]+)` of (proofs/\S+)/\w+\.antt must prove: (.*)")
 # Answers that the prover left alone, since they cite what stands beside them and was rejected.
 UNCHECKED = re.compile(r"(?m)^(?:\./)?(proofs/\S+)/\w+\.antt:\S+ error: \d+ .* on `([\w-]+)`, .*rejected, .*checked: (.+)$")
-# A proof file that names what an edit took away says little of the contract.
-SAYS_LITTLE = re.compile(r"has no field|is not in scope|has no `|was not admitted")
-LITTLE = "only because a proof file names what the edit took away"
-# The clauses that an edit is told to break, and those among them that say least of the contract.
-TOLD = re.compile(r"refused, as it must be: breaks (.+?): ")
-WEAK = ["invariant", "loop", "safety"]
+# A proof file that names what an edit took away says nothing of the contract.
+SAYS_NOTHING = re.compile(r"has no field|is not in scope|has no `|was not admitted")
 # The clause in an edit that it has to break.
 BREAKS = re.compile(r"(?m)^breaks: (.+?) *$")
 # How many edits the prover tries in one check: its memory grows with them.
 MOST_AT_ONCE = 12
-# What the prover said last in this thread.
-LAST = threading.local()
-
 
 @dataclass(frozen=True)
 class Place:
@@ -247,13 +243,15 @@ class Try:
 
     def __init__(self, crate, edit):
         self.edit = edit
-        self.key = f"{crate.name}/{os.path.basename(edit)}"
+        self.key = f"{crate.name}/{os.path.basename(edit).removesuffix('.edit')}"
         self.changes = changes_of(edit)
         texts, places = {}, set()
         for path, old, new in self.changes:
             if path not in texts:
                 texts[path] = read_text(f"{crate.folder}/{path}")
-            places.add(changed_place(path, texts[path], texts[path].find(old)))
+            # (a change of a function's proof goes with one of the function)
+            if path.split("/")[-1] not in OF_A_BODY:
+                places.add(changed_place(path, texts[path], texts[path].find(old)))
             texts[path] = texts[path].replace(old, new)
         self.places = places
         self.answer = None
@@ -269,10 +267,6 @@ class Try:
         """The names of the functions that it changes, or none where something else is changed."""
         names = {it.name for it in self.places}
         return set() if "" in names else names
-
-
-def only(paths):
-    return [word for path in paths for word in ("--only", path)]
 
 
 def rounds_of(tries):
@@ -345,143 +339,100 @@ def clause_of(goal):
     return "safety"
 
 
-def name_clause(edit, told):
-    """Writes to an edit without a line `breaks: CLAUSE` the one that says most of those that were told to be broken, and returns
-    whether there was one."""
-    found = TOLD.search(told)
-    if not found or clauses_to_break(edit):
-        return False
-    clauses = found[1].split(", ")
-    clause = next((it for it in clauses if not it.endswith(" requires") and it not in WEAK), None)
-    clause = clause or next((it for it in clauses if it.endswith(" requires")), None) or min(clauses, key=WEAK.index)
-    text = read_text(edit)
-    with open(edit, "w", encoding="utf-8") as it:
-        it.write(f"breaks: {clause}\n{text}")
-    return True
-
-
-def judged(it, said):
-    """Returns whether an edit of which the prover said this is refused, breaks what it says it does, and what to tell."""
-    telling = [(goal, line) for goal, line in said if not SAYS_LITTLE.search(line)]
+def answer_of(it, said):
+    """Returns whether an edit is refused of which the prover said this, and what to tell."""
+    telling = [(goal, line) for goal, line in said if not SAYS_NOTHING.search(line)]
     clauses = list(dict.fromkeys(clause_of(goal) for goal, _ in telling))
+    if not clauses:
+        why = "only stored proofs no longer fit it" if said else "the prover names no goal that it breaks"
+        return False, f"{it.key}: NOT REFUSED: {why}"
     missing = [clause for clause in clauses_to_break(it.edit) if clause not in clauses]
     if missing:
-        return False, f"must-fail {it.key}: it doesn't break {', '.join(missing)}, but {', '.join(clauses) or 'nothing that was named'}"
-    if not telling:
-        return True, f"must-fail {it.key}: refused, as it must be ({LITTLE}): {said[0][1][:160]}"
-    return True, f"must-fail {it.key}: refused, as it must be: breaks {', '.join(clauses)}: {telling[0][1][:160]}"
+        return False, f"{it.key}: it doesn't break {', '.join(missing)}, but {', '.join(clauses)}"
+    return True, f"{it.key}: refused: breaks {', '.join(clauses)}: {telling[0][1][:160]}"
 
 
-def ended_refused(ran):
-    """Whether a check of some functions ended with its verdict, and refused one."""
-    return ran.returncode == 1 and ran.stdout.rstrip("\n").split("\n")[-1].startswith("only=")
+def has_verdict(ran):
+    """Whether a check came to its end: a killed one, or one of a text that can't be compiled, says nothing of goals."""
+    return ran.returncode in (0, 1) and ran.stdout.rstrip("\n").split("\n")[-1].startswith(("only=", "logic="))
 
 
-def judge_by_functions(rt):
-    """Has rt take the refusal of some functions as that of their crate, and keep what the prover said."""
-    if getattr(rt.checked, "is_by_functions", False):
-        return
-    whole = rt.checked
-
-    def checked(crate, texts, flags, kept):
-        ran = whole(crate, texts, flags, kept)
-        LAST.said = ran.stdout
-        if "--only" in flags and ended_refused(ran):
-            ran.stdout += f"\n{REFUSED}\n"
-        return ran
-
-    checked.is_by_functions = True
-    rt.checked = checked
-
-
-def are_renamed(tries):
-    """Whether the last check found that rattle has no such name for a function that these edits change. It is checked with its
-    module from then on."""
-    unknown = UNKNOWN.search(LAST.said)
-    if not unknown or not any(unknown[1] in it.only for it in tries):
-        return False
-    for it in tries:
-        it.places = {place.without(unknown[1]) for place in it.places}
-    return True
-
-
-def checked_by_functions(rt, crate, tries, texts, flags, kept):
-    """Checks the functions that some edits change, with these texts, or returns None where only a whole check would tell."""
-    while paths := sorted({path for it in tries for path in it.only}):
+def check(rt, crate, tries, texts, flags, kept):
+    """Has the prover check the functions that some edits change, with these texts, or the whole crate where no function is known.
+    A function that rattle has by another name is checked with its module from then on."""
+    while True:
+        paths = sorted({path for it in tries for path in it.only})
         ran = rt.checked(crate, texts, flags + only(paths), kept)
-        if not are_renamed(tries):
+        unknown = UNKNOWN.search(ran.stdout)
+        if not unknown or unknown[1] not in paths:
             return ran
-    return None
+        for it in tries:
+            it.places = {place.without(unknown[1]) for place in it.places}
 
 
 def try_together(rt, crate, tries, flags, kept):
-    """Tries edits of different functions in one check. Those of which it says nothing, or little, are left without an answer."""
+    """Tries edits of different functions in one check. Those of which it says nothing are left without an answer."""
     texts = texts_of(crate, tries)
-    if texts is None:
+    ran = check(rt, crate, tries, without_bodies(crate, tries, texts), flags, kept) if texts else None
+    if ran is None or not has_verdict(ran):
         return
-    if checked_by_functions(rt, crate, tries, without_bodies(crate, tries, texts), flags, kept) is None:
-        return
-    if not LAST.said.rstrip("\n").split("\n")[-1].startswith("only="):
-        return
-    goals = goals_in(crate, LAST.said)
+    goals = goals_in(crate, ran.stdout)
     for it in tries:
-        said = goals_of(it.places, goals)
-        it.answer = judged(it, said) if any(not SAYS_LITTLE.search(line) for _, line in said) else None
-
-
-def said_unedited(rt, crate, edits, flags):
-    """Makes the checks in which a crate's edits are tried together, without the edits, and returns those of whose functions the
-    prover says something even so. Whatever is put into these functions would count as refused."""
-    judge_by_functions(rt)
-    found = []
-    for part in rounds_of([Try(crate, edit) for edit in edits]):
-        if checked_by_functions(rt, crate, part, without_bodies(crate, part, {}), flags, None) is not None:
-            goals = goals_in(crate, LAST.said)
-            found += [it.edit for it in part if goals_of(it.places, goals)]
-    return found
+        is_refused, text = answer_of(it, goals_of(it.places, goals))
+        it.answer = (True, text) if is_refused else None
 
 
 def try_alone(rt, crate, it, flags, kept):
-    """Tries an edit alone: by its functions over what was proved, and where they don't refuse it by a whole check from nothing."""
-    is_refused, text = False, ""
-    while kept and it.only:
-        is_refused, text = must_fail(rt, crate, it.edit, flags + only(it.only), kept)
-        if not are_renamed([it]):
-            break
-    if not is_refused:
-        is_refused, text = must_fail(rt, crate, it.edit, flags, None)
-    said = [(goal, line) for _, goal, line in goals_in(crate, LAST.said)]
-    it.answer = judged(it, said) if is_refused and (said or clauses_to_break(it.edit)) else (is_refused, text)
+    """Tries an edit alone, with all bodies and proofs."""
+    ran = check(rt, crate, [it], texts_of(crate, [it]), flags, kept)
+    if not has_verdict(ran):
+        said = [line for line in ran.stdout.split("\n") if "error" in line] or ran.stdout.split("\n")
+        it.answer = (False, f"{it.key}: NOT TRIED: its check came to no verdict (status {ran.returncode}): {said[0][:300]}")
+        return
+    goals = goals_in(crate, ran.stdout)
+    said = goals_of(it.places, goals) if it.names else [(goal, line) for _, goal, line in goals]
+    it.answer = answer_of(it, said)
 
 
-def must_fail(rt, crate, edit, flags, kept):
-    """Returns whether rt says that the prover refuses an edit, and what it says. One kit answers yes or no, another a word."""
-    came, text = rt.must_fail(crate, edit, flags, kept)
-    return came if isinstance(came, bool) else came in (rt.REFUSED, rt.AT_LIMIT), text
-
-
-def is_proved_alone(rt, crate, tries, flags, kept):
+def is_proved(rt, crate, tries, flags, kept):
     """Whether the functions that some edits change are proved without any edit."""
-    ran = checked_by_functions(rt, crate, tries, {}, flags, kept)
-    return ran is not None and not ran.returncode
+    return not check(rt, crate, tries, {}, flags, kept).returncode
 
 
-def try_all(rt, crate, edits, flags, limit=None, is_proved=False):
-    """Tries a crate's edits, and returns for each whether it was refused, and what to say; or None where it wasn't begun before
-    the limit was passed. What is said by functions counts only where the crate without any edit is proved: by a check of these functions
-    that comes first, or where `is_proved` says that the whole crate was."""
-    judge_by_functions(rt)
+def try_all(rt, crate, edits, flags, is_known_proved):
+    """Tries a crate's edits, and returns for each whether it was refused, and what to say. What the prover says counts only where
+    the crate is proved without any edit: that is known, or a check of the changed functions comes first."""
     tries = [Try(crate, edit) for edit in edits]
     with tempfile.TemporaryDirectory(prefix="rt-edits-") as kept:
-        is_sound = not is_over(limit) and (is_proved or is_proved_alone(rt, crate, tries, flags, kept))
-        for part in rounds_of(tries) if is_sound else []:
-            if not is_over(limit):
-                try_together(rt, crate, part, flags, kept)
+        if not is_known_proved and not is_proved(rt, crate, tries, flags, kept):
+            return [(False, f"{it.key}: NOT TRIED: what it changes isn't proved without it") for it in tries]
+        for part in rounds_of(tries):
+            try_together(rt, crate, part, flags, kept)
         for it in tries:
-            if it.answer is None and not is_over(limit):
-                try_alone(rt, crate, it, flags, kept if is_sound else None)
+            if it.answer is None:
+                try_alone(rt, crate, it, flags, kept)
     return [it.answer for it in tries]
 
 
-def is_over(limit):
-    return limit is not None and limit.is_passed()
+def compile_all(rt, crate, edits, flags):
+    """Compiles a crate's edits, as many at once as change different texts, and returns what is wrong with each that doesn't."""
+    rounds = []
+    for it in (Try(crate, edit) for edit in edits):
+        room = next((part for part in rounds if texts_of(crate, [*part, it]) is not None), None)
+        if room is None:
+            rounds.append([it])
+        else:
+            room.append(it)
+    return [fault for part in rounds for fault in faults_of(rt, crate, part, flags)]
+
+
+def faults_of(rt, crate, tries, flags):
+    """Compiles some edits together, and where that fails each half of them. Returns what is wrong with those that alone don't compile."""
+    ran = rt.checked(crate, texts_of(crate, tries), [*flags, *only([""])], None)
+    if has_verdict(ran):
+        return []
+    if len(tries) == 1:
+        said = [line for line in ran.stdout.split("\n") if "error" in line] or [f"status {ran.returncode}"]
+        return [f"{tries[0].key}: it doesn't compile: {said[0][:300]}"]
+    half = len(tries) // 2
+    return faults_of(rt, crate, tries[:half], flags) + faults_of(rt, crate, tries[half:], flags)
