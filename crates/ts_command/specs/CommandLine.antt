@@ -35,6 +35,9 @@ flag_rule id = record (new_rule id) { long = Some id; action = Some SetTrue }
 abbrev pub json_rule : Rule
 json_rule = flag_rule (codes "json")
 
+abbrev pub allow_empty_rule : Rule
+allow_empty_rule = flag_rule (codes "allow-empty")
+
 abbrev pub hold_special_rule : Rule
 hold_special_rule = flag_rule (codes "hold-special")
 
@@ -70,7 +73,7 @@ planned_pair_rules = place_rule (codes "FIRST") ∷ place_rule (codes "SECOND") 
 
 abbrev pub previewed_pair_rules : List Rule
 previewed_pair_rules = place_rule (codes "FIRST") ∷ place_rule (codes "SECOND") ∷ place_rule (codes "ARCHIVE") ∷ holds_rule ∷ hold_special_rule ∷ workers_rule
-    ∷ explain_rule ∷ quiet_rule ∷ json_rule ∷ []
+    ∷ explain_rule ∷ quiet_rule ∷ allow_empty_rule ∷ json_rule ∷ []
 
 -- of the commands that change something
 abbrev pub run_rules : List Rule
@@ -79,7 +82,7 @@ run_rules = place_rule (codes "FIRST") ∷ place_rule (codes "SECOND") ∷ place
 
 abbrev pub sync_rules : List Rule
 sync_rules = place_rule (codes "FIRST") ∷ place_rule (codes "SECOND") ∷ place_rule (codes "ARCHIVE") ∷ holds_rule ∷ hold_special_rule ∷ workers_rule
-    ∷ explain_rule ∷ quiet_rule ∷ checkpoint_rule ∷ []
+    ∷ explain_rule ∷ quiet_rule ∷ allow_empty_rule ∷ checkpoint_rule ∷ []
 
 -- the subcommands that work on no pair
 abbrev pub trial_shape : Shape

@@ -2,6 +2,7 @@
 --     IsJob name rows job       the subcommand of this name, with these values, asks for the job
 --     HasWorkers rows n         n threads are asked for
 --     HasCheckpoint rows every  the archive is asked for after so many actions of a thread, or nothing is said of that
+--     HasFlags rows command     the flags that every command may have are as they are given
 --     Gives reading command     the reading gives the command
 --     given_rows matches        the values that clap's matches have, by their names
 --     IsAnswerTo words message  clap may answer the words with this message
@@ -75,12 +76,16 @@ TellsEvery (Some digits) (Some every) = IsEvery digits every
 abbrev pub HasCheckpoint : List Row → Option ℕ → Type 0
 HasCheckpoint rows = TellsEvery (first_of (codes "checkpoint") rows)
 
+pub record HasFlags (rows : List Row) (command : Command) : Type 0 where
+  pub allow_empty : IsTrue command.allow_empty ↔ IsFlagged (codes "allow-empty") rows
+  pub explain : IsTrue command.explain ↔ IsFlagged (codes "explain") rows
+  pub quiet : IsTrue command.quiet ↔ IsFlagged (codes "quiet") rows
+
 abbrev pub Gives : Option (Text × List Row) → Command → Type 0
 Gives None command = ⊥
 Gives (Some (name, rows)) command =
     IsJob name rows command.job × HasWorkers rows command.workers × HasCheckpoint rows command.checkpoint
-    × (IsTrue command.explain ↔ IsFlagged (codes "explain") rows)
-    × (IsTrue command.quiet ↔ IsFlagged (codes "quiet") rows) × (command.coloured ≡ false)
+    × HasFlags rows command × (command.coloured ≡ false)
 
 abbrev pub reading_of_words : List Text → Option (Text × List Row)
 reading_of_words words = subcommand_of command_line words

@@ -1,7 +1,7 @@
 //! The command line as clap reads it, with its help.
 ghost use Rattle.std.specs.Prelude.{◌≡◌, [], false, codes, IfOk};
 ghost use Rattle.clap.specs.Words.{app_of, rule_of};
-ghost use Rattle.ts_command.specs.CommandLine.{Describes, IsLocal, alone, checkpoint_rule, command_line, explain_rule, flag_rule, hold_special_rule, holds_rule};
+ghost use Rattle.ts_command.specs.CommandLine.{Describes, IsLocal, allow_empty_rule, alone, checkpoint_rule, command_line, explain_rule, flag_rule, hold_special_rule, holds_rule};
 ghost use Rattle.ts_command.specs.CommandLine.{json_rule, looking_line, option_rule, pair_rules, place_rule, planned_pair_rules};
 ghost use Rattle.ts_command.specs.CommandLine.{previewed_pair_rules, quiet_rule, run_rules, scan_shape, show_shape, sync_rules, trial_shape, workers_rule};
 
@@ -30,10 +30,10 @@ To see what would be done before it is done:
 Exit status: 0 all is done, 1 conflicts or held paths are left, 2 something failed, 3 refused.
 Faults are reported by number: 1 out of memory, 4 a path is too long, 5 a file can't be read or
 written, 6 a text isn't in its form, 7 an archive's last line is wrong, 8 a device failed or another
-run is at work, 9 nothing is there, 10 neither a file nor a folder or a name that isn't lawful, 11 a
-bad hold rule, 12 a plan is too large, 14 what was to be replaced has changed, 15 what was read isn't
-what was scanned, 16 words that are no command. With --explain, or on a terminal, each is put in
-words, too.";
+run is at work, 9 something isn't there, a folder doesn't know the archive or would lose all its
+files, 10 neither a file nor a folder or a name that isn't lawful, 11 a bad hold rule, 12 a plan is
+too large, 14 what was to be replaced has changed, 15 what was read isn't what was scanned, 16 words
+that are no command. With --explain, or on a terminal, each is put in words, too.";
 
 /// What stands below the help of the commands on a pair.
 const PLAN_EXAMPLE: &str = "\
@@ -130,6 +130,15 @@ fn hold_special<'a>(alloc: Global) -> Arg<'a>
     flag(alloc, "hold-special", help)
 }
 
+/// `--allow-empty`.
+fn allow_empty<'a>(alloc: Global) -> Arg<'a>
+    ensures rule { rule_of result ≡ allow_empty_rule }
+    ensures local { result.global ≡ false }
+{
+    let help = "Lets a folder that has several files lose all of them";
+    flag(alloc, "allow-empty", help)
+}
+
 /// `--json`.
 fn json<'a>(alloc: Global) -> Arg<'a>
     ensures rule { rule_of result ≡ json_rule }
@@ -191,7 +200,9 @@ fn preview<'a>(alloc: Global) -> Draft<'a>
     ensures local { IfOk result.command IsLocal }
 {
     let about = "Shows what `sync` would do, and changes nothing";
-    on_pair(alloc, "preview", about, PREVIEW_EXAMPLE).arg(json(alloc))
+    on_pair(alloc, "preview", about, PREVIEW_EXAMPLE)
+        .arg(allow_empty(alloc))
+        .arg(json(alloc))
 }
 
 /// The subcommand that answers a bundle.
@@ -215,7 +226,7 @@ fn scan<'a>(alloc: Global) -> Draft<'a>
         alloc,
         "scan",
         about,
-        "Example:\n  twosync scan ~/notes > notes.archive",
+        "Example:\n  twosync scan ~/notes > notes.txt",
     )
     .arg(place(alloc, "DIR", "A folder"))
     .arg(workers(alloc))
@@ -254,7 +265,9 @@ fn sync<'a>(alloc: Global) -> Draft<'a>
     ensures local { IfOk result.command IsLocal }
 {
     let about = "Plans and runs: makes both folders alike";
-    on_pair(alloc, "sync", about, SYNC_EXAMPLE).arg(checkpoint(alloc))
+    on_pair(alloc, "sync", about, SYNC_EXAMPLE)
+        .arg(allow_empty(alloc))
+        .arg(checkpoint(alloc))
 }
 
 /// The command line with the subcommands that change nothing.

@@ -39,13 +39,15 @@ pub enum Job<'a> {
 }
 
 /// A job, by how many threads it is done, 1 to 64, after how many actions of a thread the archive is written meanwhile, where
-/// that is said, 1 to 1,048,576, whether faults are put in words, too, whether no progress line is drawn, and whether a preview for
-/// people has colours, for which no words ask: whoever prints knows whether a terminal shows them.
+/// that is said, 1 to 1,048,576, whether a replica may lose all its files by a `sync`, whether faults are put in words, too, whether no
+/// progress line is drawn, and whether a preview for people has colours, for which no words ask: whoever prints knows whether a terminal
+/// shows them.
 #[derive(Drop)]
 pub struct Command<'a> {
     pub job: Job<'a>,
     pub workers: u32,
     pub checkpoint: Option<u32>,
+    pub allow_empty: bool,
     pub explain: bool,
     pub quiet: bool,
     pub coloured: bool,

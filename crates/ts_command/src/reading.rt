@@ -73,6 +73,7 @@ fn tell<'a>(message: clap::Error) -> Result<Command<'a>, CommandFault>
             job: Job::Tell { text: message },
             workers: USUAL_WORKERS,
             checkpoint: None,
+            allow_empty: false,
             explain: false,
             quiet: false,
             coloured: false,
@@ -90,12 +91,14 @@ fn read_command<'a>(matches: &ArgMatches<'a>) -> Option<Command<'a>>
     let job = read_job(name, inner)?;
     let workers = read_workers(inner)?;
     let checkpoint = read_checkpoint(inner)?;
+    let allow_empty = is_flagged(inner, "allow-empty");
     let explain = is_flagged(inner, "explain");
     let quiet = is_flagged(inner, "quiet");
     Some(Command {
         job,
         workers,
         checkpoint,
+        allow_empty,
         explain,
         quiet,
         coloured: false,
