@@ -13,12 +13,15 @@ abbrev pub fault_number : PerformFault → ℕ
 fault_number fault.OutOfMemory = 1
 fault_number (fault.Failed what why) = 5
 fault_number (fault.Own what cause) = 5
+fault_number (fault.Archives what) = 5
 fault_number (fault.NotCanonical what) = 6
 fault_number fault.WrongEnd = 7
 fault_number (fault.Device what cause) = 8
 fault_number (fault.Locked what) = 8
 fault_number (fault.NotThere what) = 9
 fault_number (fault.New what paths) = 9
+fault_number (fault.BothNew paths) = 9
+fault_number (fault.Emptied what files others) = 9
 fault_number (fault.BadRule line) = 11
 fault_number fault.PastLimit = 12
 fault_number fault.TooMuch = 12
@@ -34,12 +37,15 @@ abbrev pub subject_of : PerformFault → Option Subject
 subject_of fault.OutOfMemory = None
 subject_of (fault.Failed what why) = Some what
 subject_of (fault.Own what cause) = Some what
+subject_of (fault.Archives what) = Some what
 subject_of (fault.NotCanonical what) = Some what
 subject_of fault.WrongEnd = Some Archive
 subject_of (fault.Device what cause) = Some what
 subject_of (fault.Locked what) = Some what
 subject_of (fault.NotThere what) = Some what
 subject_of (fault.New what paths) = Some what
+subject_of (fault.BothNew paths) = Some Archive
+subject_of (fault.Emptied what files others) = Some what
 subject_of (fault.BadRule line) = Some Holds
 subject_of fault.PastLimit = Some Plan
 subject_of fault.TooMuch = None
@@ -53,9 +59,14 @@ IsAbout what e = IfSome (subject_of e) (λ named. named ≡ what)
 abbrev pub own_path : Path
 own_path = codes ".twosync" ∷ []
 
+-- the file in it that says which archives the replica belongs to
+abbrev pub archives_path : Path
+archives_path = codes ".twosync" ∷ codes "archives" ∷ []
+
 -- the path that a fault is told with
 abbrev pub told_path : PerformFault → Option Path
 told_path (fault.Own what cause) = Some own_path
+told_path (fault.Archives what) = Some archives_path
 told_path other = place_of other
 
 -- the number, and the path where there is one other than the root

@@ -44,11 +44,31 @@ missing_text other = codes " isn't there any more: is its disk still mounted?"
 abbrev pub pending_text : Job → Subject → List ℕ
 pending_text job what = about job what (codes ": a run was stopped there, or still works. The next `run` or `sync` brings it to an end first.")
 
+-- what to do where a folder took no part in the last run with the archive
+abbrev pub unknown_hint : List ℕ
+unknown_hint = codes " See `preview`. If what it shows is right, use `plan` and `run`. If not, remove the archive: then nothing is deleted."
+
 -- of a replica that took no part in the last run with the archive, which names so many paths
 abbrev pub new_text : Job → Subject → ℕ → List ℕ
 new_text job what paths = said (noun what ∷ shown 0 (name_in job what) ∷ codes " took no part in the last run with the archive "
     ∷ shown 0 (name_in job subject.Archive) ∷ codes ", which names " ∷ decimal paths
-    ∷ codes " paths: is its disk mounted, and is this the right archive?" ∷ [])
+    ∷ codes " paths: is its disk mounted, and is this the right archive?" ∷ unknown_hint ∷ [])
+
+abbrev pub both_new_text : Job → ℕ → List ℕ
+both_new_text job paths = said (codes "Neither " ∷ shown 0 (name_in job subject.First) ∷ codes " nor " ∷ shown 0 (name_in job subject.Second)
+    ∷ codes " took part in the last run with the archive " ∷ shown 0 (name_in job subject.Archive) ∷ codes ", which names " ∷ decimal paths
+    ∷ codes " paths: are their disks mounted, and is this the right archive?" ∷ unknown_hint ∷ [])
+
+-- the other replica of a pair
+abbrev pub other_than : Subject → Subject
+other_than subject.First = subject.Second
+other_than what = subject.First
+
+-- of a replica that would lose all its files, while the other one has so many
+abbrev pub emptied_text : Job → Subject → (files others : ℕ) → List ℕ
+emptied_text job what files others = said (codes "All " ∷ decimal files ∷ codes " files in " ∷ shown 0 (name_in job what) ∷ codes " would be deleted; "
+    ∷ shown 0 (name_in job (other_than what)) ∷ codes " has " ∷ decimal others
+    ∷ codes ". Is its disk mounted? If this is right, add --allow-empty, or use `plan` and `run`." ∷ [])
 
 abbrev pub bad_line_text : Job → ℕ → List ℕ
 bad_line_text job line = said (codes "Line " ∷ decimal line ∷ codes " of " ∷ shown 0 (name_in job subject.Holds)
@@ -132,12 +152,16 @@ abbrev pub sentence_of : Job → PerformFault → List ℕ
 sentence_of job fault.OutOfMemory = memory_text
 sentence_of job (fault.Failed what why) = because job what (why_text why) (why_hint why) (why_cause why)
 sentence_of job (fault.Own what cause) = because job what (codes "/.twosync can't be made or used") (codes ": who owns it?") cause
+sentence_of job (fault.Archives what) =
+    about job what (codes "/.twosync/archives is malformed. Remove it, look at `preview`, and use `plan` and `run`.")
 sentence_of job (fault.NotCanonical what) = about job what (codes " is malformed: was it cut short, or changed by hand?")
 sentence_of job fault.WrongEnd = about job subject.Archive (codes " was cut short, or changed by hand: its last line doesn't fit those before it.")
 sentence_of job (fault.Device what cause) = because job what (codes ": its device failed, or what a stopped run left can't be finished") (codes ".") cause
 sentence_of job (fault.Locked what) = about job what (codes " is in use by another run.")
 sentence_of job (fault.NotThere what) = about job what (missing_text what)
 sentence_of job (fault.New what paths) = new_text job what paths
+sentence_of job (fault.BothNew paths) = both_new_text job paths
+sentence_of job (fault.Emptied what files others) = emptied_text job what files others
 sentence_of job (fault.BadRule line) = bad_rule_text job line
 sentence_of job fault.PastLimit = about job subject.Plan (codes " has more entries, actions or predecessors than a plan may have.")
 sentence_of job fault.TooMuch = said (codes "Too much differs for one plan, which has at most 1,048,576 entries." ∷ [])

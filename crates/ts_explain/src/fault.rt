@@ -30,6 +30,11 @@ pub enum PerformFault {
         what: Subject,
         cause: Cause,
     },
+    /// The file in a replica that says which archives it belongs to, `.twosync/archives`, is empty or malformed.
+    #[error("the replica's .twosync/archives is malformed")]
+    Archives {
+        what: Subject,
+    },
     /// A plan or an archive isn't spelled as it has to be.
     #[error("not canonical")]
     NotCanonical {
@@ -59,6 +64,18 @@ pub enum PerformFault {
     New {
         what: Subject,
         paths: usize,
+    },
+    /// Neither replica took part in it.
+    #[error("neither took part in the last run")]
+    BothNew {
+        paths: usize,
+    },
+    /// A replica would lose all its files, which are so many, while the other one has so many.
+    #[error("would lose all its files")]
+    Emptied {
+        what: Subject,
+        files: usize,
+        others: usize,
     },
     /// The line spells no hold rule, isn't ended by a line feed, or comes after the 4,096th. Lines count from 1.
     #[error("bad hold rule on line {line}")]
@@ -93,11 +110,16 @@ impl PerformFault {
     {
         match self {
             PerformFault::OutOfMemory => 1,
-            PerformFault::Failed { .. } | PerformFault::Own { .. } => 5,
+            PerformFault::Failed { .. }
+            | PerformFault::Own { .. }
+            | PerformFault::Archives { .. } => 5,
             PerformFault::NotCanonical { .. } => 6,
             PerformFault::WrongEnd => 7,
             PerformFault::Device { .. } | PerformFault::Locked { .. } => 8,
-            PerformFault::NotThere { .. } | PerformFault::New { .. } => 9,
+            PerformFault::NotThere { .. }
+            | PerformFault::New { .. }
+            | PerformFault::BothNew { .. }
+            | PerformFault::Emptied { .. } => 9,
             PerformFault::BadRule { .. } => 11,
             PerformFault::PastLimit | PerformFault::TooMuch => 12,
             PerformFault::Broken { .. } => 13,

@@ -16,6 +16,9 @@ use ts_text::{Sink, TextFault, push_decimal, write_line};
 /// The program's own directory in a replica. It is no path of an entry.
 const OWN_PATH: &str = "/.twosync";
 
+/// The file in it that says which archives the replica belongs to.
+const ARCHIVES_PATH: &str = "/.twosync/archives";
+
 /// Reports a fault of a command: its line, and its sentence before it where the command asks for that.
 ///
 /// It fails where memory runs out or the sink fails. Then a beginning of that was written.
@@ -79,6 +82,7 @@ fn push_line(fault: &PerformFault, line: &mut Vec<u8>) -> Result<(), AllocError>
 {
     match fault {
         PerformFault::Own { .. } => push_fault_at(fault.number(), OWN_PATH, line),
+        PerformFault::Archives { .. } => push_fault_at(fault.number(), ARCHIVES_PATH, line),
         _ => push_fault(fault.number(), fault.path(), line),
     }
 }

@@ -1,6 +1,6 @@
 //! What a fault means, in a sentence that names what it is about.
 ghost use Rattle.std.specs.Prelude.{◌≡◌, ◌++◌, OnOk};
-ghost use Rattle.ts_explain.specs.Sentences.{about, bad_line_text, bad_rule_text, because, broken_text, can_be_held};
+ghost use Rattle.ts_explain.specs.Sentences.{about, bad_line_text, bad_rule_text, because, both_new_text, broken_text, can_be_held, emptied_text, other_than};
 ghost use Rattle.ts_explain.specs.Sentences.{missing_text, new_text, offer_text, pending_text, refusal_text, scan_text, sentence_of, too_deep_text, unread_text, unreadable_text, unscanned_text};
 ghost use Rattle.ts_explain.specs.Subjects.{why_cause, why_hint, why_text};
 
@@ -33,6 +33,15 @@ const DEVICE: &[u8] = b": its device failed, or what a stopped run left can't be
 
 const STOP: &[u8] = b".";
 
+const ARCHIVES: &[u8] =
+    b"/.twosync/archives is malformed. Remove it, look at `preview`, and use `plan` and `run`.";
+
+const UNKNOWN_HINT: &[u8] =
+    b" See `preview`. If what it shows is right, use `plan` and `run`. If not, remove the archive: then nothing is deleted.";
+
+const EMPTIED_HINT: &[u8] =
+    b". Is its disk mounted? If this is right, add --allow-empty, or use `plan` and `run`.";
+
 const PENDING: &[u8] =
     b": a run was stopped there, or still works. The next `run` or `sync` brings it to an end first.";
 
@@ -61,6 +70,7 @@ pub fn push_sentence(
         PerformFault::Own { what, cause } => push_because(
             alloc, job, *what, OWN, OWN_HINT, *cause, line,
         ),
+        PerformFault::Archives { what } => push_about(alloc, job, *what, ARCHIVES, line),
         PerformFault::NotCanonical { what } => push_about(alloc, job, *what, MALFORMED, line),
         PerformFault::WrongEnd => push_about(alloc, job, Subject::Archive, WRONG_END, line),
         PerformFault::Device { what, cause } => push_because(
@@ -69,6 +79,12 @@ pub fn push_sentence(
         PerformFault::Locked { what } => push_about(alloc, job, *what, LOCKED, line),
         PerformFault::NotThere { what } => push_about(alloc, job, *what, missing_text(*what), line),
         PerformFault::New { what, paths } => push_new(alloc, job, *what, *paths, line),
+        PerformFault::BothNew { paths } => push_both_new(alloc, job, *paths, line),
+        PerformFault::Emptied {
+            what,
+            files,
+            others,
+        } => push_emptied(alloc, job, *what, *files, *others, line),
         PerformFault::BadRule { line: at } => push_bad_rule(alloc, job, *at, line),
         PerformFault::PastLimit => push_about(alloc, job, Subject::Plan, PAST_LIMIT, line),
         PerformFault::TooMuch => push_pieces(alloc, &[Piece::Words(TOO_MUCH)], line),
@@ -179,6 +195,66 @@ fn push_new(
         Piece::Words(b", which names "),
         Piece::Number(paths as u64),
         Piece::Words(b" paths: is its disk mounted, and is this the right archive?"),
+        Piece::Words(UNKNOWN_HINT),
+    ];
+    push_pieces(alloc, &pieces, line)
+}
+
+/// Appends what is said where neither replica took part in the last run with the archive, which names so many paths.
+fn push_both_new(
+    alloc: Global,
+    job: &Job<'_>,
+    paths: usize,
+    line: &mut Vec<u8>,
+) -> Result<(), AllocError>
+    ensures { OnOk result (line.new.items ≡ line.old.items ++ both_new_text job.now paths) }
+{
+    let pieces = [
+        Piece::Words(b"Neither "),
+        Piece::Name(Subject::First.name_in(job)),
+        Piece::Words(b" nor "),
+        Piece::Name(Subject::Second.name_in(job)),
+        Piece::Words(b" took part in the last run with the archive "),
+        Piece::Name(Subject::Archive.name_in(job)),
+        Piece::Words(b", which names "),
+        Piece::Number(paths as u64),
+        Piece::Words(b" paths: are their disks mounted, and is this the right archive?"),
+        Piece::Words(UNKNOWN_HINT),
+    ];
+    push_pieces(alloc, &pieces, line)
+}
+
+/// The other replica of a pair.
+fn other_than(what: Subject) -> Subject
+    ensures { result ≡ other_than what }
+{
+    match what {
+        Subject::First => Subject::Second,
+        _ => Subject::First,
+    }
+}
+
+/// Appends what is said of a replica that would lose all its files, while the other one has so many.
+fn push_emptied(
+    alloc: Global,
+    job: &Job<'_>,
+    what: Subject,
+    files: usize,
+    others: usize,
+    line: &mut Vec<u8>,
+) -> Result<(), AllocError>
+    ensures { OnOk result (line.new.items ≡ line.old.items ++ emptied_text job.now what files others) }
+{
+    let pieces = [
+        Piece::Words(b"All "),
+        Piece::Number(files as u64),
+        Piece::Words(b" files in "),
+        Piece::Name(what.name_in(job)),
+        Piece::Words(b" would be deleted; "),
+        Piece::Name(other_than(what).name_in(job)),
+        Piece::Words(b" has "),
+        Piece::Number(others as u64),
+        Piece::Words(EMPTIED_HINT),
     ];
     push_pieces(alloc, &pieces, line)
 }

@@ -8,3 +8,6 @@ returns-in-Device c = rw c.in-Device.is c.push_because-in-Device.ensures
 
 pub returns-in-New : goal.returns-in-New
 returns-in-New c = rw c.in-New.is c.push_new.ensures
+
+pub returns-in-Emptied : goal.returns-in-Emptied
+returns-in-Emptied c = rw c.in-Emptied.is c.push_emptied.ensures
