@@ -1,19 +1,29 @@
 //! A folder on a disk with stand-ins.
 ghost use Rattle.std.specs.Prelude.{◌≡◌, IfOk, IsTrue, drop, length, min, take};
 ghost use Rattle.ts_folder.specs.Folders.{InOrder};
+ghost use Rattle.ts_special.specs.StandIns.{is_stand_in};
 
 use crate::children::children_at;
 use crate::looks::Sort;
 use crate::specials::Specials;
+use sha2::{Digest, Sha256};
 use std::alloc::Global;
 use std::cmp::Ordering;
 use std::fs::Files;
 use ts_folder::{DiskFolder, Folder, FolderFault, Kind};
+use ts_model::row::Stamp;
 use ts_name::{Name, Path, PathFault};
 
 /// The bytes of each stand-in. They say what they are, so that no file of a user's has the same: a file that equals what
 /// stands on the other side counts as agreed.
 const STAND_IN: &[u8] = b"twosync: what is here can't be synchronized\n";
+
+/// Whether a file with this stamp is a stand-in, or has the same bytes.
+pub fn is_stand_in(stamp: &Stamp) -> bool
+    ensures { result ≡ is_stand_in stamp.now }
+{
+    stamp.size == STAND_IN.len() as u64 && stamp.digest == Sha256::digest(STAND_IN)
+}
 
 /// A directory of the file system and what is below it, with a stand-in at each special path: a file with bytes of its own,
 /// and nothing below it. All else is what `DiskFolder` says.

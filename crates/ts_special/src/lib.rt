@@ -8,7 +8,7 @@ pub mod naming;
 pub mod searching;
 pub mod specials;
 
-pub use holding::HoldingFolder;
+pub use holding::{HoldingFolder, is_stand_in};
 pub use naming::stand_in;
 pub use searching::search;
 pub use specials::{Specials, union};
