@@ -23,6 +23,8 @@ mod staging;
 #[cfg(test)]
 mod stamped;
 #[cfg(test)]
+mod stopped;
+#[cfg(test)]
 mod trees;
 #[cfg(test)]
 mod trials;

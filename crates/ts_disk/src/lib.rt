@@ -30,7 +30,7 @@ pub use flushing::{flush_above, flush_above_alone, flush_paths};
 pub use lock::{Lock, LockedRoot, take_lock};
 pub use notice::{Notice, mount_above};
 pub use places::DiskPlaces;
-pub use plan_file::{remove_plan, save_plan};
+pub use plan_file::{remove_plan, save_plan, stopped_alike};
 pub use recovery::{awaits_recovery, check_leftovers, clear_leftovers, recover_replica};
 pub use replica::Replica;
 pub use site::{DiskSite, Way};

@@ -212,11 +212,14 @@ pub(crate) fn make_missing_dir<R: Files>(files: &R, place: &str) -> io::Result<(
     }
 }
 
-/// Removes a file or a link, if one is at a place.
-pub(crate) fn remove_file_at<R: Files>(files: &R, place: &str) -> io::Result<()> {
+/// Removes a file or a link, if one is at a place. Answers whether one was.
+pub(crate) fn remove_file_at<R: Files>(files: &R, place: &str) -> io::Result<bool> {
     match kind_at(files, place)? {
-        Standing::File | Standing::Other => fs::remove_file(files, place),
-        Standing::Nothing | Standing::CutOff | Standing::Dir => Ok(()),
+        Standing::File | Standing::Other => {
+            fs::remove_file(files, place)?;
+            Ok(true)
+        }
+        Standing::Nothing | Standing::CutOff | Standing::Dir => Ok(false),
     }
 }
 

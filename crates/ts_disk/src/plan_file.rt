@@ -1,5 +1,5 @@
 //! The plan of a run, which lies in both replicas while swaps may be half done.
-ghost use Rattle.std.specs.Prelude.{◌≡◌, ◌++◌, IfOk, codes};
+ghost use Rattle.std.specs.Prelude.{◌≡◌, ◌++◌, ◌↔◌, IfOk, IsSomeAnd, IsTrue, codes};
 ghost use Rattle.std.specs.String.{string_bytes};
 ghost use Rattle.ts_model.specs.Texts.{IsPlan};
 
@@ -92,10 +92,53 @@ fn write_text<R: Files>(alloc: Global, file: R::File, plan: &Plan) -> Result<(),
     sink.inner.get_ref().sync_all().map_err(failed)
 }
 
-/// Removes the plan file of a replica, or a link in its place, if it is there.
+/// Removes the plan file of a replica, or a link in its place, if it is there. Then that has reached the device when the call ends, so
+/// that no plan comes back of a run that has ended.
 pub fn remove_plan<R: Files>(files: &R, alloc: Global, root: &str) -> Result<(), DiskFault> {
+    let own = own_place(alloc, root)?;
     let place = plan_place(alloc, root)?;
-    remove_file_at(files, place.as_str()).map_err(failed)
+    if remove_file_at(files, place.as_str()).map_err(failed)? {
+        flush_at(files, own.as_str()).map_err(failed)?;
+    }
+    Ok(())
+}
+
+/// Whether both replicas with these roots are to be recovered by one and the same plan: the plan file in each is the text of a plan, and
+/// both are the same byte for byte. Nothing is changed.
+///
+/// `Failed` where a plan file can't be read.
+pub fn stopped_alike<R: Files>(
+    files: &R,
+    alloc: Global,
+    first: &str,
+    second: &str,
+) -> Result<bool, DiskFault> {
+    let first = plan_text(files, alloc, first)?;
+    let second = plan_text(files, alloc, second)?;
+    Ok(are_one(&first, &second))
+}
+
+/// Whether there are two texts, and they are the same.
+fn are_one(first: &Option<Vec<u8>>, second: &Option<Vec<u8>>) -> bool
+    ensures { IsTrue result ↔ IsSomeAnd first.now (λ one. IsSomeAnd second.now (λ other. one.items ≡ other.items)) }
+{
+    match (first, second) {
+        (Some(first), Some(second)) => first.as_slice() == second.as_slice(),
+        _ => false,
+    }
+}
+
+/// The text of the plan in a replica, if its plan file is one. It is read once more for that, since what is no plan may be of any length.
+fn plan_text<R: Files>(files: &R, alloc: Global, root: &str) -> Result<Option<Vec<u8>>, DiskFault> {
+    if read_plan(files, alloc, root)?.is_none() {
+        return Ok(None);
+    }
+    let Some(mut file) = open_plan(files, alloc, root)? else {
+        return Ok(None);
+    };
+    let mut text = Vec::new(alloc);
+    file.read_to_end(&mut text).map_err(failed)?;
+    Ok(Some(text))
 }
 
 /// The plan that `.twosync/plan` in a root is the text of, if it is there and is one.
