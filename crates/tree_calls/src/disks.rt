@@ -250,6 +250,7 @@ fn numbers_faults(rt: HostRuntime) {
         (DiskFault::Device { cause }, 8),
         (DiskFault::Locked, 8),
         (DiskFault::Own { cause }, 5),
+        (DiskFault::Archives, 5),
     ] {
         assert!(rt; fault.number() == number, "{number}");
     }

@@ -1,19 +1,20 @@
 -- What a replica knows once a pair's archive is noted.
-use Rattle.std.proofs.Common.{◌≡◌, ◌≢◌, ◌∙◌, ◌++◌, ◌∷◌, ◌+◌, ◌-◌, ◌<◌, ◌≤◌, [], zero, suc, ℕ, List, Option, Some, None, length, take, drop, get_or, sym, ap, subst, inr, add-one, arith}
-use Rattle.std.proofs.lemmas.List.{drop-drop, take-append-drop}
-use Rattle.std.proofs.lemmas.List.Elements.{Contains-append_left, Contains-append_right}
+use Rattle.std.proofs.Common.{◌≡◌, ◌≢◌, ◌∙◌, ◌++◌, ◌∷◌, ◌+◌, ◌<◌, ◌≤◌, [], zero, suc, inl, inr, refl, ℕ, List, Option, Some, None, length, take, drop, get_or, sym, ap, subst, add-one, arith}
+use Rattle.std.proofs.lemmas.List.Elements.{Contains-append_left}
 use Rattle.std.proofs.lemmas.List.Quantifiers.{Any-push}
 use Rattle.std.proofs.lemmas.Option.{slice_get-get_or}
-use Rattle.std.specs.Prelude.{Any, Contains, IfNone, IfSome, slice_get}
-use Rattle.ts_disk.specs.Known.{IsOf, IsRecent, KeepsOthers, Knows}
+use Rattle.std.specs.Prelude.{Any, Contains, IfSome}
+use Rattle.ts_disk.specs.Known.{Becomes, HasNoCounterpart, IsCounterpart, IsCounterpartAt, IsOf, IsOfAnother, KeepsOthers, Knows}
 use Rattle.ts_disk.specs.declared.known.KnownArchives.{KnownArchives}
+use Rattle.ts_disk.specs.declared.known.Noted.{Noted}
+use Rattle.ts_disk.specs.declared.known.Noted.TheVariants.{Already, Replaced, Added, Forgot}
 use Rattle.ts_disk.specs.declared.known.PairArchive.{PairArchive}
 
--- the archive of a pair that was added is known
-pub known_pushed : (known : KnownArchives) (pairs : List PairArchive) (pair : PairArchive) (digest : List ℕ)
-    → known.pairs.items ≡ pairs ++ pair ∷ [] → IsOf pair digest → Knows known digest
-known_pushed known pairs pair digest pushed is =
-    inr (subst (Any (λ p. IsOf p digest)) (sym pushed) (Any-push (λ p. IsOf p digest) pairs pair is))
+-- the archive of a line that was added is known
+pub known_pushed : (known : KnownArchives) (lines : List PairArchive) (line : PairArchive) (digest : List ℕ)
+    → known.pairs.items ≡ lines ++ line ∷ [] → IsOf line digest → Knows known digest
+known_pushed known lines line digest pushed is =
+    subst (Any (λ l. IsOf l digest)) (sym pushed) (Any-push (λ l. IsOf l digest) lines line is)
 
 -- ---- what a list keeps where one of its elements is removed
 
@@ -42,42 +43,38 @@ stays : {X : Type 0} (xs ys : List X) (at : ℕ) (x : X) → ys ≡ take at xs +
 unfolding without
 stays xs ys at x is other has = rw (is, add-one) (other_stays xs at x other has)
 
--- what is behind some elements is behind fewer
-contains_before : {X : Type 0} (xs : List X) (fewer more : ℕ) (x : X) → fewer ≤ more → Contains (drop more xs) x → Contains (drop fewer xs) x
-contains_before xs fewer more x within has =
-    let ys = drop fewer xs in let n = more - fewer in
-    let cut : drop more xs ≡ drop n ys = let e : fewer + n ≡ more = omega arith in ap (λ m. drop m xs) (sym e) ∙ sym (drop-drop n fewer xs) in
-    subst (λ l. Contains l x) (take-append-drop n ys) (Contains-append_right (take n ys) (drop n ys) x (subst (λ l. Contains l x) cut has))
+-- ---- what becomes of the lines
+
+pub replaced : (old kept new : List PairArchive) (pair : List ℕ) (before : Option (List ℕ)) (line : PairArchive) (at : ℕ) → at < length old
+    → IsCounterpartAt old pair before at → kept ≡ take at old ++ drop (at + 1) old → new ≡ kept ++ line ∷ [] → Becomes old pair before line Replaced new
+replaced old kept new pair before line at within is removed pushed = (at, within, is, pushed ∙ ap (λ l. l ++ line ∷ []) removed)
+
+pub forgot : (old kept new : List PairArchive) (pair : List ℕ) (before : Option (List ℕ)) (line : PairArchive) → 1024 ≤ length old
+    → HasNoCounterpart old pair before → kept ≡ take 0 old ++ drop (0 + 1) old → new ≡ kept ++ line ∷ [] → Becomes old pair before line Forgot new
+forgot old kept new pair before line full none removed pushed = (none, full, pushed ∙ ap (λ l. l ++ line ∷ []) removed)
 
 -- ---- the other pairs
 
-recent_there : (old : KnownArchives) (pair : PairArchive) → IsRecent old pair → Contains old.pairs.items pair
-recent_there old pair recent = contains_before old.pairs.items 0 (length old.pairs.items - 63) pair (omega arith) recent
+named_once : (line : PairArchive) (pair other : List ℕ) → line.pair ≡ Some other → other ≢ pair → line.pair ≡ Some pair → ⊥
+named_once line pair other is differs same = differs cc
 
--- nothing is changed
-pub others_same : (old : KnownArchives) (before : Option (List ℕ)) → KeepsOthers old before old
-others_same old before pair recent other = recent_there old pair recent
+named_none : (line : PairArchive) (other : List ℕ) → line.pair ≡ Some other → line.pair ≡ None → ⊥
+named_none line other is none = cc
 
--- a pair is added
-pub others_pushed : (old new : KnownArchives) (before : Option (List ℕ)) (pairs : List PairArchive) (added : PairArchive) → new.pairs.items ≡ pairs ++ added ∷ []
-    → ((pair : PairArchive) → IsRecent old pair → IfSome before (λ digest. ¬ IsOf pair digest) → Contains pairs pair) → KeepsOthers old before new
-others_pushed old new before pairs added pushed kept pair recent other =
-    subst (λ l. Contains l pair) (sym pushed) (Contains-append_left pairs (added ∷ []) pair (kept pair recent other))
+-- the line of another pair is no counterpart
+is_no_counterpart : (lines : List PairArchive) (pair digest : List ℕ) (line : PairArchive) → IsOfAnother line pair → IsCounterpart lines pair digest line → ⊥
+is_no_counterpart lines pair digest line another (inl best) = named_once line pair another.0 another.1 another.2 best.0.0
+is_no_counterpart lines pair digest line another (inr best) = named_none line another.0 another.1 best.1.0.0
 
--- after the pair with the archive before was removed, where there is one
-pub others_stay : (old : KnownArchives) (before : Option (List ℕ)) (at : ℕ) (pairs : List PairArchive) → at < length old.pairs.items
-    → IfSome before (λ digest. IfSome (slice_get old.pairs.items at) (λ pair. IsOf pair digest)) → IfNone before ⊥
-    → pairs ≡ take at old.pairs.items ++ drop (at + 1) old.pairs.items
-    → (pair : PairArchive) → IsRecent old pair → IfSome before (λ digest. ¬ IsOf pair digest) → Contains pairs pair
-others_stay old None at pairs within of some removed pair recent other = absurd some
-others_stay old (Some digest) at pairs within of some removed pair recent other =
-    let items = old.pairs.items in
-    let is_of : IsOf (get_or items at pair) digest = subst (λ o. IfSome o (λ p. IsOf p digest)) (slice_get-get_or items at pair within) of in
-    stays items pairs at pair removed (λ same. other (subst (λ p. IsOf p digest) same is_of)) (recent_there old pair recent)
-
--- after the first of 64 was removed
-pub others_left : (old : KnownArchives) (before : Option (List ℕ)) (pairs : List PairArchive) → 64 ≤ length old.pairs.items
-    → pairs ≡ take 0 old.pairs.items ++ drop (0 + 1) old.pairs.items
-    → (pair : PairArchive) → IsRecent old pair → IfSome before (λ digest. ¬ IsOf pair digest) → Contains pairs pair
-others_left old before pairs full removed pair recent other =
-    subst (λ l. Contains l pair) (sym removed) (contains_before old.pairs.items 1 (length old.pairs.items - 63) pair (omega arith) recent)
+pub others_kept : (old : List PairArchive) (pair : List ℕ) (before : Option (List ℕ)) (added : PairArchive) (noted : Noted) (new : List PairArchive)
+    → Becomes old pair before added noted new → KeepsOthers old pair noted new
+others_kept old pair before added Already new is line another there = subst (λ l. Contains l line) (sym is) there
+others_kept old pair before added Replaced new (at, within, is, pushed) line another there =
+    let kept = take at old ++ drop (at + 1) old in
+    let found = subst (λ o. IfSome o (λ l. (digest : List ℕ) × (before ≡ Some digest) × IsCounterpart old pair digest l)) (slice_get-get_or old at line within) is in
+    let differs : get_or old at line ≢ line = λ same. is_no_counterpart old pair found.0 line another (subst (IsCounterpart old pair found.0) same found.2) in
+    subst (λ l. Contains l line) (sym pushed) (Contains-append_left kept (added ∷ []) line (stays old kept at line refl differs there))
+others_kept old pair before added Added new (none, room, pushed) line another there =
+    subst (λ l. Contains l line) (sym pushed) (Contains-append_left old (added ∷ []) line there)
+others_kept old pair before added Forgot new (none, full, pushed) line another there =
+    subst (λ l. Contains l line) (sym pushed) (Contains-append_left (drop 1 old) (added ∷ []) line there)

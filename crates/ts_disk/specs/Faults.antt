@@ -5,7 +5,7 @@ use Rattle.ts_disk.specs.declared.replacement.Refusal.TheVariants as refusal
 use Rattle.ts_site.specs.declared.fault.SiteFault.{SiteFault}
 use Rattle.ts_site.specs.declared.fault.SiteFault.TheVariants as site
 use Rattle.ts_disk.specs.declared.fault.DiskFault.{DiskFault}
-use Rattle.ts_disk.specs.declared.fault.DiskFault.TheVariants.{OutOfMemory, Failed, Unread, Device, Locked, Own}
+use Rattle.ts_disk.specs.declared.fault.DiskFault.TheVariants.{OutOfMemory, Failed, Unread, Device, Locked, Own, Archives}
 
 -- the number that the fault is reported by
 abbrev pub fault_number : DiskFault → ℕ
@@ -15,6 +15,7 @@ fault_number (Unread cause) = 5
 fault_number (Device cause) = 8
 fault_number Locked = 8
 fault_number (Own cause) = 5
+fault_number Archives = 5
 
 -- the fault that a commit ends with, by why its swap isn't made
 abbrev pub refusal_fault : Refusal → SiteFault

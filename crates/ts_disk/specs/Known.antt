@@ -1,21 +1,78 @@
 -- Which archives a replica belongs to.
---     IsOf pair digest          the pair's archive may be the one with this digest
---     Knows known digest        the replica belongs to the archive with this digest, as far as it remembers
---     IsRecent known pair       the pair is one of the last 63 that are remembered
---     KeepsOthers old before new  each of these is still remembered, but for the one whose archive is the one before
-use Rattle.std.specs.Prelude.{◌≡◌, ◌⊎◌, ◌-◌, ℕ, List, Option, Some, Any, Contains, IfSome, IsTrue, drop, length}
+--     IsOf line digest                the archive of the line's pair may be the one with this digest
+--     Knows known digest              the replica belongs to the archive with this digest, as far as it remembers
+--     Says line pair before last      the line names the pair, whose archive may be the last one, or the one before, if there is one
+--     RecentlySays known pair before last   one of the last 512 lines says so
+--     IsNamedOf name digest line      the line names the pair so, or none, and its archive may be the one with this digest
+--     IsBest lines name digest line   so it is, and its last archive is the one with this digest, where any line's is that is named so
+--     IsCounterpart lines pair digest line   it is the best line for that archive that names the pair; or, where none does, names none
+--     HasNoCounterpart lines pair before     no line is
+--     Becomes old pair before line noted new   the lines that there are once this one was noted, by what was answered
+--     IsOfAnother line pair           the line names another pair
+--     KeepsOthers old pair noted new  each line of another pair is still there, but for the oldest, where it was answered to be forgotten
+use Rattle.std.specs.Prelude.{◌≡◌, ◌≢◌, ◌⊎◌, ◌-◌, ◌+◌, ◌<◌, ◌≤◌, ◌++◌, ◌∷◌, [], ℕ, List, Option, Some, None, All, Any, Contains, IfSome, drop, length, slice_get, take}
 use Rattle.ts_disk.specs.declared.known.KnownArchives.{KnownArchives}
+use Rattle.ts_disk.specs.declared.known.Noted.{Noted}
+use Rattle.ts_disk.specs.declared.known.Noted.TheVariants.{Already, Replaced, Added, Forgot}
 use Rattle.ts_disk.specs.declared.known.PairArchive.{PairArchive}
 
 abbrev pub IsOf : PairArchive → List ℕ → Type 0
-IsOf pair digest = (pair.before ≡ Some digest) ⊎ (pair.last ≡ digest)
+IsOf line digest = (line.before ≡ Some digest) ⊎ (line.last ≡ digest)
 
 abbrev pub Knows : KnownArchives → List ℕ → Type 0
-Knows known digest = IsTrue known.is_older ⊎ Any (λ pair. IsOf pair digest) known.pairs.items
+Knows known digest = Any (λ line. IsOf line digest) known.pairs.items
 
-abbrev pub IsRecent : KnownArchives → PairArchive → Type 0
-IsRecent known pair = Contains (drop (length known.pairs.items - 63) known.pairs.items) pair
+-- ---- lines
 
-abbrev pub KeepsOthers : KnownArchives → Option (List ℕ) → KnownArchives → Type 0
-KeepsOthers old before new =
-    (pair : PairArchive) → IsRecent old pair → IfSome before (λ digest. ¬ IsOf pair digest) → Contains new.pairs.items pair
+abbrev pub Says : PairArchive → List ℕ → Option (List ℕ) → List ℕ → Type 0
+Says line pair before last = (line.pair ≡ Some pair) × IsOf line last × IfSome before (IsOf line)
+
+abbrev pub RecentlySays : KnownArchives → List ℕ → Option (List ℕ) → List ℕ → Type 0
+RecentlySays known pair before last = Any (λ line. Says line pair before last) (drop (length known.pairs.items - 512) known.pairs.items)
+
+abbrev pub IsNamedOf : Option (List ℕ) → List ℕ → PairArchive → Type 0
+IsNamedOf name digest line = (line.pair ≡ name) × IsOf line digest
+
+abbrev pub IsNamedLast : Option (List ℕ) → List ℕ → PairArchive → Type 0
+IsNamedLast name digest line = (line.pair ≡ name) × (line.last ≡ digest)
+
+abbrev pub IsBest : List PairArchive → Option (List ℕ) → List ℕ → PairArchive → Type 0
+IsBest lines name digest line = IsNamedOf name digest line × ((line.last ≡ digest) ⊎ All (λ other. ¬ IsNamedLast name digest other) lines)
+
+abbrev pub IsCounterpart : List PairArchive → List ℕ → List ℕ → PairArchive → Type 0
+IsCounterpart lines pair digest line =
+    IsBest lines (Some pair) digest line ⊎ (All (λ other. ¬ IsNamedOf (Some pair) digest other) lines × IsBest lines None digest line)
+
+-- the line at this index is the one that an archive which comes after the one before is to have in its place
+abbrev pub IsCounterpartAt : List PairArchive → List ℕ → Option (List ℕ) → ℕ → Type 0
+IsCounterpartAt lines pair before at = IfSome (slice_get lines at) (λ line. (digest : List ℕ) × (before ≡ Some digest) × IsCounterpart lines pair digest line)
+
+abbrev pub HasNoCounterpart : List PairArchive → List ℕ → Option (List ℕ) → Type 0
+HasNoCounterpart lines pair before = IfSome before (λ digest. All (λ line. ¬ IsNamedOf (Some pair) digest line × ¬ IsNamedOf None digest line) lines)
+
+-- ---- what is noted
+
+-- all lines but the one at this index, and then this one
+abbrev pub IsReplaced : List PairArchive → ℕ → PairArchive → List PairArchive → Type 0
+IsReplaced old at line new = new ≡ (take at old ++ drop (at + 1) old) ++ line ∷ []
+
+abbrev pub Becomes : List PairArchive → List ℕ → Option (List ℕ) → PairArchive → Noted → List PairArchive → Type 0
+Becomes old pair before line Already new = new ≡ old
+Becomes old pair before line Replaced new = (at : ℕ) × (at < length old) × IsCounterpartAt old pair before at × IsReplaced old at line new
+Becomes old pair before line Added new = HasNoCounterpart old pair before × (length old < 1024) × (new ≡ old ++ line ∷ [])
+Becomes old pair before line Forgot new = HasNoCounterpart old pair before × (1024 ≤ length old) × (new ≡ drop 1 old ++ line ∷ [])
+
+-- ---- the other pairs
+
+abbrev pub IsOfAnother : PairArchive → List ℕ → Type 0
+IsOfAnother line pair = (other : List ℕ) × (line.pair ≡ Some other) × (other ≢ pair)
+
+-- how many lines are forgotten
+abbrev pub forgotten_lines : Noted → ℕ
+forgotten_lines Already = 0
+forgotten_lines Replaced = 0
+forgotten_lines Added = 0
+forgotten_lines Forgot = 1
+
+abbrev pub KeepsOthers : List PairArchive → List ℕ → Noted → List PairArchive → Type 0
+KeepsOthers old pair noted new = (line : PairArchive) → IsOfAnother line pair → Contains (drop (forgotten_lines noted) old) line → Contains new line

@@ -5,5 +5,6 @@ pub mod Homes
 pub mod Known
 pub mod Modes
 pub mod Names
+pub mod Places
 pub mod Stages
 pub mod Swaps

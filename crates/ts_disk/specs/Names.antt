@@ -6,6 +6,7 @@
 --     IfKept aside P                    P of the place of what is kept, if anything is
 --     IsCutLast place front name        the place has its last slash between these two
 --     StandsIn place dir                what has this place stands in this directory
+--     IsNamedIn place name              what has this place has this name there
 use Rattle.std.specs.Prelude.{◌≡◌, ◌⊎◌, ◌++◌, ◌∷◌, [], ℕ, List, Contains, codes, decimal, ⊤}
 use Rattle.std.specs.String.{string_bytes}
 use Rattle.ts_disk.specs.declared.leftover.Aside.{Aside}
@@ -43,3 +44,7 @@ IsCutLast place front name = (¬ Contains name 47) × (place ≡ front ++ 47 ∷
 -- the directory is what comes before the last slash of the place, and without a slash the one at hand
 abbrev pub StandsIn : List ℕ → List ℕ → Type 0
 StandsIn place dir = (¬ Contains place 47 × (dir ≡ codes ".")) ⊎ ((front : List ℕ) × (name : List ℕ) × IsCutLast place front name × (dir ≡ as_directory front))
+
+-- the name is what comes after the last slash of the place, and without a slash the place itself
+abbrev pub IsNamedIn : List ℕ → List ℕ → Type 0
+IsNamedIn place name = (¬ Contains place 47 × (name ≡ place)) ⊎ ((front : List ℕ) × IsCutLast place front name)

@@ -3,15 +3,16 @@
 --     IsPathCopied plan number into path      this is such an entry's path
 --     IsTargetOf plan number into root place  this is such an entry's place below a root
 --     IsNoneCopied plan number into           no entry is such
---     notice_path notice                      the path that is reported
---     IsOfCopied plan into notice             the path is that of an entry that is copied there
+--     notice_path notice                      the path that is reported, if one is
+--     IsNoticeOf plan number into notice      a path is reported, and it is such an entry's path
+--     IsOfCopied plan into notice             so it is for an entry of some number
 --     AddsNotices old new                     what was to be reported still is, and perhaps more
 --     place_of spot target new old            of three places, that of the spot
-use Rattle.std.specs.Prelude.{◌≡◌, ◌++◌, ℕ, List, Option, Some, None}
+use Rattle.std.specs.Prelude.{◌≡◌, ◌++◌, ℕ, List, MatchOption, Option, Some, None}
 use Rattle.ts_name.specs.Paths.{Path, place_text}
 use Rattle.ts_model.specs.Plans.{Copies, other}
 use Rattle.ts_disk.specs.declared.notice.Notice.{Notice}
-use Rattle.ts_disk.specs.declared.notice.Notice.TheVariants.{Discarded, Kept, Mounted}
+use Rattle.ts_disk.specs.declared.notice.Notice.TheVariants.{Discarded, Kept, Mounted, Forgot}
 use Rattle.ts_model.specs.declared.plan.Entry.{Entry}
 use Rattle.ts_model.specs.declared.plan.Plan.{Plan}
 use Rattle.ts_model.specs.declared.plan.Side.{Side}
@@ -34,15 +35,20 @@ IsTargetOf plan number into root place = (entry : Entry) × IsCopiedInto plan nu
 abbrev pub IsNoneCopied : Plan → ℕ → Option Side → Type 0
 IsNoneCopied plan number into = (entry : Entry) → ¬ IsCopiedInto plan number into entry
 
--- the path that is reported
-abbrev pub notice_path : Notice → Path
-notice_path (Discarded path) = path
-notice_path (Kept path place) = path
-notice_path (Mounted path) = path
+-- the path that is reported, if one is
+abbrev pub notice_path : Notice → Option Path
+notice_path (Discarded path) = Some path
+notice_path (Kept path place) = Some path
+notice_path (Mounted path) = Some path
+notice_path (Forgot side) = None
 
--- what is reported is of an entry that is copied, and into this replica of the pair where one is given
+-- a path is reported, and it is that of the entry of this number, which is copied, and into this replica of the pair where one is given
+abbrev pub IsNoticeOf : Plan → ℕ → Option Side → Notice → Type 0
+IsNoticeOf plan number into notice = MatchOption (notice_path notice) ⊥ (IsPathCopied plan number into)
+
+-- so it is for an entry of some number
 abbrev pub IsOfCopied : Plan → Option Side → Notice → Type 0
-IsOfCopied plan into notice = (number : ℕ) × IsPathCopied plan number into (notice_path notice)
+IsOfCopied plan into notice = (number : ℕ) × IsNoticeOf plan number into notice
 
 -- what was to be reported still is, and then perhaps more
 abbrev pub AddsNotices : List Notice → List Notice → Type 0

@@ -1,13 +1,18 @@
 //! The place of an archive, and the lock on it.
-ghost use Rattle.std.specs.Prelude.{◌≡◌, ◌++◌, ◌↔◌, false, true, IfOk, IsTrue, OnOk, codes};
+ghost use Rattle.std.specs.Prelude.{◌≡◌, ◌++◌, ◌↔◌, false, true, IfNone, IfOk, IsTrue, Ok, OnOk, codes};
 ghost use Rattle.std.specs.String.{string_bytes};
-ghost use Rattle.ts_disk.specs.Names.{StandsIn};
+ghost use Rattle.sha2.specs.Sha256.{sha256};
+ghost use Rattle.ts_disk.specs.Names.{IsNamedIn, StandsIn};
+ghost use Rattle.ts_disk.specs.Places.{KeepsPlace, RemembersForgotten};
 
+use crate::digest::{digest_at, digest_in};
 use crate::fault::{DiskFault, failed, unusable, unwritten};
-use crate::known::{ArchiveDigest, digest_at, digest_in};
+use crate::known::{ArchiveDigest, Noted, PairName};
+use crate::known_file::known_below;
 use crate::lock::{Lock, is_at, lock_file};
 use crate::modes::{PRIVATE_FILE, permissions};
 use crate::place::{Standing, create_file, flush_at, kind_at};
+use sha2::{Digest, Sha256};
 use std::alloc::Global;
 use std::fs::{File, Files, OpenOptions, Permissions};
 use std::io::{BufWriter, ErrorKind, Read, Seek, Write};
@@ -15,6 +20,7 @@ use std::os::unix::fs::PermissionsExt;
 use std::{fs, io};
 use ts_archive::ArchiveFault;
 use ts_cause::Cause;
+use ts_model::plan::Side;
 use ts_print::Print;
 use ts_text::Counted;
 
@@ -34,8 +40,13 @@ pub struct ArchivePlace {
     place: String,
     new: String,
     mode: u32,
+    // of the pair that it is the archive of
+    pair: PairName,
     // of the archive that is there, if there is one
     pub(crate) digest: Option<ArchiveDigest>,
+    // another pair was forgotten in the replica, since this one was noted
+    has_first_forgotten: bool,
+    has_second_forgotten: bool,
     // something was written into it
     is_begun: bool,
     // the new archive has taken its place, and no other one was made since
@@ -55,12 +66,15 @@ pub fn claim_archive<R: Files<File = File> + AllocGlobal>(
     ensures new { IfOk result (λ claimed. string_bytes claimed.new ≡ string_bytes claimed.place ++ codes ".new") }
     ensures name { IfOk result (λ claimed. string_bytes claimed.name ≡ name.now) }
     ensures begun { IfOk result (λ claimed. claimed.is_done ≡ false) }
+    ensures first { IfOk result (λ claimed. claimed.has_first_forgotten ≡ false) }
+    ensures second { IfOk result (λ claimed. claimed.has_second_forgotten ≡ false) }
 {
     let place = followed(files, alloc, name)?;
     let name = String::from_str(alloc, name)?;
     let mode = mode_for(files, place.as_str())?;
     let new = format!(in alloc; "{place}.new")?;
     let digest = digest_at(files, alloc, place.as_str())?;
+    let pair = pair_at(files, place.as_str())?;
     let file = make_new(files, new.as_str(), mode)?;
     Ok(ArchivePlace {
         file,
@@ -68,7 +82,10 @@ pub fn claim_archive<R: Files<File = File> + AllocGlobal>(
         place,
         new,
         mode,
+        pair,
         digest,
+        has_first_forgotten: false,
+        has_second_forgotten: false,
         is_begun: false,
         is_done: false,
     })
@@ -87,7 +104,8 @@ impl ArchivePlace {
         second: &Option<Lock>,
     ) -> Result<(), DiskFault>
         ensures done { OnOk result (self.exit.now.is_done ≡ true) }
-        ensures kept { (self.exit.now.place ≡ self.entry.now.place) × (self.exit.now.new ≡ self.entry.now.new) }
+        ensures kept { KeepsPlace self.entry.now self.exit.now }
+        ensures forgotten { RemembersForgotten self.entry.now self.exit.now }
     {
         self.put(files, alloc, archive, first, second)?;
         self.flush(files)
@@ -104,7 +122,8 @@ impl ArchivePlace {
         second: &Option<Lock>,
     ) -> Result<(), DiskFault>
         ensures claimed { OnOk result (self.exit.now.is_done ≡ false) }
-        ensures kept { (self.exit.now.place ≡ self.entry.now.place) × (self.exit.now.new ≡ self.entry.now.new) }
+        ensures kept { KeepsPlace self.entry.now self.exit.now }
+        ensures forgotten { RemembersForgotten self.entry.now self.exit.now }
     {
         self.put(files, alloc, archive, first, second)?;
         let renewed = self.renew(files);
@@ -123,17 +142,15 @@ impl ArchivePlace {
         second: &Option<Lock>,
     ) -> Result<(), DiskFault>
         ensures done { OnOk result (self.exit.now.is_done ≡ true) }
-        ensures kept { (self.exit.now.place ≡ self.entry.now.place) × (self.exit.now.new ≡ self.entry.now.new) }
+        ensures kept { KeepsPlace self.entry.now self.exit.now }
+        ensures forgotten { RemembersForgotten self.entry.now self.exit.now }
     {
         if self.is_lost(files)? {
             self.renew(files)?;
         }
         let digest = self.write_new(alloc, archive)?;
-        for lock in [first, second] {
-            if let Some(lock) = lock {
-                lock.note_archive(files, alloc, self.digest, digest)?;
-            }
-        }
+        self.has_first_forgotten |= self.note_in(first, files, alloc, digest)?;
+        self.has_second_forgotten |= self.note_in(second, files, alloc, digest)?;
         fs::rename(files, self.new.as_str(), self.place.as_str()).map_err(failed)?;
         self.digest = Some(digest);
         self.is_done = true;
@@ -142,7 +159,8 @@ impl ArchivePlace {
 
     /// Writes the archive to the file beside its place, and waits until it has reached the device. Answers the digest in its end line.
     fn write_new(&mut self, alloc: Global, archive: &Print) -> Result<ArchiveDigest, DiskFault>
-        ensures kept { (self.exit.now.place ≡ self.entry.now.place) × (self.exit.now.new ≡ self.entry.now.new) }
+        ensures kept { KeepsPlace self.entry.now self.exit.now }
+        ensures forgotten { RemembersForgotten self.entry.now self.exit.now }
     {
         if self.is_begun {
             empty(&self.file).map_err(failed)?;
@@ -151,6 +169,37 @@ impl ArchivePlace {
         write_text(&self.file, alloc, archive)?;
         self.file.sync_all().map_err(failed)?;
         digest_in(alloc, &self.file)?.ok_or(unusable())
+    }
+
+    /// Notes in a replica with this lock that the archive with this digest is to come. Answers whether another pair was forgotten for it.
+    fn note_in<R: Files<File = File>>(
+        &self,
+        lock: &Option<Lock>,
+        files: &R,
+        alloc: Global,
+        digest: ArchiveDigest,
+    ) -> Result<bool, DiskFault>
+        ensures none { IfNone lock.now (result ≡ Ok false) }
+    {
+        match lock {
+            Some(lock) => {
+                let noted = lock.note_archive(files, alloc, self.pair, self.digest, digest)?;
+                Ok(noted == Noted::Forgot)
+            }
+            None => Ok(false),
+        }
+    }
+
+    /// Whether the replica on this side has forgotten another pair since the place was claimed: the one that was used longest ago, of
+    /// 1,024.
+    pub fn forgot_pair(&self, side: Side) -> bool
+        ensures first { side ≡ Side.First → result ≡ self.now.has_first_forgotten }
+        ensures second { side ≡ Side.Second → result ≡ self.now.has_second_forgotten }
+    {
+        match side {
+            Side::First => self.has_first_forgotten,
+            Side::Second => self.has_second_forgotten,
+        }
     }
 
     /// Whether what was written last doesn't lie beside the archive any more. A rename that was reported as failed may have put
@@ -171,7 +220,8 @@ impl ArchivePlace {
     /// Makes and locks the next new archive after one has taken its place, unless another run has put its own there meanwhile.
     fn renew<R: Files<File = File> + AllocGlobal>(&mut self, files: &R) -> Result<(), DiskFault>
         ensures claimed { OnOk result (self.exit.now.is_done ≡ false) }
-        ensures kept { (self.exit.now.place ≡ self.entry.now.place) × (self.exit.now.new ≡ self.entry.now.new) }
+        ensures kept { KeepsPlace self.entry.now self.exit.now }
+        ensures forgotten { RemembersForgotten self.entry.now self.exit.now }
     {
         let file = make_new(files, self.new.as_str(), self.mode)?;
         if !is_at(files, &self.file, self.place.as_str()).unwrap_or(false) {
@@ -265,6 +315,57 @@ fn target_of<R: Files + AllocGlobal>(
     }
     let above = above(place);
     Ok(format!(in alloc; "{above}/{target}")?)
+}
+
+/// The name of the pair whose archive is at a place. Where the system doesn't tell the whole path of its directory, as where that is no
+/// text, it goes by the place as it was named.
+fn pair_at<R: Files + AllocGlobal>(files: &R, place: &str) -> Result<PairName, DiskFault> {
+    let directory = above(place);
+    let name = name_in(place);
+    match fs::canonicalize(files, directory) {
+        Ok(whole) => Ok(pair_name(whole.as_str(), name)),
+        Err(e) if e.kind() == ErrorKind::OutOfMemory => Err(DiskFault::OutOfMemory),
+        Err(_) => Ok(pair_name(directory, name)),
+    }
+}
+
+/// The name of the pair whose archive has this name in a directory: the digest of its path.
+fn pair_name(directory: &str, name: &str) -> PairName
+    ensures { result ≡ sha256 (directory.now ++ codes "/" ++ name.now) }
+{
+    let mut hasher = Sha256::new();
+    hasher.update(directory.as_bytes());
+    hasher.update(b"/");
+    hasher.update(name.as_bytes());
+    hasher.finalize()
+}
+
+/// The name of what is at a place in its directory.
+fn name_in(place: &str) -> &str
+    ensures { IsNamedIn place.now result.now }
+{
+    match place.rsplit_once('/') {
+        Some((_, name)) => name,
+        None => place,
+    }
+}
+
+/// Whether a replica with this root knows the archive at a place, as its lock would say, for who takes none. Where there is no archive
+/// yet, there is nothing to know. Nothing is changed.
+///
+/// `Archives` and `Own` come as where the replica is locked, and `Unread` and `Failed` where the archive can't be read.
+pub fn knows_archive<R: Files<File = File> + AllocGlobal>(
+    files: &R,
+    alloc: Global,
+    root: &str,
+    archive: &str,
+) -> Result<bool, DiskFault> {
+    let known = known_below(files, alloc, root)?;
+    let place = followed(files, alloc, archive)?;
+    match digest_at(files, alloc, place.as_str())? {
+        Some(digest) => Ok(known.knows(&digest)),
+        None => Ok(true),
+    }
 }
 
 /// The directory in which a place is.

@@ -31,10 +31,13 @@ pub enum DiskFault {
     /// The program's own directory in the replica, `.twosync`, can't be made or used, as where it belongs to another user.
     #[error("the replica's .twosync can't be made or used")]
     Own { cause: Cause },
+    /// The file that says which archives the replica belongs to, `.twosync/archives`, isn't one that this program writes.
+    #[error("the replica's .twosync/archives isn't what twosync writes")]
+    Archives,
 }
 
 impl DiskFault {
-    /// The number that the fault is reported by: 1 for memory, 5 for a file and for `.twosync`, 8 for the device and for a
+    /// The number that the fault is reported by: 1 for memory, 5 for a file, for `.twosync` and for a file in it, 8 for the device and for a
     /// replica that another run works on.
     pub fn number(&self) -> u8
         ensures { result ≡ fault_number self.now }
@@ -42,6 +45,7 @@ impl DiskFault {
         match self {
             DiskFault::OutOfMemory => 1,
             DiskFault::Failed { .. } | DiskFault::Unread { .. } | DiskFault::Own { .. } => 5,
+            DiskFault::Archives => 5,
             DiskFault::Device { .. } | DiskFault::Locked => 8,
         }
     }

@@ -3,7 +3,7 @@ ghost use Rattle.std.specs.Prelude.{◌≡◌, IfOk};
 ghost use Rattle.std.specs.String.{string_bytes};
 ghost use Rattle.ts_disk.specs.Names.{IsNumbered};
 
-use crate::known::NEW_NAME;
+use crate::known_file::NEW_NAME;
 use crate::listing::text_names;
 use crate::modes::PRIVATE_DIR;
 use crate::names::{is_trash, stage_number};

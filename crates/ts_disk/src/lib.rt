@@ -4,9 +4,11 @@
 mod archive;
 mod aside;
 mod compare;
+mod digest;
 mod fault;
 mod flushing;
 mod known;
+mod known_file;
 mod leftover;
 mod listing;
 mod lock;
@@ -24,7 +26,7 @@ mod site;
 mod stage;
 mod staging;
 
-pub use archive::{ArchivePlace, claim_archive};
+pub use archive::{ArchivePlace, claim_archive, knows_archive};
 pub use fault::DiskFault;
 pub use flushing::{flush_above, flush_above_alone, flush_paths};
 pub use lock::{Lock, LockedRoot, take_lock};

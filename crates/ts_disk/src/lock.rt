@@ -6,12 +6,12 @@ ghost use Rattle.ts_disk.specs.Known.{Knows};
 
 use crate::archive::ArchivePlace;
 use crate::fault::{DiskFault, failed, own_failed};
-use crate::known::{ArchiveDigest, KnownArchives, OwnPlace, note_archive, read_known};
+use crate::known::{ArchiveDigest, KnownArchives, Noted, PairName};
+use crate::known_file::{OwnPlace, note_archive, read_known};
 use crate::place::{
     Home, Standing, close_own, create_file, is_same, look_at, make_own, mark_used, metadata_at,
     own_place,
 };
-use crate::plan_file::holds_plan;
 use std::alloc::Global;
 use std::fs::{File, Files, Metadata, OpenOptions, TryLockError};
 use std::io::ErrorKind;
@@ -31,20 +31,13 @@ pub struct Lock {
     own: String,
     // which directory stood there when the lock was taken
     home: Home,
+    // the replica took part in a run before: it had a directory `.twosync`, and not one that a run left which was stopped before it came
+    // so far
     took_part: bool,
-    was_stopped: bool,
     known: KnownArchives,
 }
 
 impl Lock {
-    /// Whether the replica took part in a run before this one: it had a directory `.twosync`, and not one that a run left which
-    /// was stopped before it came so far.
-    pub fn took_part(&self) -> bool
-        ensures { result ≡ self.now.took_part }
-    {
-        self.took_part
-    }
-
     /// Whether the replica took part in the last run with the archive in this place, as far as it remembers. Where there is no archive
     /// yet, there is nothing to know.
     pub fn knows(&self, archive: &ArchivePlace) -> bool
@@ -54,13 +47,6 @@ impl Lock {
             Some(digest) => self.known.knows(digest),
             None => true,
         }
-    }
-
-    /// Whether a run into the replica was stopped: it had a plan when it was locked.
-    pub fn was_stopped(&self) -> bool
-        ensures { result ≡ self.now.was_stopped }
-    {
-        self.was_stopped
     }
 
     /// Whether the lock's file still lies in its place: else the replica went away, as where its disk is no longer mounted.
@@ -75,20 +61,21 @@ impl Lock {
         self.home
     }
 
-    /// Notes in the replica that the archive with the digest `last` is to take the place of the one before, where it is still there.
+    /// Notes in the replica that the archive of a pair with the digest `last` is to take the place of the one before, where it is still
+    /// there. Answers what became of the lines.
     pub(crate) fn note_archive<R: Files<File = File>>(
         &self,
         files: &R,
         alloc: Global,
+        pair: PairName,
         before: Option<ArchiveDigest>,
         last: ArchiveDigest,
-    ) -> Result<(), DiskFault> {
+    ) -> Result<Noted, DiskFault> {
         let own = OwnPlace {
             place: self.own.as_str(),
             home: self.home,
-            took_part: self.took_part,
         };
-        note_archive(files, alloc, &own, before, last)
+        note_archive(files, alloc, &own, pair, before, last)
     }
 
     /// Notes that the replica takes part in this run.
@@ -135,7 +122,7 @@ impl LockedRoot<'_> {
 
 /// Takes the lock of a replica, on the file `.twosync/lock` in its root, which is made anew.
 ///
-/// `Locked` at once where another run has it, `Own` where `.twosync` or the file can't be made, opened or locked, and where `.twosync`
+/// `Locked` at once where another run has it, `Archives` where `.twosync/archives` isn't what this program writes, `Own` where `.twosync` or the file can't be made, opened or locked, and where `.twosync`
 /// belongs to another user than what is made there: whoever it belongs to may have put a plan into it, which would be obeyed. There is
 /// no lock where the root is no directory. The lock is advisory: it stops those who take it, and nobody else.
 pub fn take_lock<R: Files<File = File>>(
@@ -171,19 +158,17 @@ fn try_lock<R: Files<File = File>>(
     let place = format!(in alloc; "{own}/lock")?;
     let took_part = make_own(files, own.as_str()).map_err(own_failed)?;
     check_place(files, place.as_str(), root.len())?;
-    let was_stopped = holds_plan(files, alloc, root)?;
     let Some(file) = make_lock_file(files, place.as_str())? else {
         return Ok(None);
     };
     let home = take_own(files, &file, own.as_str(), place.as_str())?;
-    let known = known_at(files, alloc, own.as_str(), place.as_str(), took_part)?;
+    let known = known_at(files, alloc, own.as_str(), place.as_str())?;
     Ok(Some(Lock {
         file,
         place,
         own,
         home,
         took_part,
-        was_stopped,
         known,
     }))
 }
@@ -210,18 +195,14 @@ fn check_place<R: Files>(files: &R, place: &str, root: usize) -> Result<(), Disk
     Err(DiskFault::Own { cause })
 }
 
-/// The archives that a replica knows which took part in runs. Where that can't be read, the lock's file is removed.
+/// The archives that a replica knows. Where that can't be read, the lock's file is removed.
 fn known_at<R: Files>(
     files: &R,
     alloc: Global,
     own: &str,
     place: &str,
-    took_part: bool,
 ) -> Result<KnownArchives, DiskFault> {
-    if !took_part {
-        return Ok(KnownArchives::none(alloc, false));
-    }
-    let known = read_known(files, alloc, own, took_part);
+    let known = read_known(files, alloc, own);
     if known.is_err() {
         let _ = fs::remove_file(files, place);
     }

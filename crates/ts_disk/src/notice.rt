@@ -1,4 +1,4 @@
-//! What a run has to say of paths in a replica, beside how its actions ended.
+//! What a run has to say of a replica and of paths in it, beside how its actions ended.
 ghost use Rattle.std.specs.Prelude.{◌≡◌, ◌≢◌, [], IfErr, IfOk, IfSome};
 ghost use Rattle.ts_name.specs.Paths.{IsAbove};
 
@@ -7,12 +7,13 @@ use crate::place::{metadata_at, own_place};
 use std::alloc::Global;
 use std::fs::Files;
 use std::os::unix::fs::MetadataExt;
+use ts_model::plan::Side;
 use ts_name::Path;
 
 /// How many directories stand above a path, at most.
 const MOST_ABOVE: u32 = 64;
 
-/// What a run has to say of a path in a replica, beside how its actions ended.
+/// What a run has to say of a path in a replica, or of the replica itself, beside how its actions ended.
 #[derive(Debug, Drop)]
 pub enum Notice {
     /// What the swap of this entry left can't be removed, so it was renamed. It holds nothing that is needed, and later runs
@@ -24,6 +25,8 @@ pub enum Notice {
     /// Another file system is mounted at this path. Nothing can be put in place there, since a file can't be renamed from one
     /// file system to another.
     Mounted { path: Path },
+    /// The replica remembers 1,024 pairs, and has forgotten the one that was used longest ago.
+    Forgot { side: Side },
 }
 
 /// The path at which another file system is mounted than that of `.twosync`, where a path of the replica lies in one: the

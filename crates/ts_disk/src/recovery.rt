@@ -4,7 +4,7 @@ ghost use Rattle.std.specs.List.Sorted.{IsStrictlyIncreasing};
 ghost use Rattle.std.specs.Prelude.{◌≡◌, ◌++◌, ◌<◌, ◌^◌, ℕ, All, Any, Contains, IfErr, IfNone, IfOk, IfSome, codes};
 ghost use Rattle.std.specs.String.{string_bytes};
 ghost use Rattle.ts_disk.specs.Names.{IsSpotOf};
-ghost use Rattle.ts_disk.specs.Swaps.{AddsNotices, IsCopiedInto, IsNoneCopied, IsOfCopied, IsPathCopied, IsTargetOf, notice_path};
+ghost use Rattle.ts_disk.specs.Swaps.{AddsNotices, IsCopiedInto, IsNoneCopied, IsNoticeOf, IsOfCopied, IsPathCopied, IsTargetOf};
 ghost use Rattle.ts_model.specs.declared.plan.Entry.{Entry};
 
 use crate::fault::{DiskFault, device_failed};
@@ -218,7 +218,7 @@ fn end_swap<R: Files + AllocGlobal + Clone + Drop>(
     number: u32,
     into: Option<Side>,
 ) -> Result<Option<Notice>, DiskFault>
-    ensures { IfOk result (λ left. IfSome left (λ notice. IsPathCopied plan.now number into (notice_path notice))) }
+    ensures { IfOk result (λ left. IfSome left (IsNoticeOf plan.now number into)) }
 {
     let Some((path, mut places)) = entry_spots(files, alloc, root, plan, number, into)? else {
         return Ok(None);
