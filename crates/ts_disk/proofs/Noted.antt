@@ -4,7 +4,7 @@ use Rattle.std.proofs.lemmas.List.Elements.{Contains-append_left}
 use Rattle.std.proofs.lemmas.List.Quantifiers.{Any-push}
 use Rattle.std.proofs.lemmas.Option.{slice_get-get_or}
 use Rattle.std.specs.Prelude.{Any, Contains, IfSome}
-use Rattle.ts_disk.specs.Known.{Becomes, HasNoCounterpart, IsCounterpart, IsCounterpartAt, IsOf, IsOfAnother, KeepsOthers, Knows}
+use Rattle.ts_disk.specs.Known.{Adds, Becomes, HasNoCounterpart, IsCounterpart, IsCounterpartAt, IsLineFor, IsOf, IsOfAnother, KeepsOthers, Knows}
 use Rattle.ts_disk.specs.declared.known.KnownArchives.{KnownArchives}
 use Rattle.ts_disk.specs.declared.known.Noted.{Noted}
 use Rattle.ts_disk.specs.declared.known.Noted.TheVariants.{Already, Replaced, Added, Forgot}
@@ -45,13 +45,19 @@ stays xs ys at x is other has = rw (is, add-one) (other_stays xs at x other has)
 
 -- ---- what becomes of the lines
 
-pub replaced : (old kept new : List PairArchive) (pair : List ℕ) (before : Option (List ℕ)) (line : PairArchive) (at : ℕ) → at < length old
-    → IsCounterpartAt old pair before at → kept ≡ take at old ++ drop (at + 1) old → new ≡ kept ++ line ∷ [] → Becomes old pair before line Replaced new
-replaced old kept new pair before line at within is removed pushed = (at, within, is, pushed ∙ ap (λ l. l ++ line ∷ []) removed)
+adds : (kept kept' new : List PairArchive) (pair : List ℕ) (before : Option (List ℕ)) (last : List ℕ) (line : PairArchive)
+    → IsLineFor line pair before last → kept ≡ kept' → new ≡ kept ++ line ∷ [] → Adds kept' pair before last new
+adds kept kept' new pair before last line is same pushed = (line, is, pushed ∙ ap (λ l. l ++ line ∷ []) same)
 
-pub forgot : (old kept new : List PairArchive) (pair : List ℕ) (before : Option (List ℕ)) (line : PairArchive) → 1024 ≤ length old
-    → HasNoCounterpart old pair before → kept ≡ take 0 old ++ drop (0 + 1) old → new ≡ kept ++ line ∷ [] → Becomes old pair before line Forgot new
-forgot old kept new pair before line full none removed pushed = (none, full, pushed ∙ ap (λ l. l ++ line ∷ []) removed)
+pub replaced : (old kept new : List PairArchive) (pair : List ℕ) (before : Option (List ℕ)) (last : List ℕ) (line : PairArchive) (at : ℕ) → at < length old
+    → IsCounterpartAt old pair before at → IsLineFor line pair before last → kept ≡ take at old ++ drop (at + 1) old → new ≡ kept ++ line ∷ []
+    → Becomes old pair before last Replaced new
+replaced old kept new pair before last line at within is noted removed pushed = (at, within, is, adds kept _ new pair before last line noted removed pushed)
+
+pub forgot : (old kept new : List PairArchive) (pair : List ℕ) (before : Option (List ℕ)) (last : List ℕ) (line : PairArchive) → 1024 ≤ length old
+    → HasNoCounterpart old pair before → IsLineFor line pair before last → kept ≡ take 0 old ++ drop (0 + 1) old → new ≡ kept ++ line ∷ []
+    → Becomes old pair before last Forgot new
+forgot old kept new pair before last line full none noted removed pushed = (none, full, adds kept _ new pair before last line noted removed pushed)
 
 -- ---- the other pairs
 
@@ -66,15 +72,15 @@ is_no_counterpart : (lines : List PairArchive) (pair digest : List ℕ) (line : 
 is_no_counterpart lines pair digest line another (inl best) = named_once line pair another.0 another.1 another.2 best.0.0
 is_no_counterpart lines pair digest line another (inr best) = named_none line another.0 another.1 best.1.0.0
 
-pub others_kept : (old : List PairArchive) (pair : List ℕ) (before : Option (List ℕ)) (added : PairArchive) (noted : Noted) (new : List PairArchive)
-    → Becomes old pair before added noted new → KeepsOthers old pair noted new
-others_kept old pair before added Already new is line another there = subst (λ l. Contains l line) (sym is) there
-others_kept old pair before added Replaced new (at, within, is, pushed) line another there =
+pub others_kept : (old : List PairArchive) (pair : List ℕ) (before : Option (List ℕ)) (last : List ℕ) (noted : Noted) (new : List PairArchive)
+    → Becomes old pair before last noted new → KeepsOthers old pair noted new
+others_kept old pair before last Already new is line another there = subst (λ l. Contains l line) (sym is) there
+others_kept old pair before last Replaced new (at, within, is, added) line another there =
     let kept = take at old ++ drop (at + 1) old in
     let found = subst (λ o. IfSome o (λ l. (digest : List ℕ) × (before ≡ Some digest) × IsCounterpart old pair digest l)) (slice_get-get_or old at line within) is in
     let differs : get_or old at line ≢ line = λ same. is_no_counterpart old pair found.0 line another (subst (IsCounterpart old pair found.0) same found.2) in
-    subst (λ l. Contains l line) (sym pushed) (Contains-append_left kept (added ∷ []) line (stays old kept at line refl differs there))
-others_kept old pair before added Added new (none, room, pushed) line another there =
-    subst (λ l. Contains l line) (sym pushed) (Contains-append_left old (added ∷ []) line there)
-others_kept old pair before added Forgot new (none, full, pushed) line another there =
-    subst (λ l. Contains l line) (sym pushed) (Contains-append_left (drop 1 old) (added ∷ []) line there)
+    subst (λ l. Contains l line) (sym added.2) (Contains-append_left kept (added.0 ∷ []) line (stays old kept at line refl differs there))
+others_kept old pair before last Added new (none, room, added) line another there =
+    subst (λ l. Contains l line) (sym added.2) (Contains-append_left old (added.0 ∷ []) line there)
+others_kept old pair before last Forgot new (none, full, added) line another there =
+    subst (λ l. Contains l line) (sym added.2) (Contains-append_left (drop 1 old) (added.0 ∷ []) line there)

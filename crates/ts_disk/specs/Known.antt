@@ -7,7 +7,9 @@
 --     IsBest lines name digest line   so it is, and its last archive is the one with this digest, where any line's is that is named so
 --     IsCounterpart lines pair digest line   it is the best line for that archive that names the pair; or, where none does, names none
 --     HasNoCounterpart lines pair before     no line is
---     Becomes old pair before line noted new   the lines that there are once this one was noted, by what was answered
+--     IsLineFor line pair before last the line says this of the pair and no more: the archive before, where it is another than the last one
+--     Adds old pair before last new   these lines, and then such a line
+--     Becomes old pair before last noted new   the lines that there are once this was noted, by what was answered
 --     IsOfAnother line pair           the line names another pair
 --     KeepsOthers old pair noted new  each line of another pair is still there, but for the oldest, where it was answered to be forgotten
 use Rattle.std.specs.Prelude.{◌≡◌, ◌≢◌, ◌⊎◌, ◌-◌, ◌+◌, ◌<◌, ◌≤◌, ◌++◌, ◌∷◌, [], ℕ, List, Option, Some, None, All, Any, Contains, IfSome, drop, length, slice_get, take}
@@ -52,15 +54,20 @@ HasNoCounterpart lines pair before = IfSome before (λ digest. All (λ line. ¬ 
 
 -- ---- what is noted
 
--- all lines but the one at this index, and then this one
-abbrev pub IsReplaced : List PairArchive → ℕ → PairArchive → List PairArchive → Type 0
-IsReplaced old at line new = new ≡ (take at old ++ drop (at + 1) old) ++ line ∷ []
+abbrev pub IsLineFor : PairArchive → List ℕ → Option (List ℕ) → List ℕ → Type 0
+IsLineFor line pair before last =
+    (line.pair ≡ Some pair) × (line.last ≡ last) × (line.before ≢ Some last) × ((line.before ≡ before) ⊎ ((line.before ≡ None) × (before ≡ Some last)))
 
-abbrev pub Becomes : List PairArchive → List ℕ → Option (List ℕ) → PairArchive → Noted → List PairArchive → Type 0
-Becomes old pair before line Already new = new ≡ old
-Becomes old pair before line Replaced new = (at : ℕ) × (at < length old) × IsCounterpartAt old pair before at × IsReplaced old at line new
-Becomes old pair before line Added new = HasNoCounterpart old pair before × (length old < 1024) × (new ≡ old ++ line ∷ [])
-Becomes old pair before line Forgot new = HasNoCounterpart old pair before × (1024 ≤ length old) × (new ≡ drop 1 old ++ line ∷ [])
+abbrev pub Adds : List PairArchive → List ℕ → Option (List ℕ) → List ℕ → List PairArchive → Type 0
+Adds old pair before last new = (line : PairArchive) × IsLineFor line pair before last × (new ≡ old ++ line ∷ [])
+
+-- what was said lately stays so; else the line is added in place of its counterpart, of none, or of the oldest one of 1,024
+abbrev pub Becomes : List PairArchive → List ℕ → Option (List ℕ) → List ℕ → Noted → List PairArchive → Type 0
+Becomes old pair before last Already new = new ≡ old
+Becomes old pair before last Replaced new =
+    (at : ℕ) × (at < length old) × IsCounterpartAt old pair before at × Adds (take at old ++ drop (at + 1) old) pair before last new
+Becomes old pair before last Added new = HasNoCounterpart old pair before × (length old < 1024) × Adds old pair before last new
+Becomes old pair before last Forgot new = HasNoCounterpart old pair before × (1024 ≤ length old) × Adds (drop 1 old) pair before last new
 
 -- ---- the other pairs
 

@@ -3,8 +3,7 @@
 //! An archive is known by the digest in its own last line. A folder that isn't the one that an archive is about, as an older copy that
 //! lies below a mount, doesn't know it as it is now, though it may have a `.twosync` of its own.
 ghost use Rattle.std.specs.Prelude.{◌≡◌, ◌<◌, ◌↔◌, All, length, slice_get, IfNone, IfOk, IfSome, IsTrue};
-ghost use Rattle.ts_disk.specs.Known.{Becomes, HasNoCounterpart, IsBest, IsCounterpartAt, IsNamedOf, IsOf, KeepsOthers, Knows, RecentlySays, Says};
-ghost use Rattle.ts_disk.specs.declared.known.PairArchive.{PairArchive};
+ghost use Rattle.ts_disk.specs.Known.{Becomes, HasNoCounterpart, IsBest, IsCounterpartAt, IsLineFor, IsNamedOf, IsOf, KeepsOthers, Knows, RecentlySays, Says};
 
 use std::alloc::{AllocError, Global};
 use ts_text::{field_digest, push_digest, split_word};
@@ -37,6 +36,7 @@ pub(crate) struct PairArchive {
 impl PairArchive {
     /// The pair of this name, whose archive with the digest `last` is to take the place of the one before.
     fn after(pair: PairName, before: Option<ArchiveDigest>, last: ArchiveDigest) -> PairArchive
+        ensures line { IsLineFor result pair before last }
         ensures says { Says result pair before last }
     {
         let before = if before == Some(last) { None } else { before };
@@ -141,8 +141,7 @@ impl KnownArchives {
         ensures before { IfOk result (λ _. IfSome before (Knows self.new)) }
         ensures already { IfOk result (λ noted. (noted ≡ Noted.Already) ↔ RecentlySays self.old pair before last) }
         ensures others { IfOk result (λ noted. KeepsOthers self.old.pairs.items pair noted self.new.pairs.items) }
-        ensures lines { IfOk result (λ noted. (line : PairArchive) × Says line pair before last
-            × Becomes self.old.pairs.items pair before line noted self.new.pairs.items) }
+        ensures lines { IfOk result (λ noted. Becomes self.old.pairs.items pair before last noted self.new.pairs.items) }
     {
         if self.says(&pair, &before, &last) {
             return Ok(Noted::Already);

@@ -122,9 +122,10 @@ impl LockedRoot<'_> {
 
 /// Takes the lock of a replica, on the file `.twosync/lock` in its root, which is made anew.
 ///
-/// `Locked` at once where another run has it, `Archives` where `.twosync/archives` isn't what this program writes, `Own` where `.twosync` or the file can't be made, opened or locked, and where `.twosync`
-/// belongs to another user than what is made there: whoever it belongs to may have put a plan into it, which would be obeyed. There is
-/// no lock where the root is no directory. The lock is advisory: it stops those who take it, and nobody else.
+/// `Locked` at once where another run has it, `Own` where `.twosync` or the file can't be made, opened or locked, and where `.twosync`
+/// belongs to another user than what is made there: whoever it belongs to may have put a plan into it, which would be obeyed.
+/// `Archives` where `.twosync/archives` isn't what this program writes. There is no lock where the root is no directory. The lock is
+/// advisory: it stops those who take it, and nobody else.
 pub fn take_lock<R: Files<File = File>>(
     files: &R,
     alloc: Global,
