@@ -10,9 +10,10 @@
 --     IsLineFor line pair before last the line says this of the pair and no more: the archive before, where it is another than the last one
 --     Adds old pair before last new   these lines, and then such a line
 --     Becomes old pair before last noted new   the lines that there are once this was noted, by what was answered
+--     Takes old is_taken new          where a line is taken it comes after these, which are fewer than 1,024; else they stay
 --     IsOfAnother line pair           the line names another pair
 --     KeepsOthers old pair noted new  each line of another pair is still there, but for the oldest, where it was answered to be forgotten
-use Rattle.std.specs.Prelude.{◌≡◌, ◌≢◌, ◌⊎◌, ◌-◌, ◌+◌, ◌<◌, ◌≤◌, ◌++◌, ◌∷◌, [], ℕ, List, Option, Some, None, All, Any, Contains, IfSome, drop, length, slice_get, take}
+use Rattle.std.specs.Prelude.{◌≡◌, ◌≢◌, ◌⊎◌, ◌-◌, ◌+◌, ◌<◌, ◌≤◌, ◌++◌, ◌∷◌, [], ℕ, List, Option, Some, None, All, Any, Bool, Contains, IfSome, drop, false, length, slice_get, take, true}
 use Rattle.ts_disk.specs.declared.known.KnownArchives.{KnownArchives}
 use Rattle.ts_disk.specs.declared.known.Noted.{Noted}
 use Rattle.ts_disk.specs.declared.known.Noted.TheVariants.{Already, Replaced, Added, Forgot}
@@ -68,6 +69,12 @@ Becomes old pair before last Replaced new =
     (at : ℕ) × (at < length old) × IsCounterpartAt old pair before at × Adds (take at old ++ drop (at + 1) old) pair before last new
 Becomes old pair before last Added new = HasNoCounterpart old pair before × (length old < 1024) × Adds old pair before last new
 Becomes old pair before last Forgot new = HasNoCounterpart old pair before × (1024 ≤ length old) × Adds (drop 1 old) pair before last new
+
+-- ---- what is read
+
+abbrev pub Takes : List PairArchive → Bool → List PairArchive → Type 0
+Takes old true new = (length old < 1024) × ((line : PairArchive) × (new ≡ old ++ line ∷ []))
+Takes old false new = new ≡ old
 
 -- ---- the other pairs
 

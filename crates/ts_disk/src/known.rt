@@ -2,8 +2,8 @@
 //!
 //! An archive is known by the digest in its own last line. A folder that isn't the one that an archive is about, as an older copy that
 //! lies below a mount, doesn't know it as it is now, though it may have a `.twosync` of its own.
-ghost use Rattle.std.specs.Prelude.{◌≡◌, ◌<◌, ◌↔◌, All, length, slice_get, IfNone, IfOk, IfSome, IsTrue};
-ghost use Rattle.ts_disk.specs.Known.{Becomes, HasNoCounterpart, IsBest, IsCounterpartAt, IsLineFor, IsNamedOf, IsOf, KeepsOthers, Knows, RecentlySays, Says};
+ghost use Rattle.std.specs.Prelude.{◌≡◌, ◌<◌, ◌↔◌, [], All, length, slice_get, IfNone, IfOk, IfSome, IsTrue};
+ghost use Rattle.ts_disk.specs.Known.{Becomes, HasNoCounterpart, IsBest, IsCounterpartAt, IsLineFor, IsNamedOf, IsOf, KeepsOthers, Knows, RecentlySays, Says, Takes};
 
 use std::alloc::{AllocError, Global};
 use ts_text::{field_digest, push_digest, split_word};
@@ -105,7 +105,9 @@ pub(crate) struct KnownArchives {
 
 impl KnownArchives {
     /// What a replica knows that has no such file.
-    pub(crate) fn none(alloc: Global) -> KnownArchives {
+    pub(crate) fn none(alloc: Global) -> KnownArchives
+        ensures { result.pairs.items ≡ [] }
+    {
         KnownArchives {
             pairs: Vec::new(alloc),
         }
@@ -194,7 +196,9 @@ impl KnownArchives {
     }
 
     /// Takes over what a line of the file says, if it says something that may stand there.
-    pub(crate) fn take(&mut self, line: &[u8]) -> Result<bool, AllocError> {
+    pub(crate) fn take(&mut self, line: &[u8]) -> Result<bool, AllocError>
+        ensures { IfOk result (λ is_taken. Takes self.old.pairs.items is_taken self.new.pairs.items) }
+    {
         match pair_in(line) {
             Some(pair) if self.pairs.len() < MOST_PAIRS => {
                 self.pairs.push(pair)?;

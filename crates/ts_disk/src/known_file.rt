@@ -1,6 +1,7 @@
 //! The file `.twosync/archives` in a replica, which says what archives it belongs to.
 ghost use Rattle.std.specs.Prelude.{◌≡◌, ◌++◌, IfOk, codes};
 ghost use Rattle.std.specs.String.{string_bytes};
+ghost use Rattle.ts_disk.specs.Faults.{archives_fault};
 
 use crate::fault::{DiskFault, failed, own_failed, unusable};
 use crate::known::{ArchiveDigest, KnownArchives, MOST_PAIRS, Noted, PairName};
@@ -88,7 +89,9 @@ fn known_of<S: Source>(alloc: Global, lines: &mut Lines<S>) -> Result<KnownArchi
 }
 
 /// What it is that lines end with this fault: those that aren't canonical aren't this program's.
-fn unread_known(fault: &TextFault) -> DiskFault {
+fn unread_known(fault: &TextFault) -> DiskFault
+    ensures { result ≡ archives_fault fault.now }
+{
     match fault {
         TextFault::OutOfMemory => DiskFault::OutOfMemory,
         TextFault::Failed => DiskFault::Own {
