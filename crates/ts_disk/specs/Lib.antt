@@ -1,3 +1,4 @@
+pub mod Claims
 pub mod Compared
 pub mod Faults
 pub mod Flushing
@@ -5,6 +6,5 @@ pub mod Homes
 pub mod Known
 pub mod Modes
 pub mod Names
-pub mod Places
 pub mod Stages
 pub mod Swaps

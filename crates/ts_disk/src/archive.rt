@@ -3,7 +3,7 @@ ghost use Rattle.std.specs.Prelude.{◌≡◌, ◌++◌, ◌↔◌, false, true,
 ghost use Rattle.std.specs.String.{string_bytes};
 ghost use Rattle.sha2.specs.Sha256.{sha256};
 ghost use Rattle.ts_disk.specs.Names.{IsNamedIn, StandsIn};
-ghost use Rattle.ts_disk.specs.Places.{KeepsPlace, RemembersForgotten};
+ghost use Rattle.ts_disk.specs.Claims.{KeepsPlace, RemembersForgotten};
 
 use crate::digest::{digest_at, digest_in};
 use crate::fault::{DiskFault, failed, unusable, unwritten};
