@@ -27,6 +27,12 @@ use ts_text::Counted;
 /// How the text of every archive begins.
 const BEGINNING: &[u8] = b"twosync-archive ";
 
+/// The file that tells this machine from others.
+const MACHINE_ID: &str = "/etc/machine-id";
+
+/// How many bytes of it are read at most. It has 33.
+const MACHINE_ID_BYTES: u64 = 64;
+
 /// How many links from one to the next are followed to an archive's place.
 const LINKS: u32 = 40;
 
@@ -74,7 +80,7 @@ pub fn claim_archive<R: Files<File = File> + AllocGlobal>(
     let mode = mode_for(files, place.as_str())?;
     let new = format!(in alloc; "{place}.new")?;
     let digest = digest_at(files, alloc, place.as_str())?;
-    let pair = pair_at(files, place.as_str())?;
+    let pair = pair_at(files, alloc, place.as_str())?;
     let file = make_new(files, new.as_str(), mode)?;
     Ok(ArchivePlace {
         file,
@@ -319,21 +325,43 @@ fn target_of<R: Files + AllocGlobal>(
 
 /// The name of the pair whose archive is at a place. Where the system doesn't tell the whole path of its directory, as where that is no
 /// text, it goes by the place as it was named.
-fn pair_at<R: Files + AllocGlobal>(files: &R, place: &str) -> Result<PairName, DiskFault> {
+fn pair_at<R: Files + AllocGlobal>(
+    files: &R,
+    alloc: Global,
+    place: &str,
+) -> Result<PairName, DiskFault> {
+    let machine = machine_id(files, alloc)?;
+    let machine = machine.as_slice();
     let directory = above(place);
     let name = name_in(place);
     match fs::canonicalize(files, directory) {
-        Ok(whole) => Ok(pair_name(whole.as_str(), name)),
+        Ok(whole) => Ok(pair_name(machine, whole.as_str(), name)),
         Err(e) if e.kind() == ErrorKind::OutOfMemory => Err(DiskFault::OutOfMemory),
-        Err(_) => Ok(pair_name(directory, name)),
+        Err(_) => Ok(pair_name(machine, directory, name)),
     }
 }
 
-/// The name of the pair whose archive has this name in a directory: the digest of its path.
-fn pair_name(directory: &str, name: &str) -> PairName
-    ensures { result ≡ sha256 (directory.now ++ codes "/" ++ name.now) }
+/// What tells this machine from others, as far as that can be read, else nothing. A disk that is carried between two of them may belong to
+/// a pair on each whose archives lie at the same place.
+fn machine_id<R: Files>(files: &R, alloc: Global) -> Result<Vec<u8>, DiskFault> {
+    let mut id = Vec::new(alloc);
+    let read = match fs::open(files, MACHINE_ID) {
+        Ok(file) => file.take(MACHINE_ID_BYTES).read_to_end(&mut id),
+        Err(e) => Err(e),
+    };
+    match read {
+        Err(e) if e.kind() == ErrorKind::OutOfMemory => Err(DiskFault::OutOfMemory),
+        Err(_) => Ok(Vec::new(alloc)),
+        Ok(_) => Ok(id),
+    }
+}
+
+/// The name of the pair whose archive has this name in a directory of a machine.
+fn pair_name(machine: &[u8], directory: &str, name: &str) -> PairName
+    ensures { result ≡ sha256 (machine.now ++ directory.now ++ codes "/" ++ name.now) }
 {
     let mut hasher = Sha256::new();
+    hasher.update(machine);
     hasher.update(directory.as_bytes());
     hasher.update(b"/");
     hasher.update(name.as_bytes());
