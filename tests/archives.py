@@ -277,7 +277,6 @@ def look_at_order(case, name):
         if OWN.search(rest):
             look_at_own(name, noted, call, rest)
             if call in RENAMES and "archives" in rest:
-                # one without the file knows any
                 unknown = [replica for replica, it in noted.items() if digest and it.text and digest not in it.text.split()]
                 hold(name + ": both know the archive that is there", unknown and "%s don't" % unknown)
         elif call in OPENS and 'archive.new"' in rest and "O_CREAT" in rest:
@@ -295,12 +294,6 @@ def look_at_order(case, name):
 def look_at_orders(case):
     case.fresh()
     look_at_order(case, case.name + ", in order")
-    if case.archives[0] is not None:
-        # what took part before there was such a file knows any archive, and notes the one before all the same
-        case.fresh()
-        for replica in BOTH:
-            os.remove("try/%s/.twosync/archives" % replica)
-        look_at_order(case, case.name + ", in order, without the file")
 
 
 def main():

@@ -17,6 +17,13 @@ one='total 1 done 1 skipped 0 failed 0 blocked 0'
 # Digests of no archive that is here.
 S1=$(printf one | sha256sum | cut -c1-64)
 S2=$(printf two | sha256sum | cut -c1-64)
+# pair_of ARCHIVE: how a line begins that is about the pair with this archive: by the machine, and by where the archive lies
+pair_of() {
+  printf 'pair:%s' "$({ cat /etc/machine-id 2>/dev/null && :; printf %s "$(realpath -m "$1")"; } | sha256sum | cut -c1-64)"
+}
+# Lines about the pair that most cases are about, and about another one.
+ours=$(pair_of archive)
+theirs=$(pair_of theirs)
 
 # says NAME LINES REPLICA..: the file of these replicas has just these lines, and is for its owner alone
 says() {
@@ -44,14 +51,12 @@ knows() {
 }
 # agree NAME ONE OTHER: two replicas hold the same
 agree() { holds_true "$1: $2 and $3 hold the same" diff -r -x .twosync "$2" "$3"; }
-# What `synced` puts before the program.
-limits=()
 # synced NAME [WORDS..]: `sync` does all that is to be done, and both replicas hold the same then
 synced() {
   local name=$1 got
   shift
   [ "$#" != 0 ] || set -- first second archive
-  "${limits[@]}" timeout 20 "$program" sync "$@" >out 2>err
+  timeout 20 "$program" sync "$@" >out 2>err
   got=$?
   holds_true "$name: status $got, $(tail -n 1 err)" test "$got" = 0 -a ! -s err
   agree "$name" "$1" "$2"
@@ -76,21 +81,21 @@ for mask in 022 077 000; do
   printf a | tee first/f first/h >second/g
   synced "$name: a first sync"
   was=$(digest_in archive)
-  says "$name: a first sync" "$was" first second
+  says "$name: a first sync" "$ours $was" first second
   written=$(marks)
   synced "$name: nothing to do"
-  says "$name: nothing to do" "$was" first second
+  says "$name: nothing to do" "$ours $was" first second
   holds_true "$name: nothing to do: the files are the same" test "$(marks)" = "$written"
 
   printf b >first/f
   printf b >second/new
   synced "$name: changes"
   now=$(digest_in archive)
-  says "$name: changes" "$was $now" first second
+  says "$name: changes" "$ours $was $now" first second
   written=$(marks)
   for time in once twice; do
     synced "$name: nothing to do, $time"
-    says "$name: nothing to do, $time" "$was $now" first second
+    says "$name: nothing to do, $time" "$ours $was $now" first second
     holds_true "$name: nothing to do, $time: the files are the same" test "$(marks)" = "$written"
   done
 
@@ -100,72 +105,87 @@ for mask in 022 077 000; do
   expect "$name: a plan" 0 $'done second /new\n'"$one" '' run first second archive plan
   rm plan
   now=$(digest_in archive)
-  says "$name: a plan" "$was $now" first second
+  says "$name: a plan" "$ours $was $now" first second
 
   # where only conflicts are left the archive stays, and what is known of it, too
   printf c >first/g
   printf d >second/g
   written=$(marks)
   expect "$name: a conflict" 1 $'skip conflict /g\ntotal 1 done 0 skipped 1 failed 0 blocked 0' '' "${sync[@]}"
-  says "$name: a conflict" "$was $now" first second
+  says "$name: a conflict" "$ours $was $now" first second
   holds_true "$name: a conflict: the files are the same" test "$(marks)" = "$written"
   umask 022
 done
 
 fresh
 synced 'nothing in either folder'
-says 'nothing in either folder' "$(digest_in archive)" first second
+says 'nothing in either folder' "$ours $(digest_in archive)" first second
 fresh
 printf a >first/f
 "$program" plan first second archive >plan
 expect 'a first run of a plan' 0 $'done first /f\n'"$one" '' run first second archive plan
-says 'a first run of a plan' "$(digest_in archive)" first second
+says 'a first run of a plan' "$ours $(digest_in archive)" first second
 
-# ---- what took part before there was such a file
+# ---- what a replica has from before
 for odd in first second; do
   other=$([ "$odd" = first ] && echo second || echo first)
-  fresh
-  printf a >first/f
-  mkdir -m 700 "$odd/.twosync"
-  synced "$odd took part, no archive"
-  says "$odd took part, no archive" $'older\n'"$(digest_in archive)" "$odd"
-  says "$odd took part, no archive" "$(digest_in archive)" "$other"
-  # one that was made for a run that never came so far
-  fresh
-  printf a >first/f
-  mkdir -m 1700 "$odd/.twosync"
-  synced "$odd was only made ready"
-  says "$odd was only made ready" "$(digest_in archive)" first second
-
-  # the file is lost, and the run after that has something to do, or nothing
-  for change in '' change; do
-    name="the file in $odd is lost${change:+, and there is a change}"
+  # a .twosync that knows nothing, and one that was made for a run that never came so far
+  for mode in 700 1700; do
     fresh
     printf a >first/f
-    synced "$name: before"
+    mkdir -m "$mode" "$odd/.twosync"
+    synced "$odd has a .twosync of mode $mode, no archive"
+    says "$odd has a .twosync of mode $mode, no archive" "$ours $(digest_in archive)" first second
+  done
+
+  # the file is lost, and the run after that has nothing to do
+  name="the file in $odd is lost"
+  fresh
+  printf a >first/f
+  synced "$name: before"
+  rm "$odd/.twosync/archives"
+  synced "$name, and nothing is to be done"
+  says "$name, and nothing is to be done" "$ours $(digest_in archive)" first second
+  # it has something to do, which is refused; a plan brings the pair back
+  rm "$odd/.twosync/archives"
+  printf b >"$odd/f"
+  refused "$name, and there is a change" 9 "${sync[@]}"
+  was=$(digest_in archive)
+  "$program" plan first second archive >plan
+  expect "$name, and a plan" 0 $'done '"$odd"$' /f\n'"$one" '' run first second archive plan
+  rm plan
+  says "$name, and a plan" "$ours $was $(digest_in archive)" first second
+  printf c >"$other/f"
+  was=$(digest_in archive)
+  synced "$name, and later"
+  says "$name, and later" "$ours $was $(digest_in archive)" first second
+done
+# lines of older versions: a digest, two of them, and the word `older` before them, which says nothing any more. They name no pair, and are
+# replaced by the pair's own line, and other lines stay.
+for older in '' $'older\n'; do
+  for line in one two; do
+    name="a line with $line ${older:+behind the word older}"
+    fresh
+    printf a | tee first/f >second/f
+    archive_of "f /f 1 $SA" >archive
     was=$(digest_in archive)
-    rm "$odd/.twosync/archives"
-    [ -z "$change" ] || printf b >"$odd/f"
+    mkdir -m 700 first/.twosync second/.twosync
+    for replica in first second; do
+      if [ "$line" = one ]; then
+        printf '%s' "$older$S1"$'\n'"$was"$'\n'"$theirs $S2"$'\n' >"$replica/.twosync/archives"
+      else
+        printf '%s' "$older$was $S2"$'\n'"$S1"$'\n' >"$replica/.twosync/archives"
+      fi
+    done
+    printf b >second/f
     synced "$name"
-    now=$(digest_in archive)
-    [ -z "$change" ] || now="$was $now"
-    says "$name" $'older\n'"$now" "$odd"
-    says "$name" "$now" "$other"
-    printf c >"$other/f"
-    was=$(digest_in archive)
-    synced "$name, and later"
-    says "$name, and later" $'older\n'"$was $(digest_in archive)" "$odd"
+    if [ "$line" = one ]; then
+      says "$name" "$S1"$'\n'"$theirs $S2"$'\n'"$ours $was $(digest_in archive)" first second
+    else
+      says "$name" "$S1"$'\n'"$ours $was $(digest_in archive)" first second
+    fi
   done
 done
-# both took part, and the archive is one of before
-fresh
-printf a | tee first/f >second/f
-archive_of "f /f 1 $SA" >archive
-was=$(digest_in archive)
-mkdir -m 700 first/.twosync second/.twosync
-printf b >second/f
-synced 'both took part'
-says 'both took part' $'older\n'"$was $(digest_in archive)" first second
 
 # ---- an older copy of a replica
 # seen ODD TIMES: a pair that was synchronized, and so many times more; `copy` is the replica ODD as it was after the first time,
@@ -192,13 +212,13 @@ refused_by_all() {
   refused "$1, by one worker" 9 "${sync[@]}" --workers 1
   refused "$1, with checkpoints" 9 "${sync[@]}" --checkpoint 1
 }
-# only_looks NAME: what only looks at the pair is not refused
+# only_looks NAME: what only looks at the pair is shown, and a preview ends as the sync would
 only_looks() {
   "$program" plan first second archive >plan 2>err
   holds_true "$1: it can be planned" test "$?" = 0 -a ! -s err
   expect "$1: it can be checked" 0 valid '' check first second archive plan
   "$program" preview first second archive >out 2>err
-  holds_true "$1: it can be previewed" test "$?" = 0 -a ! -s err
+  holds_true "$1: it can be previewed" test "$?" = 3 -a "$(cat err)" = 'twosync: fault 9' -a -s out
 }
 for odd in first second; do
   for times in 1 2; do
@@ -207,7 +227,7 @@ for odd in first second; do
     put_copy "$odd"
     refused_by_all "$name"
     expect "$name, explained" 3 '' \
-      "$odd took no part in the last run with the archive archive, which names $("$program" show archive | wc -l) paths: is its disk mounted, and is this the right archive?
+      "$odd took no part in the last run with the archive archive, which names $("$program" show archive | wc -l) paths: is its disk mounted, and is this the right archive? See \`preview\`. If what it shows is right, use \`plan\` and \`run\`. If not, remove the archive: then nothing is deleted.
 twosync: fault 9" "${sync[@]}" --explain
     state >state.before
     only_looks "$name"
@@ -234,8 +254,7 @@ twosync: fault 9" "${sync[@]}" --explain
     rm plan
     agree "$name, planned" first second
     holds_true "$name, planned: it is carried out" test -e "$other/f" -a ! -e "$odd/new"
-    says "$name, planned" "$was $(digest_in archive)" "$other"
-    says "$name, planned" "$copied"$'\n'"$was $(digest_in archive)" "$odd"
+    knows "$name, planned" archive first second
     synced "$name, planned: the next sync"
     printf d >"$odd/next"
     synced "$name, planned: the sync after a change"
@@ -331,14 +350,15 @@ for role in 'first second' 'second first'; do
     # shellcheck disable=SC2046
     synced "their own archive: $(pair "$left" "$right") $archive" $(pair "$left" "$right") "$archive"
   done
-  # an archive that neither belongs to, since that of c isn't alike any more
+  # an archive that neither belongs to
   printf a >a/last
   # shellcheck disable=SC2046
   synced "their own archive, again: $(pair a b) x" $(pair a b) x
   printf d >d/other
   "$program" sync c d z >/dev/null 2>&1
+  printf d >d/other
   # shellcheck disable=SC2046
-  synced "an archive of neither: $(pair c d) x" $(pair c d) x
+  refused "an archive of neither: $(pair c d) x" 9 sync $(pair c d) x
   holds_true "an archive of neither: $(pair c d) x: what it doesn't name stays" test -e c/own -a -e d/other
 done
 rm -rf a b c d x y z
@@ -375,8 +395,8 @@ walked() {
     esac
     if [ $((RANDOM % 2)) = 0 ]; then read -r other archive <<<'b x'; else read -r other archive <<<'c y'; fi
     if [ "$turn" = "$3" ]; then
-      killed_at "$archive.new" sync a "$other" "$archive"
-    elif ! ran "$1, turn $turn" sync a "$other" "$archive"; then
+      killed_at "$archive.new" sync a "$other" "$archive" --allow-empty
+    elif ! ran "$1, turn $turn" sync a "$other" "$archive" --allow-empty; then
       return
     fi
   done
@@ -423,40 +443,114 @@ if command -v strace >/dev/null; then
 fi
 rm -rf a b c x y
 
+# ---- three replicas in a ring. One run is killed between the note and the rename, and another pair goes on: its line may end as that of
+# the killed run does, which has the archive that is still there before it.
+if command -v strace >/dev/null; then
+  for role in 'a b x c z' 'b c y a x' 'c a z b y'; do
+    read -r one two archive third other <<<"$role"
+    name="a ring, and the run of $archive is killed"
+    rm -rf a b c x y z
+    mkdir a b c
+    printf 0 | tee a/f >a/g
+    synced "$name: x" a b x
+    synced "$name: y" b c y
+    synced "$name: z" c a z
+    printf 1 >"$one/f"
+    synced "$name: $archive goes on" "$one" "$two" "$archive"
+    printf 2 >"$one/f"
+    killed_at "$archive.new" sync "$one" "$two" "$archive"
+    # recovery comes first, and then the pair of the first replica and the third one goes on
+    for text in 2 3 4; do
+      printf '%s' "$text" >"$one/g"
+      synced "$name: $other comes to $text" "$third" "$one" "$other"
+    done
+    synced "$name: $archive comes later" "$one" "$two" "$archive"
+    for pair in 'b c y' 'c a z' 'a b x'; do
+      # shellcheck disable=SC2086
+      synced "$name: $pair in the end" $pair
+    done
+  done
+  # ring NAME SEED STOP: the same in an order that the seed gives; the run in the turn STOP is killed
+  ring() {
+    local turn pairs=('a b x' 'b c y' 'c a z') words
+    RANDOM=$2
+    rm -rf a b c x y z
+    mkdir a b c
+    for turn in {1..40}; do
+      case $((RANDOM % 5)) in
+      0) change a ;;
+      1) change b ;;
+      2) change c ;;
+      esac
+      read -ra words <<<"${pairs[RANDOM % 3]}"
+      if [ "$turn" = "$3" ]; then
+        killed_at "${words[2]}.new" sync "${words[@]}" --allow-empty
+      elif ! ran "$1, turn $turn" sync "${words[@]}" --allow-empty; then
+        return
+      fi
+    done
+    ok
+  }
+  for seed in {1..12}; do ring "a ring, seed $seed" "$seed" $((10 + seed)); done
+fi
+rm -rf a b c x y z
+
 # ---- more pairs than a replica remembers
-mkdir hub
-digests=()
-for number in $(seq 66); do
-  mkdir "other$number"
-  printf '%s' "$number" >hub/f
-  "$program" sync hub "other$number" "archive$number" >/dev/null 2>&1
-  digests+=("$(digest_in "archive$number")")
+# others COUNT: lines of so many pairs whose archives are lost
+others() {
+  local number
+  for number in $(seq "$1"); do echo "pair:$(printf '%064x' "$number") $(printf '%064x' "$((number + 5000))")"; done
+}
+# crowded COUNT: hub was synchronized with other1, and then with so many others; `more` is another one
+crowded() {
+  rm -rf hub other1 archive1 more archive
+  mkdir hub other1 more
+  printf a | tee hub/f hub/g >hub/h
+  "$program" sync hub other1 archive1 >/dev/null 2>&1
+  others "$1" >>hub/.twosync/archives
+  # so that the two archives aren't equal
+  printf a >more/own
+}
+crowded 70
+synced '70 pairs whose archives are lost, and one more' hub more archive
+printf b >hub/f
+synced '70 pairs whose archives are lost, and the first one' hub other1 archive1
+crowded 1022
+synced 'the 1,024th pair' hub more archive --explain
+printf b >hub/f
+synced 'the first pair of 1,024' hub other1 archive1
+says 'the first pair of 1,024' "$(others 1022)
+$ours $(digest_in archive)
+$(pair_of archive1) $(tail -n 1 other1/.twosync/archives | cut -d ' ' -f 2) $(digest_in archive1)" hub
+# one that is used moves to the end, also where nothing is to be done
+crowded 1023
+expect 'the first pair of 1,024 is used' 0 "$nothing" '' sync hub other1 archive1
+says 'the first pair of 1,024 is used' "$(others 1023)
+$(pair_of archive1) $(digest_in archive1)" hub
+forgot='knows 1,024 archives: it has forgotten the one that was used longest ago. Where that is still in use, look at `preview`, and use `plan` and `run`.'
+for role in 'hub more|first' 'more hub|second'; do
+  IFS='|' read -r words side <<<"$role"
+  crowded 1023
+  # shellcheck disable=SC2086
+  "$program" sync $words archive --explain >out 2>err
+  holds_true "the 1,025th pair of the $side: status $?, $(cat err)" test "$?" = 0 -a "$(cat err)" = "The $side folder $forgot"
+  says "the 1,025th pair of the $side" "$(others 1023)
+$ours $(digest_in archive)" hub
+  # the one that was forgotten is refused; a plan brings it back
+  printf b >hub/f
+  refused "the pair that the $side forgot" 9 sync hub other1 archive1
+  "$program" plan hub other1 archive1 >plan
+  "$program" run hub other1 archive1 plan >out 2>err
+  holds_true "the pair that the $side forgot, and a plan" test "$?" = 0 -a ! -s err
+  rm plan
+  printf c >hub/f
+  synced "the pair that the $side forgot, and came back" hub other1 archive1
+  crowded 1023
+  # shellcheck disable=SC2086
+  "$program" sync $words archive >out 2>err
+  holds_true "the 1,025th pair of the $side, without words" test "$?" = 0 -a ! -s err
 done
-says '66 pairs' "$(printf '%s\n' "${digests[@]:2}")" hub
-says '66 pairs' "${digests[0]}" other1
-for number in 3 40 66; do
-  printf 'more %s' "$number" >hub/f
-  synced "pair $number of 66" hub "other$number" "archive$number"
-  digests+=("${digests[number - 1]} $(digest_in "archive$number")")
-  unset "digests[$((number - 1))]"
-done
-digests=("${digests[@]}")
-says '66 pairs, of which three go on' "$(printf '%s\n' "${digests[@]:2}")" hub
-# one that was forgotten is refused, also where the other replica isn't mounted; a plan brings it back
-refused 'a pair that was forgotten' 9 sync hub other1 archive1
-mv other1 kept
-mkdir other1
-refused "a pair that was forgotten, and isn't mounted" 9 sync hub other1 archive1
-rm -r other1
-mv kept other1
-"$program" plan hub other1 archive1 >plan 2>err
-"$program" run hub other1 archive1 plan >out 2>err
-holds_true 'a pair that was forgotten, and a plan' test "$?" -le 1
-knows 'a pair that was forgotten, and a plan' archive1 hub other1
-cp hub/f other1/f
-synced 'a pair that was forgotten, and came back' hub other1 archive1
-rm plan
-rm -rf hub other? other?? archive? archive??
+rm -rf hub other1 archive1 more archive
 
 # ---- the archive is moved, restored, or reached by a link
 fresh
@@ -471,7 +565,8 @@ ln -s elsewhere/another link
 printf b >second/h
 was=$(digest_in link)
 synced 'an archive by a link' first second link
-says 'an archive by a link' "$was $(digest_in elsewhere/another)" first second
+says 'an archive by a link' "$(tail -n 2 first/.twosync/archives | head -n 1)
+$(pair_of elsewhere/another) $was $(digest_in elsewhere/another)" first second
 # it is the one from before the last run, and then the one before that
 for change in f g; do
   cp elsewhere/another "kept.$change"
@@ -481,7 +576,16 @@ done
 for change in g f; do
   name="an archive from $([ $change = g ] && echo 'before the last run' || echo 'two runs ago')"
   cp "kept.$change" elsewhere/another
-  synced "$name" first second elsewhere/another
+  # that of before the last run may be one that a stopped run left
+  if [ "$change" = g ]; then
+    synced "$name" first second elsewhere/another
+  else
+    refused "$name" 9 sync first second elsewhere/another
+    "$program" plan first second elsewhere/another >plan
+    "$program" run first second elsewhere/another plan >out 2>err
+    holds_true "$name: plan and run" test "$?" = 0 -a ! -s err
+    rm plan
+  fi
   knows "$name" elsewhere/another first second
   holds_true "$name: nothing is lost" test "$(cat first/f first/g first/h)" = changedchangedb
 done
@@ -502,12 +606,12 @@ for odd in first second; do
     [ "$odd" = first ] || words=(first there archive)
     was=$(digest_in archive)
     synced "$odd by $way" "${words[@]}"
-    says "$odd by $way" "$was $(digest_in archive)" there "$other"
+    says "$odd by $way" "$ours $was $(digest_in archive)" there "$other"
   done
   rm -rf there
 done
 
-# ---- a file that isn't what the program writes counts as none
+# ---- a file that isn't what the program writes is refused
 # text_of KIND: what stands in the file. It names other archives, so a replica that took it at its word would be refused.
 text_of() {
   case $1 in
@@ -533,8 +637,15 @@ text_of() {
   'older twice') printf 'older\nolder\n' ;;
   'older with a digest') echo "older $S1" ;;
   'Older') printf 'Older\n%s\n' "$S1" ;;
-  '65 lines') yes "$S1" | head -n 65 ;;
-  'older and 65 lines') echo older && yes "$S1" | head -n 65 ;;
+  '1,025 lines') yes "$S1" | head -n 1025 ;;
+  'older and 1,025 lines') echo older && yes "$S1" | head -n 1025 ;;
+  'a pair alone') echo "$ours" ;;
+  'a pair without a name') echo "pair: $S1" ;;
+  'a pair with a short name') echo "pair:${S1:1} $S1" ;;
+  'a pair of upper-case digits') echo "pair:${S1^^} $S1" ;;
+  'a pair with three digests') echo "$ours $S1 $S2 $S1" ;;
+  'a pair with two spaces') echo "$ours  $S1" ;;
+  'another word than pair') echo "Pair:$S1 $S1" ;;
   'a million lines') yes "$S1" | head -n 1000000 ;;
   'one long line') yes "$S1" | head -n 1000000 | tr -d '\n' ;;
   esac
@@ -559,7 +670,9 @@ for odd in first second; do
   for kind in garbage 'no line' 'an empty line' 'an empty line at the end' 'an empty line in between' 'upper-case digits' \
     'one digit that is none' 'a digit less' 'a digit more' 'no line feed' 'no line feed after a good line' 'a carriage return' \
     'a space before' 'a space behind' 'two spaces' 'three digests' 'a tab' 'a zero byte' 'older at the end' 'older twice' \
-    'older with a digest' Older '65 lines' 'older and 65 lines' 'a million lines' 'one long line' 'twenty gigabytes'; do
+    'older with a digest' Older '1,025 lines' 'older and 1,025 lines' 'a million lines' 'one long line' 'twenty gigabytes' \
+    'a pair alone' 'a pair without a name' 'a pair with a short name' 'a pair of upper-case digits' 'a pair with three digests' \
+    'a pair with two spaces' 'another word than pair'; do
     name="$kind in $odd"
     known_pair
     if [ "$kind" = 'twenty gigabytes' ]; then
@@ -567,33 +680,43 @@ for odd in first second; do
     else
       text_of "$kind" >"$odd/.twosync/archives"
     fi
-    known=$was limits=(limited)
-    synced "$name"
+    before=(limited)
+    for words in sync preview; do
+      expect "$name: $words" 3 '' 'twosync: fault 5 /.twosync/archives' "$words" first second archive
+      expect "$name: $words, explained" 3 '' "$odd/.twosync/archives is malformed. Remove it, look at \`preview\`, and use \`plan\` and \`run\`.
+twosync: fault 5 /.twosync/archives" "$words" first second archive --explain
+    done
+    before=()
+    holds_true "$name: nothing is lost" test "$(cat first/f first/g first/new)$(cat second/f second/h)" = aabaa
+    holds_true "$name: nothing is left" test -z "$(left_in first second)"
+    # without it, a plan brings the pair back
+    rm "$odd/.twosync/archives"
+    "$program" plan first second archive >plan
+    "$program" run first second archive plan >out 2>err
+    holds_true "$name: plan and run" test "$?" = 0 -a ! -s err
+    rm plan
     nothing_lost "$name"
-    says "$name" $'older\n'"$known $(digest_in archive)" "$odd"
-    says "$name" "$known $(digest_in archive)" "$other"
+    says "$name" "$ours $was $(digest_in archive)" first second
   done
-  limits=()
   # what is well-formed says what it says: so many lines, and no other archive
-  for kind in one 'with one before it' 64; do
+  for kind in one 'with one before it' 'with a pair' 'with a pair, and one before it' '1,024' older; do
     known_pair
     case $kind in
     one) echo "$S1" ;;
     'with one before it') echo "$S1 $S2" ;;
-    64) yes "$S1 $S2" | head -n 64 ;;
+    'with a pair') echo "$ours $S1" ;;
+    'with a pair, and one before it') echo "$ours $S1 $S2" ;;
+    1,024) yes "$S1 $S2" | head -n 1024 ;;
+    older) echo older ;;
     esac >"$odd/.twosync/archives"
     refused "a file in $odd that names other archives, $kind" 9 "${sync[@]}"
   done
+  # the digest of the archive among so many
   known_pair
-  echo older >"$odd/.twosync/archives"
-  synced "the word older alone in $odd"
-  says "the word older alone in $odd" $'older\n'"$was $(digest_in archive)" "$odd"
-  known_pair
-  { echo older && yes "$S1" | head -n 64; } >"$odd/.twosync/archives"
-  synced "older and 64 lines in $odd"
-  says "older and 64 lines in $odd" "older
-$(yes "$S1" | head -n 63)
-$was $(digest_in archive)" "$odd"
+  { echo older && others 1023 && echo "$was"; } >"$odd/.twosync/archives"
+  synced "older and 1,024 lines in $odd"
+  says "older and 1,024 lines in $odd" "$(others 1023)
+$ours $was $(digest_in archive)" "$odd"
 done
 
 # ---- something else stands in the place of the file, or where it is written
@@ -625,6 +748,7 @@ for odd in first second; do
     for kind in 'a link to a file' 'a link to nothing' 'a link to a folder' 'a link to itself' 'a folder' 'a folder with a file' 'a pipe'; do
       name="$kind as $where in $odd"
       known_pair
+      cp "$odd/.twosync/archives" kept.archives
       rm -f "$odd/.twosync/$where"
       cp archive archive.before
       put "$kind" "$odd/.twosync/$where"
@@ -642,10 +766,11 @@ for odd in first second; do
         fi
       done
       rm -rf "$odd/.twosync/$where"
+      [ "$where" = archives.new ] || cp -p kept.archives "$odd/.twosync/archives"
       synced "$name, and then it is gone"
       nothing_lost "$name, and then it is gone"
       knows "$name, and then it is gone" archive first second
-      rm -r archive.before outside.before
+      rm -r archive.before outside.before kept.archives
     done
   done
 done

@@ -17,7 +17,7 @@ OTHERS = ["mkdir", "mkdirat", "ftruncate", "rename", "renameat", "renameat2", "l
 OTHERS += ["rmdir", "chmod", "fchmod", "fchmodat", "fsync", "fdatasync", "flock"]
 WORDS = ["sync", "first", "second", "archive", "--workers", "1"]
 # the text of the file `archives` that a replica has
-KNOWN = re.compile(rb"(older\n)?([0-9a-f]{64}( [0-9a-f]{64})?\n){1,64}")
+KNOWN = re.compile(rb"((pair:[0-9a-f]{64} )?[0-9a-f]{64}( [0-9a-f]{64})?\n){1,1024}")
 counts = {"passed": 0, "failed": 0}
 
 

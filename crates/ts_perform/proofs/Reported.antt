@@ -100,10 +100,11 @@ ran_told command Is old new old_faults mid_faults new_faults (Err fault) told ra
     subst (Ran command Is old new old_faults new_faults) (sym same) (ran.0, ran.1, subst (λ z. BeginsNotices command.explain z new_faults) ran.2 left)
 
 -- the archive of a run was written in its place, which was claimed by this name, unless it is lost
-pub kept_in : {A B : Type 0} (is_named : A → List ℕ → Type 0) (has : A → Listing Stamp → Type 0) (k : Checkup) (words : List ℕ) (place : A) (name : List ℕ) (kept : Result B PerformFault)
-    → OnOk kept (is_named place name) → OnOk kept (HasKept has k words place) → IfNone (lost_by kept) ((at : A) × is_named at name × HasKept has k words at)
-kept_in is_named has k words place name (Ok x) named is = (place, named, is)
-kept_in is_named has k words place name (Err e) named is = tt
+pub kept_in : {A B : Type 0} (is_named : A → List ℕ → Type 0) (has : A → Listing Stamp → Type 0) (IsTaught : A → Type 0) (k : Checkup) (words : List ℕ) (place : A)
+    (name : List ℕ) (kept : Result B PerformFault) → OnOk kept (is_named place name) → OnOk kept (HasKept has k words place) → OnOk kept (IsTaught place)
+    → IfNone (lost_by kept) ((at : A) × is_named at name × HasKept has k words at × IsTaught at)
+kept_in is_named has IsTaught k words place name (Ok x) named is taught = (place, named, is, taught)
+kept_in is_named has IsTaught k words place name (Err e) named is taught = tt
 
 pub unlost : {B : Type 0} (P : Type 0) (kept : Result B PerformFault) → OnOk kept P → IfNone (lost_by kept) P
 unlost P (Ok x) is = is
@@ -174,12 +175,15 @@ pub quiet_or_broken : (e : PerformFault) → IsQuiet e ⊎ ((rule : PlanRule) ×
 quiet_or_broken fault.OutOfMemory = inl (λ rule place is. cc)
 quiet_or_broken (fault.Failed what why) = inl (λ rule place is. cc)
 quiet_or_broken (fault.Own what cause) = inl (λ rule place is. cc)
+quiet_or_broken (fault.Archives what) = inl (λ rule place is. cc)
 quiet_or_broken (fault.NotCanonical what) = inl (λ rule place is. cc)
 quiet_or_broken fault.WrongEnd = inl (λ rule place is. cc)
 quiet_or_broken (fault.Device what cause) = inl (λ rule place is. cc)
 quiet_or_broken (fault.Locked what) = inl (λ rule place is. cc)
 quiet_or_broken (fault.NotThere what) = inl (λ rule place is. cc)
 quiet_or_broken (fault.New what paths) = inl (λ rule place is. cc)
+quiet_or_broken (fault.BothNew paths) = inl (λ rule place is. cc)
+quiet_or_broken (fault.Emptied what files others) = inl (λ rule place is. cc)
 quiet_or_broken (fault.BadRule line) = inl (λ rule place is. cc)
 quiet_or_broken fault.PastLimit = inl (λ rule place is. cc)
 quiet_or_broken fault.TooMuch = inl (λ rule place is. cc)

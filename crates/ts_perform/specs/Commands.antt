@@ -23,7 +23,7 @@ Plans w command old new old_faults new_faults status =
 
 abbrev pub Previews : {S F P A L : Type 0} → World S F P A L → Command → (old new old_faults new_faults : Option (List ℕ)) → ℕ → Type 0
 Previews w command old new old_faults new_faults status =
-    IfPreview command.job (λ pair json. AnswersPending w.awaits command pair (IsPreviewAt w pair (form_of command.coloured json)) old new old_faults new_faults status)
+    IfPreview command.job (λ pair json. AnswersPending w.awaits command pair (IsPreviewAt w command.allow_empty pair (form_of command.coloured json)) old new old_faults new_faults status)
 
 abbrev pub Checks : {S F P A L : Type 0} → World S F P A L → Command → (old new old_faults new_faults : Option (List ℕ)) → ℕ → Type 0
 Checks w command old new old_faults new_faults status =
@@ -35,7 +35,7 @@ Runs w command old new old_faults new_faults status =
 
 abbrev pub Syncs : {S F P A L : Type 0} → World S F P A L → Command → (old new old_faults new_faults : Option (List ℕ)) → ℕ → Type 0
 Syncs w command old new old_faults new_faults status =
-    IfSync command.job (λ pair. AnswersRun command (IsSynced w pair) old new old_faults new_faults status)
+    IfSync command.job (λ pair. AnswersRun command (IsSynced w command.allow_empty pair) old new old_faults new_faults status)
 
 -- ---- before a refusal is reported
 
@@ -49,7 +49,7 @@ TriesPlan w command old new old_faults new_faults result =
 
 abbrev pub TriesPreview : {S F P A L : Type 0} → World S F P A L → Command → (old new old_faults new_faults : Option (List ℕ)) → Result ℕ PerformFault → Type 0
 TriesPreview w command old new old_faults new_faults result =
-    IfPreview command.job (λ pair json. PrintsPending w.awaits command pair (IsPreviewAt w pair (form_of command.coloured json)) old new old_faults new_faults result)
+    IfPreview command.job (λ pair json. PrintsPending w.awaits command pair (IsPreviewAt w command.allow_empty pair (form_of command.coloured json)) old new old_faults new_faults result)
 
 abbrev pub TriesCheck : {S F P A L : Type 0} → World S F P A L → Command → (old new old_faults new_faults : Option (List ℕ)) → Result ℕ PerformFault → Type 0
 TriesCheck w command old new old_faults new_faults result =
@@ -61,4 +61,4 @@ TriesRun w command old new old_faults new_faults result =
 
 abbrev pub TriesSync : {S F P A L : Type 0} → World S F P A L → Command → (old new old_faults new_faults : Option (List ℕ)) → Result ℕ PerformFault → Type 0
 TriesSync w command old new old_faults new_faults result =
-    IfSync command.job (λ pair. Ran command (IsSynced w pair) old new old_faults new_faults result)
+    IfSync command.job (λ pair. Ran command (IsSynced w command.allow_empty pair) old new old_faults new_faults result)

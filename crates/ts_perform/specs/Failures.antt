@@ -10,6 +10,8 @@ use Rattle.ts_disk.specs.declared.notice.Notice.TheVariants as notice
 use Rattle.ts_exec.specs.declared.fault.ActFault.{ActFault}
 use Rattle.ts_exec.specs.declared.fault.ActFault.TheVariants as act
 use Rattle.ts_explain.specs.Pieces.{reason_text, said}
+use Rattle.ts_model.specs.declared.plan.Side.{Side}
+use Rattle.ts_model.specs.declared.plan.Side.TheVariants as side
 use Rattle.ts_preview.specs.Names.{shown}
 
 abbrev pub act_text : ActFault → List ℕ
@@ -29,8 +31,15 @@ abbrev pub failure_text : ActFault → Option Path → Cause → List ℕ
 failure_text fault None cause = said (act_text fault ∷ reason_text (act_hint fault) cause ∷ [])
 failure_text fault (Some path) cause = said (shown 0 (path_text path) ∷ act_text fault ∷ reason_text (act_hint fault) cause ∷ [])
 
+-- a replica, where nothing says its name
+abbrev pub side_text : Side → List ℕ
+side_text side.First = codes "The first folder"
+side_text side.Second = codes "The second folder"
+
 abbrev pub notice_text : Notice → List ℕ
 notice_text (notice.Discarded path) = said (shown 0 (path_text path) ∷ codes ": what it replaced can't be removed. Later runs try again." ∷ [])
 notice_text (notice.Kept path place) =
     said (shown 0 (path_text path) ∷ codes ": what stood there is kept as " ∷ shown 0 (string_bytes place) ∷ codes ": it may be the only copy of something." ∷ [])
+notice_text (notice.Forgot side) =
+    said (side_text side ∷ codes " knows 1,024 archives: it has forgotten the one that was used longest ago. Where that is still in use, look at `preview`, and use `plan` and `run`." ∷ [])
 notice_text (notice.Mounted path) = said (shown 0 (path_text path) ∷ codes " is another file system: nothing can be put in place there." ∷ [])

@@ -133,6 +133,7 @@ fault_of_disk what (disk.Unread cause) = fault.Failed what (Unread cause)
 fault_of_disk what (disk.Device cause) = fault.Device what cause
 fault_of_disk what disk.Locked = fault.Locked what
 fault_of_disk what (disk.Own cause) = fault.Own what cause
+fault_of_disk what disk.Archives = fault.Archives what
 
 abbrev pub replica_on : Side → Subject
 replica_on side.First = First

@@ -2,10 +2,10 @@ pub mod Agreed
 pub mod Commands
 pub mod Failures
 pub mod Faults
+pub mod Guards
 pub mod Inputs
 pub mod Jobs
 pub mod Lengths
-pub mod Pasts
 pub mod Pending
 pub mod Previewing
 pub mod Printouts

@@ -2,25 +2,26 @@
 --     failed_lines explain fault path cause     the fault of a failed action
 --     failure_lines entries actions results causes   the fault of each failed action, with its entry's path, in the order of the actions, and why it failed
 --     notice_line notice                        a fault where what a swap left can't be removed, its place where it was kept, a mount as such
---     notice_lines notices                      a line for each
+--     notice_said explain notice                that line, and its sentence before it where that is asked for; what a replica forgot is said by a sentence alone
+--     notice_lines notices                      what is said of each
 --     remark_lines command notices skips        those, and a sentence for each skipped entry where that is asked for
 --     run_lines command plan results causes lost notices skips   all that is said of a run on standard error
 --     all_lines command plan results causes lost remarks   the same of these remarks
 --     run_report, run_faults, run_status        what is reported of a run on standard output, and on standard error but for notices, and its exit status
---     Came                                      what came of a plan: the plan and what it was checked against, how its actions ended, and why, why the new archive wasn't written, if it wasn't, and what else is to be said
+--     Came                                      what came of a plan: the plan and what it was checked against, how its actions ended, and why, why the new archive wasn't written, if it wasn't, whether both replicas were told of it, and what else is to be said
 --     report_of, faults_of, status_after        what is then reported, on standard output and standard error, and the exit status
 --     HasReported came                          both were written; or one of them could be written in part, and the status is 2
 --     IsRunOf w first second k results words slots  these are of one run, whose commits were made where they stand
 --     IsRunFor w pair k outcome                 the same of what an outcome has
 --     IsCarriedOut w pair came                  the plan is valid for the scans of the pair's replicas, and the results are those of a run of it there, whose archive was written
 --     IsRun w pair name came                    the same of a plan that was read from a file
---     IsSynced w pair came                      the same of a plan that `resume` made, and not where just one replica took part before, or in the last run with the archive
+--     IsSynced w allow_empty pair came          the same of a plan that `resume` made, and that was let through
 --     RanQuietly Is                             a plan was run, `Is` is said of what came of it, and all was reported; or nothing was written
 --     Ran Is                                    the same, but what recovery has to say of an earlier run's swaps may be reported where nothing was run
 --     Refuses fault                             a broken plan is reported on standard output, every other fault on standard error
 --     AnswersRun Is                             the same as `Ran` of a command: where nothing was run, it is refused
 --     AnswersOne Says                           what `plan` and `check` answer
-use Rattle.std.specs.Prelude.{◌≡◌, ◌⊎◌, ⊤, ℕ, Bool, List, [], ◌∷◌, ◌++◌, Option, Some, None, IfNone, Result, Ok, Err, slice_get}
+use Rattle.std.specs.Prelude.{◌≡◌, ◌⊎◌, ◌↔◌, ⊤, ℕ, Bool, true, if◌then◌else◌, IsTrue, List, [], ◌∷◌, ◌++◌, Option, Some, None, IfNone, Result, Ok, Err, slice_get}
 use Rattle.std.specs.Io.KnownBytes.{Appends}
 use Rattle.std.specs.String.{string_bytes}
 use Rattle.ts_name.specs.Paths.{Path}
@@ -67,12 +68,13 @@ use Rattle.ts_perform.specs.Agreed.{HasFlushed, HasFlushedPut}
 use Rattle.ts_perform.specs.Failures.{failure_text, notice_text}
 use Rattle.ts_perform.specs.Faults.{kept_line, mount_line}
 use Rattle.ts_perform.specs.Inputs.{IsReadAt, IsSeenFor}
-use Rattle.ts_perform.specs.Pasts.{IsOfBoth}
+use Rattle.ts_perform.specs.Guards.{IsLetThrough, IsPastOf, IsTaught}
 use Rattle.ts_perform.specs.Skips.{asked_skips}
 use Rattle.ts_perform.specs.Snapshots.{IsBegun, IsBrokenAt, IsPlanned, IsValidAt, IsValidBegun, valid_text}
 use Rattle.ts_perform.specs.Stands.{AreAtStands}
 use Rattle.ts_perform.specs.Trials.{IsQuiet}
 use Rattle.ts_perform.specs.Worlds.{World}
+use Rattle.ts_perform.specs.declared.guarding.Past.{Past}
 use Rattle.ts_perform.specs.declared.reporting.Remarks.{Remarks}
 use Rattle.ts_explain.specs.declared.fault.PerformFault.{PerformFault}
 use Rattle.ts_explain.specs.declared.fault.PerformFault.TheVariants as fault
@@ -113,10 +115,17 @@ abbrev pub notice_line : Notice → Line
 notice_line (notice.Discarded path) = fault_line 8 (Some path)
 notice_line (notice.Kept path place) = kept_line path (string_bytes place)
 notice_line (notice.Mounted path) = mount_line path
+notice_line (notice.Forgot side) = []
+
+abbrev pub notice_said : Bool → Notice → List Line
+notice_said explain (notice.Discarded path) = with_sentence explain (notice_text (notice.Discarded path)) (notice_line (notice.Discarded path))
+notice_said explain (notice.Kept path place) = with_sentence explain (notice_text (notice.Kept path place)) (notice_line (notice.Kept path place))
+notice_said explain (notice.Mounted path) = with_sentence explain (notice_text (notice.Mounted path)) (notice_line (notice.Mounted path))
+notice_said explain (notice.Forgot side) = if explain then notice_text (notice.Forgot side) ∷ [] else []
 
 abbrev pub notice_lines : Bool → List Notice → List Line
 notice_lines explain [] = []
-notice_lines explain (notice ∷ notices) = with_sentence explain (notice_text notice) (notice_line notice) ++ notice_lines explain notices
+notice_lines explain (notice ∷ notices) = notice_said explain notice ++ notice_lines explain notices
 
 -- what else is said of a run
 abbrev pub remark_lines : Command → List Notice → List Skipped → List Line
@@ -163,6 +172,8 @@ pub record Came : Type 0 where
   -- why the failed ones failed, as far as the system says
   pub causes : List Cause
   pub lost : Option PerformFault
+  -- whether both replicas were told of the new archive before it was written
+  pub teaches : Bool
   pub notices : List Notice
   pub skips : List Skipped
 
@@ -208,7 +219,8 @@ IsRunFor w pair checkup outcome =
 
 -- the plan is valid for the archive and the rules that were read for the pair, and the scans of its replicas; the results are those of
 -- one run of it, whose commits were made where they stand; what both agree on had been flushed in both; and the archive that this run left was
--- written in the place that has its name, once what it newly names was flushed in both, unless it is lost
+-- written in the place that has its name, once what it newly names was flushed in both, and once both were told of it where they are, unless
+-- it is lost
 pub record IsCarriedOut {S F P A L : Type 0} (w : World S F P A L) (pair : Pair) (came : Came) : Type 0 where
   pub seen : IsSeenFor w pair came.checkup.archive came.checkup.rules came.checkup.first came.checkup.second
   pub valid : Valid (snapshot_of came.checkup) came.checkup.plan
@@ -217,24 +229,29 @@ pub record IsCarriedOut {S F P A L : Type 0} (w : World S F P A L) (pair : Pair)
   pub slots : List (Slot S)
   pub run : IsRunOf w pair.first.now pair.second.now came.checkup came.results words slots
   pub flushed : HasFlushed w pair came.checkup
-  pub archive : IfNone came.lost ((place : A) × w.is_named place pair.archive.now × HasKept w.has came.checkup words place)
+  pub archive : IfNone came.lost ((place : A) × w.is_named place pair.archive.now × HasKept w.has came.checkup words place × w.taught place came.teaches)
   pub put : IfNone came.lost (HasFlushedPut w pair came.checkup.plan came.results)
 
--- the same of this plan, with what it was checked against
-pub record IsCarriedOutFor {S F P A L : Type 0} (w : World S F P A L) (k : Checkup) (pair : Pair) (came : Came) : Type 0 where
+-- the same of this plan, with what it was checked against, by a run that teaches the replicas or not
+pub record IsCarriedOutFor {S F P A L : Type 0} (w : World S F P A L) (k : Checkup) (teaches : Bool) (pair : Pair) (came : Came) : Type 0 where
   pub checkup : came.checkup ≡ k
+  pub taught : came.teaches ≡ teaches
   pub carried_out : IsCarriedOut w pair came
 
 -- the same of the plan that was read from the file of this name
 pub record IsRun {S F P A L : Type 0} (w : World S F P A L) (pair : Pair) (name : List ℕ) (came : Came) : Type 0 where
   pub plan : IsReadAt w.finds IsPlanText name came.checkup.plan
+  pub taught : came.teaches ≡ true
   pub carried_out : IsCarriedOut w pair came
 
--- the same of a plan that `resume` made for the archive, the rules and the scans; and where just one replica took part before, or in its last run, the archive
--- names no path
-pub record IsSynced {S F P A L : Type 0} (w : World S F P A L) (pair : Pair) (came : Came) : Type 0 where
+-- the same of a plan that `resume` made for the archive, the rules and the scans, and that was let through by what was known of both replicas
+-- before; what they are told of the new archive goes by that, too
+pub record IsSynced {S F P A L : Type 0} (w : World S F P A L) (allow_empty : Bool) (pair : Pair) (came : Came) : Type 0 where
   pub planned : IsPlanned came.checkup
-  pub both : IsOfBoth w pair came.checkup.archive
+  pub past : Past
+  pub known : IsPastOf w pair past
+  pub through : IsLetThrough allow_empty past came.checkup
+  pub taught : IsTrue came.teaches ↔ IsTaught past came.checkup.plan
   pub carried_out : IsCarriedOut w pair came
 
 -- ---- what is answered

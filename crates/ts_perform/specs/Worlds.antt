@@ -36,12 +36,15 @@ pub record World (S F P A L : Type 0) : Type 1 where
   -- which files and special paths were found
   pub finds : Finds
   pub finds_special : FindsSpecial
-  -- how a replica was locked, and what was said of it then: whether it took part in a run before, and in the last one with the archive
-  -- in a place, and whether one was stopped
+  -- how a replica was locked, and whether it was said then that it knows the archive in a place; or that it knows the archive of this
+  -- name, without a lock
   pub is_locked : Option L → List ℕ → Type 0
-  pub took : L → Bool → Type 0
   pub knows : L → A → Bool → Type 0
-  pub stopped : L → Bool → Type 0
+  pub known : (root archive : List ℕ) → Bool → Type 0
+  -- of which two replicas it was said whether the same run was stopped in both
+  pub stopped : (first second : List ℕ) → Bool → Type 0
+  -- whether both replicas were told of the archive before it was written in this place
+  pub taught : A → Bool → Type 0
   -- of which replica it was said whether a stopped run isn't brought to its end there
   pub awaits : List ℕ → Bool → Type 0
   -- below which root what stood at a path has reached the device, and the directories in which it stood
@@ -64,9 +67,10 @@ world disk site folder stage = record {
   finds = disk.finds;
   finds_special = disk.finds_special;
   is_locked = disk.is_locked;
-  took = disk.took;
   knows = disk.knows;
+  known = disk.known;
   stopped = disk.stopped;
+  taught = disk.taught;
   awaits = disk.awaits;
   is_flushed = disk.is_flushed;
   is_flushed_above = disk.is_flushed_above;

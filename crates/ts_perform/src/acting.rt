@@ -164,8 +164,8 @@ fn way_of<'a, R: Disk>(to_first: &'a R::Way, to_second: &'a R::Way, reason: Reas
 }
 
 /// Writes what the archive is after a run that ended with these results, unless a replica has gone away since: then what was done
-/// may not have been done there. Before the archive says so, what the run put in place has reached its device. The board goes before
-/// the archive is made, since most memory is taken then.
+/// may not have been done there. Before the archive says so, what the run put in place has reached its device, and both replicas are told
+/// that the archive is theirs where the run teaches them. The board goes before the archive is made, since most memory is taken then.
 pub(crate) fn keep_archive<R: Machine>(
     task: &Task<'_, R>,
     locks: &Locks<'_, R::Lock>,
@@ -173,12 +173,14 @@ pub(crate) fn keep_archive<R: Machine>(
     checked: &Checked<'_>,
     results: &[ActionResult],
     closed: Closed<R::Site>,
+    teaches: bool,
 ) -> Result<(), PerformFault>
     requires count { length results.now ≡ length checked.now.plan.actions }
     requires words { length checked.now.plan.actions ≤ slots_len closed.row.words }
     requires ended { HasEnded checked.now (slots_items closed.row.words) }
     ensures kept { OnOk result (HasKept R.has checked.now (words_of closed) place.new) }
     ensures named { OnOk result (R.is_named place.new task.now.pair.now.archive.now) }
+    ensures taught { OnOk result (R.taught place.new teaches) }
     ensures put { OnOk result (HasFlushedPut (world R.Disk R.Site.Site R.Folder.Folder R.Stage.Stage) task.now.pair.now checked.now.plan results.now) }
 {
     let Task { rt, pair, .. } = task;
@@ -188,7 +190,7 @@ pub(crate) fn keep_archive<R: Machine>(
         return Err(of_disk(DiskFault::Failed { cause }, Subject::Archive));
     }
     flush_put(task, checked.plan(), results)?;
-    write_left(*rt, locks, place, checked, closed)
+    write_left(*rt, locks, place, checked, closed, teaches)
 }
 
 /// Writes what the archive is after a run to its place, as long as both replicas are there.
@@ -198,10 +200,12 @@ fn write_left<R: Machine>(
     place: &mut R::Archive,
     checked: &Checked<'_>,
     closed: Closed<R::Site>,
+    teaches: bool,
 ) -> Result<(), PerformFault>
     requires words { length checked.now.plan.actions ≤ slots_len closed.row.words }
     requires ended { HasEnded checked.now (slots_items closed.row.words) }
     ensures kept { OnOk result (HasKept R.has checked.now (words_of closed) place.new) }
+    ensures taught { OnOk result (R.taught place.new teaches) }
     ensures named { (name : List ℕ) → R.is_named place.old name → R.is_named place.new name }
 {
     let alloc = rt.alloc();
@@ -209,7 +213,8 @@ fn write_left<R: Machine>(
         return Err(PerformFault::OutOfMemory);
     };
     look_at_locks(rt, locks)?;
-    rt.write_archive(alloc, place, &archive, locks)
+    let learners = teaches.then_some(locks);
+    rt.write_archive(alloc, place, &archive, learners)
         .map_err(|fault| of_disk(fault, Subject::Archive))
 }
 

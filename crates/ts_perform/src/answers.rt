@@ -1,11 +1,10 @@
 //! The lines that report faults and verdicts.
 ghost use Rattle.std.specs.Prelude.{◌≡◌, ◌∷◌, ◌++◌, [], IfErr, OnOk};
 ghost use Rattle.std.specs.Option.{option_copied};
-ghost use Rattle.ts_explain.specs.Lines.{with_sentence};
 ghost use Rattle.ts_model.specs.Texts.{text};
 ghost use Rattle.ts_perform.specs.Faults.{kept_line, mount_line};
-ghost use Rattle.ts_perform.specs.Runs.{failed_lines, notice_line};
-ghost use Rattle.ts_perform.specs.Failures.{act_hint, act_text, failure_text, notice_text};
+ghost use Rattle.ts_perform.specs.Runs.{failed_lines, notice_line, notice_said};
+ghost use Rattle.ts_perform.specs.Failures.{act_hint, act_text, failure_text, notice_text, side_text};
 ghost use Rattle.ts_perform.specs.Trials.{IsQuiet};
 ghost use Rattle.ts_text.specs.Sources.{Writes};
 ghost use Rattle.ts_trial.specs.Answers.{refusal};
@@ -16,12 +15,16 @@ use ts_cause::Cause;
 use ts_disk::Notice;
 use ts_exec::ActFault;
 use ts_explain::{Piece, push_fault, push_pieces, write_explained};
-use ts_model::plan::PlanRule;
+use ts_model::plan::{PlanRule, Side};
 use ts_name::Path;
 use ts_text::{Sink, TextFault, push_decimal, write_line};
 
 /// The number by which a failing device is reported.
 const DEVICE: u8 = 8;
+
+/// What is said of a replica that forgot an archive.
+const FORGOT: &[u8] =
+    b" knows 1,024 archives: it has forgotten the one that was used longest ago. Where that is still in use, look at `preview`, and use `plan` and `run`.";
 
 /// Tells which rule a plan breaks first, and where.
 pub(crate) fn write_refusal<W: Sink>(
@@ -113,15 +116,18 @@ fn act_hint(fault: ActFault) -> &'static [u8]
 }
 
 /// Reports a notice: a fault of the device where what a swap left can't be removed, the place of what was kept, and a mount. What
-/// it means comes before that where it is asked for.
+/// it means comes before that where it is asked for. That a replica forgot an archive is said by a sentence alone.
 pub(crate) fn write_notice<W: Sink>(
     alloc: Global,
     explain: bool,
     notice: &Notice,
     err: &mut W,
 ) -> Result<(), TextFault>
-    ensures { Writes (W.holds err.old) (W.holds err.new) (text (with_sentence explain (notice_text notice.now) (notice_line notice.now))) result }
+    ensures { Writes (W.holds err.old) (W.holds err.new) (text (notice_said explain notice.now)) result }
 {
+    if let Notice::Forgot { side } = notice {
+        return write_forgot(alloc, explain, *side, err);
+    }
     let mut sentence = Vec::new(alloc);
     if explain {
         push_notice_text(alloc, notice, &mut sentence)?;
@@ -139,6 +145,45 @@ fn push_notice(notice: &Notice, line: &mut Vec<u8>) -> Result<(), AllocError>
         Notice::Discarded { path } => push_fault(DEVICE, Some(path), line),
         Notice::Kept { path, place } => push_kept(path, place.as_str(), line),
         Notice::Mounted { path } => push_mount(path, line),
+        Notice::Forgot { .. } => Ok(()),
+    }
+}
+
+/// Says that the replica on a side forgot an archive, where sentences are asked for, and else nothing.
+fn write_forgot<W: Sink>(
+    alloc: Global,
+    explain: bool,
+    side: Side,
+    err: &mut W,
+) -> Result<(), TextFault>
+    ensures { Writes (W.holds err.old) (W.holds err.new) (text (notice_said explain (Notice.Forgot side))) result }
+{
+    if !explain {
+        return Ok(());
+    }
+    let mut sentence = Vec::new(alloc);
+    push_forgot(alloc, side, &mut sentence)?;
+    write_line(err, &sentence)
+}
+
+/// Appends that the replica on a side forgot an archive.
+fn push_forgot(alloc: Global, side: Side, line: &mut Vec<u8>) -> Result<(), AllocError>
+    ensures { OnOk result (line.new.items ≡ line.old.items ++ notice_text (Notice.Forgot side)) }
+{
+    push_pieces(
+        alloc,
+        &[Piece::Words(side_text(side)), Piece::Words(FORGOT)],
+        line,
+    )
+}
+
+/// A replica, where nothing says its name.
+fn side_text(side: Side) -> &'static [u8]
+    ensures { result.now ≡ side_text side }
+{
+    match side {
+        Side::First => b"The first folder",
+        Side::Second => b"The second folder",
     }
 }
 
@@ -164,6 +209,7 @@ fn push_notice_text(alloc: Global, notice: &Notice, line: &mut Vec<u8>) -> Resul
             let end = b" is another file system: nothing can be put in place there.";
             push_pieces(alloc, &[Piece::Below(path), Piece::Words(end)], line)
         }
+        Notice::Forgot { side } => push_forgot(alloc, *side, line),
     }
 }
 

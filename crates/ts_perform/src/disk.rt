@@ -1,5 +1,5 @@
 //! The file system as commands see it.
-ghost use Rattle.std.specs.Prelude.{◌≡◌, ℕ, Bool, List, Option, IfErr, IfOk, IsTrue, OnOk, option_map};
+ghost use Rattle.std.specs.Prelude.{◌≡◌, ℕ, Bool, List, Option, IfErr, IfOk, IsTrue, OnOk, is_some, option_map};
 ghost use Rattle.std.specs.List.{All};
 ghost use Rattle.ts_cause.specs.declared.cause.Cause.{Cause};
 ghost use Rattle.ts_model.specs.declared.row.Row.{Row};
@@ -22,9 +22,11 @@ use ts_cause::{Cause, cause_of};
 use ts_check::Checked;
 use ts_disk::{
     ArchivePlace, DiskFault, DiskSite, DiskStage, Lock, LockedRoot, Way, awaits_recovery,
-    claim_archive, flush_above, flush_above_alone, flush_paths, take_lock,
+    claim_archive, flush_above, flush_above_alone, flush_paths, knows_archive, stopped_alike,
+    take_lock,
 };
 use ts_folder::Folder;
+use ts_model::plan::Side;
 use ts_name::Path;
 use ts_print::Print;
 use ts_progress::Screen;
@@ -84,14 +86,17 @@ pub trait Disk {
     // The replica with this root was locked so, or there was nothing to lock.
     ghost is_locked: { Option Self.Lock → List ℕ → Type 0 };
 
-    // Whether it was said of a locked replica that it took part in a run before.
-    ghost took: { Self.Lock → Bool → Type 0 };
-
-    // Whether it was said that it took part in the last run with the archive in this place.
+    // Whether it was said of a locked replica that it knows the archive in this place.
     ghost knows: { Self.Lock → Self.Archive → Bool → Type 0 };
 
-    // Whether it was said that a run into it was stopped.
-    ghost stopped: { Self.Lock → Bool → Type 0 };
+    // Whether it was said of the replica with this root that it knows the archive of this name.
+    ghost known: { List ℕ → List ℕ → Bool → Type 0 };
+
+    // Whether it was said of the replicas with these roots that the same run was stopped in both.
+    ghost stopped: { List ℕ → List ℕ → Bool → Type 0 };
+
+    // Whether both replicas were told of the archive before it was written in this place.
+    ghost taught: { Self.Archive → Bool → Type 0 };
 
     // Whether it was said of the replica with this root that a stopped run isn't brought to its end there.
     ghost awaits: { List ℕ → Bool → Type 0 };
@@ -177,17 +182,20 @@ pub trait Disk {
     fn lock(&self, alloc: Global, root: &str) -> Result<Option<Self::Lock>, DiskFault>
         ensures locked { IfOk result (λ lock. is_locked lock root.now) };
 
-    /// Whether the replica took part in a run before it was locked.
-    fn took_part(&self, lock: &Self::Lock) -> bool
-        ensures { took lock.now result };
-
     /// Whether the replica took part in the last run with the archive in its place, as far as it remembers.
     fn knows(&self, lock: &Self::Lock, archive: &Self::Archive) -> bool
         ensures { knows lock.now archive.now result };
 
-    /// Whether a run into the replica was stopped before it was locked.
-    fn was_stopped(&self, lock: &Self::Lock) -> bool
-        ensures { stopped lock.now result };
+    /// The same of the archive of a name, for a command that takes no locks.
+    fn knows_archive(&self, alloc: Global, root: &str, archive: &str) -> Result<bool, DiskFault>
+        ensures { IfOk result (known root.now archive.now) };
+
+    /// Whether the same run was stopped in both replicas: each has a plan, and both are the same.
+    fn stopped_alike(&self, alloc: Global, first: &str, second: &str) -> Result<bool, DiskFault>
+        ensures { IfOk result (stopped first.now second.now) };
+
+    /// Whether the replica on a side forgot another archive when it was told of the one in this place, since it knows so many.
+    fn forgot_archive(&self, place: &Self::Archive, side: Side) -> bool;
 
     /// Whether a stopped run isn't brought to its end in a replica.
     fn awaits_recovery(&self, alloc: Global, root: &str) -> Result<bool, DiskFault>
@@ -209,19 +217,20 @@ pub trait Disk {
     fn claim(&self, alloc: Global, name: &str) -> Result<Self::Archive, DiskFault>
         ensures named { IfOk result (λ place. is_named place name.now) };
 
-    /// Writes an archive in its place, and waits until it has reached the device. Before, the replicas with these locks note that it
-    /// is theirs.
+    /// Writes an archive in its place, and waits until it has reached the device. Before, the replicas with these locks, if any are
+    /// given, note that it is theirs.
     fn write_archive(
         &self,
         alloc: Global,
         place: &mut Self::Archive,
         archive: &Print,
-        locks: &Locks<'_, Self::Lock>,
+        learners: Option<&Locks<'_, Self::Lock>>,
     ) -> Result<(), DiskFault>
         ensures written { OnOk result (has place.new archive.now) }
+        ensures taught { OnOk result (taught place.new (is_some learners.entry)) }
         ensures named { (name : List ℕ) → is_named place.old name → is_named place.new name };
 
-    /// The same while a run goes on, and keeps the place for the next one.
+    /// The same while a run goes on, and keeps the place for the next one. Both replicas learn of it.
     fn write_checkpoint(
         &self,
         alloc: Global,
@@ -295,11 +304,13 @@ impl Disk for HostRuntime {
 
     ghost is_locked = { λ _ _. ⊤ };
 
-    ghost took = { λ _ _. ⊤ };
-
     ghost knows = { λ _ _ _. ⊤ };
 
-    ghost stopped = { λ _ _. ⊤ };
+    ghost known = { λ _ _ _. ⊤ };
+
+    ghost stopped = { λ _ _ _. ⊤ };
+
+    ghost taught = { λ _ _. ⊤ };
 
     ghost awaits = { λ _ _. ⊤ };
 
@@ -421,16 +432,20 @@ impl Disk for HostRuntime {
         take_lock(self, alloc, root)
     }
 
-    fn took_part(&self, lock: &Lock) -> bool {
-        lock.took_part()
-    }
-
     fn knows(&self, lock: &Lock, archive: &ArchivePlace) -> bool {
         lock.knows(archive)
     }
 
-    fn was_stopped(&self, lock: &Lock) -> bool {
-        lock.was_stopped()
+    fn knows_archive(&self, alloc: Global, root: &str, archive: &str) -> Result<bool, DiskFault> {
+        knows_archive(self, alloc, root, archive)
+    }
+
+    fn stopped_alike(&self, alloc: Global, first: &str, second: &str) -> Result<bool, DiskFault> {
+        stopped_alike(self, alloc, first, second)
+    }
+
+    fn forgot_archive(&self, place: &ArchivePlace, side: Side) -> bool {
+        place.forgot_pair(side)
     }
 
     fn awaits_recovery(&self, alloc: Global, root: &str) -> Result<bool, DiskFault> {
@@ -462,9 +477,14 @@ impl Disk for HostRuntime {
         alloc: Global,
         place: &mut ArchivePlace,
         archive: &Print,
-        locks: &Locks<'_, Lock>,
+        learners: Option<&Locks<'_, Lock>>,
     ) -> Result<(), DiskFault> {
-        place.write(self, alloc, archive, locks.first, locks.second)
+        let nobody = None;
+        let (first, second) = match learners {
+            Some(locks) => (locks.first, locks.second),
+            None => (&nobody, &nobody),
+        };
+        place.write(self, alloc, archive, first, second)
     }
 
     fn write_checkpoint(

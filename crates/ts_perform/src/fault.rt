@@ -146,6 +146,7 @@ pub(crate) fn of_disk(fault: DiskFault, what: Subject) -> PerformFault
             PerformFault::Failed { what, why }
         }
         DiskFault::Own { cause } => PerformFault::Own { what, cause },
+        DiskFault::Archives => PerformFault::Archives { what },
         DiskFault::Device { cause } => PerformFault::Device { what, cause },
         DiskFault::Locked => PerformFault::Locked { what },
     }

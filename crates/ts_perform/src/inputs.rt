@@ -167,19 +167,6 @@ pub(crate) fn scan_folder<R: Machine>(
     }
 }
 
-/// That an archive names no path, where a replica is new.
-fn look_at_new(archive: &Print, new: Subject) -> Result<(), PerformFault>
-    ensures empty { OnOk result (archive.now ≡ []) }
-    ensures new { IfErr result (λ e. e ≡ PerformFault.New new (length archive.now)) }
-{
-    let paths = archive.rows().len();
-    if paths == 0 {
-        Ok(())
-    } else {
-        Err(PerformFault::New { what: new, paths })
-    }
-}
-
 /// The archive of a pair that was decoded of its file. One that isn't there has no paths.
 fn archive_of<R: Machine>(task: &Task<'_, R>, decoded: Decoded) -> Result<Print, PerformFault>
     ensures archive { IfOk result (IsFoundOrEmpty decoded) }
@@ -401,27 +388,6 @@ impl Snapshot {
             Ok(held) => Snapshot::scan_beside(task, file, held),
             Err(fault) => Err(first_fault(task, file, fault)),
         }
-    }
-
-    /// The same for a `sync`, which is refused where only one of the replicas took part in a run before, or in the last one with
-    /// the archive, which names a path: then the other one, `new`, isn't the folder that the archive is of, as where a disk isn't mounted.
-    pub(crate) fn read_of_both<R: Machine>(
-        task: &Task<'_, R>,
-        is_one_new: bool,
-        new: Subject,
-    ) -> Result<Snapshot, PerformFault>
-        ensures seen { IfOk result (IsSeenIn (world R.Disk R.Site.Site R.Folder.Folder R.Stage.Stage) task.now.pair.now) }
-        ensures both { IfOk result (λ s. IsTrue is_one_new → s.archive ≡ []) }
-        ensures quiet { IfErr result IsQuiet }
-    {
-        if !is_one_new {
-            return Snapshot::read(task);
-        }
-        let file = opened(task.rt, task.pair.archive, Subject::Archive)?;
-        let archive = archive_in(task, file)?;
-        let held = Held::read(task)?;
-        look_at_new(&archive, new)?;
-        Snapshot::scan(task, archive, held)
     }
 
     /// The same, with a plan that is read before both replicas are scanned.

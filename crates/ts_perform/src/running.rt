@@ -1,7 +1,7 @@
 //! Plans carried out on two folders.
-ghost use Rattle.std.specs.Prelude.{◌≡◌, ℕ, List, IfErr, IfOk};
+ghost use Rattle.std.specs.Prelude.{◌≡◌, ℕ, List, IfErr, IfOk, IsTrue, true};
 ghost use Rattle.ts_model.specs.Texts.{IsPlan};
-ghost use Rattle.ts_perform.specs.Pasts.{IsPastOf, SaysNew, SaysOneNew};
+ghost use Rattle.ts_perform.specs.Guards.{IsPastOf, SaysKnown};
 ghost use Rattle.ts_perform.specs.Runs.{BeginsNotices};
 ghost use Rattle.ts_perform.specs.Snapshots.{IsSeenIn};
 ghost use Rattle.ts_perform.specs.Tasks.{CarriesOut, RanPlan, RanPlanQuietly, RanSync, RanSyncQuietly};
@@ -12,8 +12,8 @@ use crate::acting::{act, keep_archive, replica};
 use crate::causes::causes_of;
 use crate::disk::{Disk, Machine};
 use crate::fault::{PerformFault, Subject, of_disk};
+use crate::guarding::Past;
 use crate::locks::{Locks, look_at_locks};
-use crate::past::{Past, is_one_new, new_one};
 use crate::reporting::{FAILED, Remarks, report_all, report_notices};
 use crate::skips::skips_of;
 use crate::snapshot::{Proposal, Snapshot};
@@ -142,46 +142,45 @@ impl<R: Machine> Task<'_, R> {
         }
     }
 
-    /// What is known of a replica from before it was locked. Where there is no lock, nothing is.
-    fn past(&self, lock: &Option<R::Lock>, archive: &R::Archive) -> Past
-        ensures { IsPastOf R.took R.knows R.stopped archive.now lock.now result }
+    /// Whether a locked replica knows the archive. Where there is no lock, it doesn't.
+    fn knows(&self, lock: &Option<R::Lock>, archive: &R::Archive) -> bool
+        ensures { SaysKnown R.knows archive.now lock.now result }
     {
         match lock {
-            Some(lock) => Past {
-                took_part: self.rt.took_part(lock),
-                knows_archive: self.rt.knows(lock, archive),
-                was_stopped: self.rt.was_stopped(lock),
-            },
-            None => Past {
-                took_part: false,
-                knows_archive: false,
-                was_stopped: false,
-            },
+            Some(lock) => self.rt.knows(lock, archive),
+            None => false,
         }
     }
 
-    /// Whether just one of the replicas took part in a run before, or in the last run with the archive.
-    fn is_one_new(&self, claims: &Claims<R>) -> bool
-        ensures { SaysOneNew R.took R.knows R.stopped claims.now.archive claims.now.first claims.now.second result }
+    /// Whether the same run was stopped in both replicas. What can't be read isn't known to be alike: recovery says why.
+    pub(crate) fn stopped_alike(&self) -> bool
+        ensures { IsTrue result → R.stopped self.now.pair.now.first.now self.now.pair.now.second.now true }
     {
-        let Claims {
-            first,
-            second,
-            archive,
-        } = claims;
-        is_one_new(self.past(first, archive), self.past(second, archive))
+        let Task { rt, pair, .. } = self;
+        match rt.stopped_alike(rt.alloc(), pair.first, pair.second) {
+            Ok(alike) => alike,
+            Err(_) => false,
+        }
     }
 
-    /// Which replica is new, where just one is.
-    fn new_one(&self, claims: &Claims<R>) -> Subject
-        ensures { SaysNew R.took R.knows R.stopped claims.now.archive claims.now.first claims.now.second result }
+    /// What is known of locked replicas from before this run, by whether the same run was stopped in both.
+    fn past(&self, claims: &Claims<R>, stopped_alike: bool) -> Past
+        requires first { R.is_locked claims.now.first self.now.pair.now.first.now }
+        requires second { R.is_locked claims.now.second self.now.pair.now.second.now }
+        requires named { R.is_named claims.now.archive self.now.pair.now.archive.now }
+        requires stopped { IsTrue stopped_alike → R.stopped self.now.pair.now.first.now self.now.pair.now.second.now true }
+        ensures { IsPastOf (world R.Disk R.Site.Site R.Folder.Folder R.Stage.Stage) self.now.pair.now result }
     {
         let Claims {
             first,
             second,
             archive,
         } = claims;
-        new_one(self.past(first, archive), self.past(second, archive))
+        Past {
+            first_knows: self.knows(first, archive),
+            second_knows: self.knows(second, archive),
+            stopped_alike,
+        }
     }
 
     /// That both replicas are still there. One that went away while it was scanned may look empty, and nothing is deleted for
@@ -243,6 +242,7 @@ impl<R: Machine> Task<'_, R> {
         let proposal = Proposal {
             snapshot: &snapshot,
             plan: &plan,
+            teaches: true,
         };
         self.carry_out(claims, &proposal, notices, out, err)
     }
@@ -261,20 +261,23 @@ impl<R: Machine> Task<'_, R> {
         ensures ran { RanSyncQuietly R.Disk R.Site.Site R.Folder.Folder R.Stage.Stage self.now
             (O.holds out.old) (O.holds out.new) (E.holds err.old) (E.holds err.new) result }
     {
+        let past = self.past(&*claims, self.stopped_alike());
         self.recover(notices)?;
-        let is_one_new = self.is_one_new(&*claims);
-        let snapshot = Snapshot::read_of_both(self, is_one_new, self.new_one(&*claims))?;
+        let snapshot = Snapshot::read(self)?;
         let plan = snapshot.plan(self.rt.alloc())?;
         self.look_at_claims(&*claims)?;
         let proposal = Proposal {
             snapshot: &snapshot,
             plan: &plan,
+            teaches: past.teaches(&plan),
         };
+        past.look_at(&proposal, self.command.allow_empty)?;
         self.carry_out(claims, &proposal, notices, out, err)
     }
 
     /// Checks a plan, runs it, and tells what came of it. The plan lies in both replicas while swaps may be half done, and until
-    /// the archive is written. What can't be told of a run doesn't make it a refusal.
+    /// the archive is written, of which they are told where the run teaches them. What can't be told of a run doesn't make it a
+    /// refusal.
     fn carry_out<O: Sink, E: Sink>(
         &self,
         claims: &mut Claims<R>,
@@ -288,7 +291,11 @@ impl<R: Machine> Task<'_, R> {
         ensures ran { CarriesOut R.Disk R.Site.Site R.Folder.Folder R.Stage.Stage self.now proposal.now
             (O.holds out.old) (O.holds out.new) (E.holds err.old) (E.holds err.new) result }
     {
-        let Proposal { snapshot, plan } = *proposal;
+        let Proposal {
+            snapshot,
+            plan,
+            teaches,
+        } = *proposal;
         let alloc = self.rt.alloc();
         let checked = snapshot.check_drawn(self.rt, alloc, &self.progress, plan)?;
         snapshot.look_at_lengths(alloc, self.pair, plan)?;
@@ -304,10 +311,19 @@ impl<R: Machine> Task<'_, R> {
                 let (ended, closed) = outcome.split();
                 let results = ended.as_slice();
                 let cleared = self.clear(alloc, plan, notices);
-                let kept = keep_archive(self, &locks, &mut *place, &checked, results, closed);
+                let kept = keep_archive(
+                    self,
+                    &locks,
+                    &mut *place,
+                    &checked,
+                    results,
+                    closed,
+                    teaches,
+                );
                 self.remove(alloc, cleared);
-                // what can't be found out of mounts is no reason to end
+                // what can't be found out of mounts, or doesn't fit into memory, is no reason to end
                 let _ = self.add_mounts(alloc, plan, results, notices);
+                let _ = self.add_forgotten(&*place, notices);
                 let skips = skips_of(alloc, self.command, plan, snapshot);
                 let remarks = Remarks {
                     notices: notices.as_slice(),
@@ -390,6 +406,20 @@ impl<R: Machine> Task<'_, R> {
         Ok(())
     }
 
+    /// Adds a notice for each replica that forgot an archive, since it was told of this one.
+    fn add_forgotten(
+        &self,
+        place: &R::Archive,
+        notices: &mut Vec<Notice>,
+    ) -> Result<(), DiskFault> {
+        for side in [Side::First, Side::Second] {
+            if self.rt.forgot_archive(place, side) {
+                notices.push(Notice::Forgot { side })?;
+            }
+        }
+        Ok(())
+    }
+
     /// Adds a notice for the mount in which a copied entry is to be put in place, if there is one and it has no notice yet.
     fn add_mount(
         &self,
@@ -426,6 +456,6 @@ impl<R: Machine> Task<'_, R> {
 fn is_noticed(notices: &[Notice], path: &Path) -> bool {
     notices.iter().any(|notice| match notice {
         Notice::Mounted { path: mounted } => mounted == path,
-        Notice::Discarded { .. } | Notice::Kept { .. } => false,
+        Notice::Discarded { .. } | Notice::Kept { .. } | Notice::Forgot { .. } => false,
     })
 }

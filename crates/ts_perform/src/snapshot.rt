@@ -32,11 +32,12 @@ pub(crate) struct Snapshot {
     pub second: Print,
 }
 
-/// A plan, and what it is to be checked against.
+/// A plan, what it is to be checked against, and whether a run of it tells both replicas of the archive that it writes.
 #[derive(Clone, Copy, Drop)]
 pub(crate) struct Proposal<'a> {
     pub snapshot: &'a Snapshot,
     pub plan: &'a Plan,
+    pub teaches: bool,
 }
 
 /// Written out, so that a proof of what drops one stays short.

@@ -11,7 +11,7 @@ use Rattle.ts_perform.proofs.task.Task.carry_out.Goals as goal
 
 pub returns-in-Ok : goal.returns-in-Ok
 returns-in-Ok g c =
-    let came : Came = record { checkup = c.in_ok-checked.checked; results = c.split-ended.result.0.results.items; causes = c.as_slice-causes.result.now; lost = lost_by c.keep_archive-kept.result; notices = c.as_slice.result.now; skips = c.as_slice-in-Ok.result.now } in
+    let came : Came = record { checkup = c.in_ok-checked.checked; results = c.split-ended.result.0.results.items; causes = c.as_slice-causes.result.now; lost = lost_by c.keep_archive-kept.result; teaches = c.args.proposal.now.teaches; notices = c.as_slice.result.now; skips = c.as_slice-in-Ok.result.now } in
     let same = c.in_ok-checked.ensures.checked in
     let words = words_of c.split-ended.result.1 in
     let same_results = c.split-ended.ensures.results ∙ c.causes_of-causes.ensures.results in
@@ -21,6 +21,7 @@ returns-in-Ok g c =
         came,
         record {
           checkup = same;
+          taught = refl;
           carried_out = record {
             seen = rw same c.requires.seen;
             valid = subst (λ (k : Checkup). Valid (snapshot_of k) k.plan) (sym same) c.in_ok-checked.ensures.valid;
@@ -29,8 +30,8 @@ returns-in-Ok g c =
             slots = slots_of c.in-Ok.outcome.closed;
             run = rw same_results (rw same_words c.in-Ok.ensures.stands);
             flushed = c.in-Ok.ensures.flushed;
-            archive = kept_in g.R.Disk.is_named g.R.Disk.has came.checkup words c.keep_archive-kept.new.place c.args.self.now.pair.now.archive.now c.keep_archive-kept.result
-                c.keep_archive-kept.ensures.named c.keep_archive-kept.ensures.kept;
+            archive = kept_in g.R.Disk.is_named g.R.Disk.has (λ at. g.R.Disk.taught at c.args.proposal.now.teaches) came.checkup words c.keep_archive-kept.new.place c.args.self.now.pair.now.archive.now c.keep_archive-kept.result
+                c.keep_archive-kept.ensures.named c.keep_archive-kept.ensures.kept c.keep_archive-kept.ensures.taught;
             put = unlost _ c.keep_archive-kept.result (rw (← c.as_slice-results.ensures) c.keep_archive-kept.ensures.put);
           };
         },

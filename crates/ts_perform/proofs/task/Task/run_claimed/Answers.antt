@@ -11,6 +11,7 @@ returns g c = record {
       (g.E.Sink.holds c.args.err.now) (g.E.Sink.holds c.carry_out.new.err) c.carry_out.result
       (λ came is. record {
         plan = subst (λ (k : Checkup). IsReadAt g.R.Disk.finds IsPlanText c.args.plan.now k.plan) (sym is.checkup) c.in_ok-snapshot.ensures.plan;
+        taught = is.taught;
         carried_out = is.carried_out;
       })
       c.carry_out.ensures.ran;

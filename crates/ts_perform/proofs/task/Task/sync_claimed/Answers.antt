@@ -1,5 +1,6 @@
-use Rattle.std.proofs.Common.{◌≡◌, [], subst, sym}
+use Rattle.std.proofs.Common.{◌↔◌, Bool, IsTrue, subst, sym}
 use Rattle.ts_check.specs.Checkup.{Checkup}
+use Rattle.ts_perform.specs.Guards.{IsLetThrough, IsTaught}
 use Rattle.ts_perform.specs.Snapshots.{IsPlanned}
 use Rattle.ts_perform.proofs.Reported.{ran_less}
 use Rattle.ts_perform.proofs.task.Task.sync_claimed.Goals as goal
@@ -10,17 +11,11 @@ returns g c = record {
       (g.E.Sink.holds c.args.err.now) (g.E.Sink.holds c.carry_out.new.err) c.carry_out.result
       (λ came is. record {
         planned = subst IsPlanned (sym is.checkup) c.in_ok-plan.ensures.planned;
-        both = record {
-          first = c.args.claims.now.first;
-          second = c.args.claims.now.second;
-          locked_first = c.requires.first;
-          locked_second = c.requires.second;
-          place = c.args.claims.now.archive;
-          named = c.requires.named;
-          one = c.is_one_new-is_one_new.result;
-          says = c.is_one_new-is_one_new.ensures;
-          empty = λ one. subst (λ (k : Checkup). k.archive ≡ []) (sym is.checkup) (c.in_ok-snapshot.ensures.both one);
-        };
+        past = c.past-past.result;
+        known = c.past-past.ensures;
+        through = subst (IsLetThrough c.args.self.now.command.now.allow_empty c.past-past.result) (sym is.checkup) c.in_ok-look_at.ensures.through;
+        taught = subst (λ (k : Checkup). IsTrue came.teaches ↔ IsTaught c.past-past.result k.plan) (sym is.checkup)
+            (subst (λ (teaches : Bool). IsTrue teaches ↔ IsTaught c.past-past.result c.in_ok-plan.plan) (sym is.taught) c.teaches.ensures);
         carried_out = is.carried_out;
       })
       c.carry_out.ensures.ran;
