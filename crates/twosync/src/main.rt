@@ -1,11 +1,14 @@
 //! The program `twosync`: reads its words, and does what they ask for.
 #![tactic(auto)]
 
+mod descriptors;
+
 ghost use Rattle.std.specs.Prelude.{◌≡◌, ◌↔◌, IfErr, IsTrue};
 ghost use Rattle.ts_perform.specs.Runs.{IsRunOrSync};
 ghost use Rattle.twosync.specs.Faults.{fault_number, fault_status};
 ghost use Rattle.twosync.specs.declared.Fault.TheVariants.{Unreported};
 
+use crate::descriptors::stand_in;
 use std::alloc::AllocError;
 use std::env;
 use std::io::{self, BufWriter, ErrorKind, Input, IsTerminal, Write};
@@ -24,7 +27,7 @@ const NOT_TEXT: &[u8] = b"error: a word of the command isn't UTF-8\n";
 #[derive(Clone, Copy, Debug, PartialEq, Eq)]
 enum Fault {
     OutOfMemory,
-    /// What a command prints couldn't be written.
+    /// What a command prints couldn't be written, or a standard descriptor may be closed.
     Failed,
     /// A plan was carried out, and its report couldn't be written.
     Unreported,
@@ -168,13 +171,18 @@ fn is_run_or_sync(job: &Job<'_>) -> bool
 }
 
 fn main(rt: HostRuntime) -> ExitCode {
+    let standing = stand_in(&rt);
     let err = rt.stderr();
     let terminals = Terminals {
         out: rt.stdout().is_terminal(),
         err: err.is_terminal(),
     };
     let mut err = Counted::new(err);
-    match run(&rt, terminals, &mut err) {
+    let answer = match &standing {
+        Ok(_) => run(&rt, terminals, &mut err),
+        Err(_) => Err(Fault::Failed),
+    };
+    match answer {
         Ok(status) => ExitCode::from(status),
         Err(fault) => {
             let number = fault.number();
