@@ -17,7 +17,7 @@ const ABOUT: &str =
 /// What stands below the list of commands.
 const EXAMPLE: &str = "\
 FIRST and SECOND are folders, ARCHIVE is a file that tells what both had in common; it is made where
-it isn't there. Keep it outside of both folders: inside, it would be copied like any other file.
+it isn't there. Keep it outside of both folders; inside one of them it is refused.
 Permissions, times and links are not synchronized; a link ends the command, or is left alone with
 `--hold-special`. What changed on both sides is left alone and reported as a conflict.
 

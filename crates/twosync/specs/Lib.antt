@@ -1,1 +1,5 @@
 pub mod Faults
+pub mod Nestings
+pub mod Pairs
+pub mod Resolvings
+pub mod Tellings

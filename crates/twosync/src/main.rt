@@ -2,23 +2,31 @@
 #![tactic(auto)]
 
 mod descriptors;
+mod nesting;
+mod resolving;
+mod telling;
 
-ghost use Rattle.std.specs.Prelude.{◌≡◌, ◌↔◌, IfErr, IsTrue};
+ghost use Rattle.std.specs.Prelude.{◌≡◌, ◌↔◌, IfErr, IsTrue, option_map};
 ghost use Rattle.ts_perform.specs.Runs.{IsRunOrSync};
 ghost use Rattle.twosync.specs.Faults.{fault_number, fault_status};
+ghost use Rattle.twosync.specs.Pairs.{pair_of};
 ghost use Rattle.twosync.specs.declared.Fault.TheVariants.{Unreported};
 
 use crate::descriptors::stand_in;
+use crate::nesting::nesting_of;
+use crate::resolving::resolve;
+use crate::telling::push_nesting;
 use std::alloc::AllocError;
 use std::env;
+use std::fs::Files;
 use std::io::{self, BufWriter, ErrorKind, Input, IsTerminal, Write};
 use std::process::ExitCode;
 use std::rt::Env;
 use ts_cause::Cause;
-use ts_command::{Command, CommandFault, Job, command};
+use ts_command::{Command, CommandFault, Job, Pair, command};
 use ts_explain::{PerformFault, Subject, Why, write_sentence};
 use ts_perform::{FAILED, KeepsCause, Machine, REFUSED, SaysCause, perform};
-use ts_text::{Counted, Sink, write_all};
+use ts_text::{Counted, Sink, write_all, write_line};
 
 /// What is said of words that aren't UTF-8.
 const NOT_TEXT: &[u8] = b"error: a word of the command isn't UTF-8\n";
@@ -31,11 +39,12 @@ enum Fault {
     Failed,
     /// A plan was carried out, and its report couldn't be written.
     Unreported,
+    /// The words are no command, or name places that lie where they mustn't.
     Usage,
 }
 
 impl Fault {
-    /// The number that is printed: 1 for memory, 5 for a reader or writer, 16 for words that are no command.
+    /// The number that is printed: 1 for memory, 5 for a reader or writer, 16 for the words of the command.
     fn number(self) -> u8
         ensures { result ≡ fault_number self }
     {
@@ -108,6 +117,7 @@ fn run<R: Env + Input + Print + Machine, E: Sink>(
         Ok(mut command) => {
             command.explain = command.explain || terminals.err;
             command.coloured = terminals.out && allows_colours(rt);
+            refuse_nested(rt, &command.job, err)?;
             answer(rt, &command, err)
         }
         Err(CommandFault::OutOfMemory) => Err(Fault::OutOfMemory),
@@ -116,6 +126,39 @@ fn run<R: Env + Input + Print + Machine, E: Sink>(
             let _ = write_all(err, text.as_bytes());
             Err(Fault::Usage)
         }
+    }
+}
+
+/// Refuses a command whose places lie where they mustn't, and says so, before anything else is looked at.
+fn refuse_nested<R: Files + AllocGlobal, E: Sink>(
+    rt: &R,
+    job: &Job<'_>,
+    err: &mut E,
+) -> Result<(), Fault> {
+    let Some(pair) = pair_of(job) else {
+        return Ok(());
+    };
+    let places = resolve(rt, pair)?;
+    let Some(nesting) = nesting_of(&places) else {
+        return Ok(());
+    };
+    let mut line = Vec::new(rt.alloc());
+    push_nesting(rt.alloc(), pair, nesting, &mut line)?;
+    let _ = write_line(err, &line);
+    Err(Fault::Usage)
+}
+
+/// The pair that a command works on, if it does.
+fn pair_of<'x, 'a>(job: &'x Job<'a>) -> Option<&'x Pair<'a>>
+    ensures { option_map (λ pair. pair.now) result ≡ pair_of job.now }
+{
+    match job {
+        Job::Plan { pair }
+        | Job::Preview { pair, .. }
+        | Job::Check { pair, .. }
+        | Job::Run { pair, .. }
+        | Job::Sync { pair } => Some(pair),
+        Job::Tell { .. } | Job::Trial | Job::Scan { .. } | Job::Show { .. } => None,
     }
 }
 
