@@ -116,9 +116,17 @@ part_of() {
   local digest=$1 replica
   shift
   for replica in "$@"; do
-    mkdir -m 700 "$replica/.twosync"
+    [ -d "$replica/.twosync" ] || mkdir -m 700 "$replica/.twosync"
     (umask 077 && echo "$digest" >"$replica/.twosync/archives")
   done
+}
+
+# make_known ARCHIVE REPLICA..: these replicas know this archive, which no run wrote, as if a run of both had written it
+make_known() {
+  local digest
+  digest=$(digest_in "$1")
+  shift
+  part_of "$digest" "$@"
 }
 
 # state: all that lies in this folder but what these scripts write themselves: kinds, modes, links, times of files, contents.

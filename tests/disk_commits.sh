@@ -15,10 +15,9 @@ S_OLD=$(printf old. | sha256sum | cut -c1-64)
 many() { mkdir "$1" && seq "$2" | split -l 1 -a 3 - "$1/f"; }
 
 # ---- edits while the new tree is written: the target, /f in the replica `to`, is edited when a part of the tree is there
-# had KIND: what both replicas and the archive had
+# had KIND: what both replicas and the archive had, which both replicas know
 had() {
   fresh
-  mkdir -m 700 first/.twosync second/.twosync
   case $1 in
   file)
     printf old. | tee first/f >second/f
@@ -43,6 +42,7 @@ f /d/f 4 $S_OLD" >archive
     ;;
   nothing) archive_of '' >archive ;;
   esac
+  make_known archive first second
   cp archive archive.before
 }
 

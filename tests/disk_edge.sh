@@ -10,12 +10,12 @@ umask 022
 nothing='total 0 done 0 skipped 0 failed 0 blocked 0'
 one='total 1 done 1 skipped 0 failed 0 blocked 0'
 
-# both_at BYTES: both replicas and the archive have one file /f, of one byte `a`; each has its own directory
+# both_at BYTES: both replicas and the archive have one file /f, of one byte `a`; each has its own directory, and knows the archive
 both_at() {
   fresh
   printf a | tee first/f >second/f
   archive_of "f /f 1 $SA" >archive
-  mkdir -m 700 first/.twosync second/.twosync
+  make_known archive first second
 }
 
 # a_plan ENTRY: a plan of this one entry
@@ -185,6 +185,7 @@ for reason in conflict held; do
     mv first/f first/c
     rm second/f
     archive_of "f /c 1 $SA" >archive
+    make_known archive first second
     words=("${sync[@]}")
     if [ "$reason" = conflict ]; then
       printf b >first/c

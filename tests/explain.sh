@@ -341,6 +341,7 @@ holds_true 'its sentence and its line' test "$(cat err)" = "Standard input can't
 if [ -e /dev/full ]; then
   fresh
   archive_of "f /a 1 $SA" >archive
+  make_known archive first second
   "$program" show archive >/dev/full 2>err
   plain=$(cat err)
   "$program" show archive --explain >/dev/full 2>err

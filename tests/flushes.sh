@@ -331,6 +331,7 @@ unflushed() {
   mkdir -p first/d/new second/d
   printf a | tee first/d/a >first/d/new/x
   archive_of 'd /d' >archive
+  make_known archive first second
   strace -qq -f -o /dev/null -e signal=none -P "$(pwd -P)/$3" -e trace=fsync -e inject="fsync:error=$2" \
     "$program" "${sync[@]}" >out 2>err
   answered "$name" "$4" "$5" "$6" "$?"

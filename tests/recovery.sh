@@ -81,7 +81,7 @@ for gone in /away/a /gone/a; do
   fresh
   printf b >first/f
   archive_of "f /f 1 $SA" >archive
-  mkdir -m 700 first/.twosync second/.twosync
+  make_known archive first second
   printf 'entry first %s\n' "$gone" /f | LC_ALL=C sort >entries
   { echo 'twosync-plan 1' && cat entries && echo 'end 2 0'; } >second/.twosync/plan
   for number in 0 1; do
@@ -224,8 +224,9 @@ if command -v strace >/dev/null; then
     printf a | tee first/a >second/a
     archive_of "f /a 1 $SA" >archive
     printf b >first/b
+    "$program" plan first second archive >plan
     strace -qq -f -o trace.log -e signal=none -e trace=chmod -e inject="chmod:signal=KILL:when=$number" \
-      "$program" "${sync[@]}" --workers 1 >/dev/null 2>&1
+      "$program" run first second archive plan --workers 1 >/dev/null 2>&1
     stopped=$?
     [ "$number" -gt 2 ] || holds_true "before mark $number: the run is stopped ($stopped)" test "$stopped" -gt 128
     "$program" "${sync[@]}" >out 2>err

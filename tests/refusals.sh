@@ -38,6 +38,7 @@ fresh
 printf b >first/b
 printf c >second/c
 archive_of "f /a 1 $SA" >archive
+make_known archive first second
 expect 'the archive of another pair' 0 $'done same /a\ndone first /b\ndone second /c\ntotal 3 done 3 skipped 0 failed 0 blocked 0' '' "${sync[@]}"
 alike 'the archive of another pair'
 

@@ -78,6 +78,14 @@ def digest_of(archive):
     return archive.split()[-1]
 
 
+def make_known(archive, replica):
+    """Makes the program's own directory in a replica, as a run leaves it that wrote this archive: so the replica knows it."""
+    own = replica + "/.twosync"
+    os.mkdir(own, 0o700)
+    with open(own + "/archives", "wb", opener=lambda name, flags: os.open(name, flags, 0o600)) as file:
+        file.write(digest_of(archive) + b"\n")
+
+
 def names_beside_archives(own):
     """What lies in a directory of the program's own, but for the file `archives`, which stays there."""
     names = os.listdir(own) if os.path.isdir(own) else []
@@ -144,17 +152,10 @@ class Case:
         for replica in ("first", "second"):
             write_tree("%s/%s" % (self.base, replica), self.old[replica])
             if archive is not None:
-                self.make_own(replica)
+                make_known(self.archives[0], "%s/%s" % (self.base, replica))
         if archive is not None:
             with open(self.base + "/archive", "wb") as file:
                 file.write(self.archives[0])
-
-    def make_own(self, replica):
-        """Makes the program's own directory in a replica, as a run leaves it that wrote the archive."""
-        own = "%s/%s/.twosync" % (self.base, replica)
-        os.mkdir(own, 0o700)
-        with open(own + "/archives", "wb", opener=lambda name, flags: os.open(name, flags, 0o600)) as file:
-            file.write(digest_of(self.archives[0]) + b"\n")
 
     def new_archive(self, _archive):
         """The archive of a whole run, by the one before it."""

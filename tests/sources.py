@@ -8,7 +8,7 @@ import subprocess
 import sys
 import time
 
-from runs import NOTHING, WORDS, archive_of, calls, hold, outcome, own_names, read_tree, run, text, tree, write_counts, write_tree
+from runs import NOTHING, WORDS, archive_of, calls, hold, make_known, outcome, own_names, read_tree, run, text, tree, write_counts, write_tree
 
 program = sys.argv[1]
 READS = ["read", "pread64", "readv", "preadv"]
@@ -52,10 +52,11 @@ def fresh(is_new):
     shutil.rmtree("try", ignore_errors=True)
     os.mkdir("try")
     old = tree(("/d/b", b"b")) if is_new else tree(("/d/a", OLD), ("/d/b", b"b"))
+    archive = archive_of(old)
     for replica in ("first", "second"):
         write_tree("try/" + replica, old)
-        os.mkdir("try/%s/.twosync" % replica, 0o700)
-    write("try/archive", archive_of(old))
+        make_known(archive, "try/" + replica)
+    write("try/archive", archive)
     write(FILE, SCANNED)
 
 
