@@ -12,7 +12,7 @@ ghost use Rattle.twosync.specs.Faults.{fault_number, fault_status};
 ghost use Rattle.twosync.specs.Pairs.{pair_of};
 ghost use Rattle.twosync.specs.declared.Fault.TheVariants.{Unreported};
 
-use crate::descriptors::stand_in;
+use crate::descriptors::take_numbers;
 use crate::nesting::nesting_of;
 use crate::resolving::resolve;
 use crate::telling::push_nesting;
@@ -214,14 +214,14 @@ fn is_run_or_sync(job: &Job<'_>) -> bool
 }
 
 fn main(rt: HostRuntime) -> ExitCode {
-    let standing = stand_in(&rt);
+    let placeholders = take_numbers(&rt);
     let err = rt.stderr();
     let terminals = Terminals {
         out: rt.stdout().is_terminal(),
         err: err.is_terminal(),
     };
     let mut err = Counted::new(err);
-    let answer = match &standing {
+    let answer = match &placeholders {
         Ok(_) => run(&rt, terminals, &mut err),
         Err(_) => Err(Fault::Failed),
     };
