@@ -477,7 +477,8 @@ for replica in first second; do
 
   seen
   rm -r "$replica"
-  mkdir -p "$replica/.twosync"
+  mkdir "$replica"
+  make_known archive "$replica"
   expect "$replica was emptied, but has .twosync" 0 "done $replica /f"$'\n'"$one" '' "${sync[@]}"
   seen
   rm -r first/.twosync second/.twosync "$replica/f"

@@ -51,7 +51,7 @@ class Failing(Case):
     # whether a run finds the pair as it was before any run
     is_begun = False
 
-    def __init__(self, name, first, second, archive, entries, skipped=(), holds=None, bits=(), took_part=True):
+    def __init__(self, name, first, second, archive, entries, skipped=(), holds=None, bits=()):
         self.skipped = {path: reason for reason, path in skipped}
         self.known = {} if archive is None else archive
         # where both have a directory, and the archive has none
@@ -68,9 +68,6 @@ class Failing(Case):
         self.set_times()
         for path, mode in bits:
             os.chmod(self.base + "/" + path, mode)
-        if not took_part:
-            for replica in ("first", "second"):
-                shutil.rmtree("%s/%s/.twosync" % (self.base, replica))
         self.old_modes = {replica: modes_at("%s/%s" % (self.base, replica)) for replica in ("first", "second")}
         self.new_modes = {replica: self.wanted_modes(replica) for replica in ("first", "second")}
         self.status = 1 if self.skipped else 0
@@ -430,8 +427,7 @@ def fail(case, found, position, way, error, is_ordinary):
 
 
 def more_cases():
-    """What is left alone, and permission bits: conflicts, held paths, a mode that was changed alone; and neither replica has
-    taken part in a run."""
+    """What is left alone, and permission bits: conflicts, held paths, a mode that was changed alone."""
     both = tree(("/a", b"a"), ("/b", b"b"), ("/c", b"c"), ("/e", b"e"), ("/f/x", b"x"), ("/f/y", b"y"), ("/h/one", b"1"),
                 ("/h/two", b"2"), ("/k", b"k"), ("/m", b"m"), ("/s/t", b"t"))
     first = {**both, **tree(("/a", b"A"), ("/c", b"one"), ("/f/x", b"changed"), ("/h/one", b"held"), ("/new/ro/x", b"x"),
@@ -450,7 +446,7 @@ def more_cases():
         [("first", "/a"), ("second", "/b"), ("first", "/f/x"), ("first", "/k"), ("first", "/new"), ("second", "/s"),
          ("second", "/v")],
         [("conflict", "/c"), ("conflict", "/e"), ("conflict", "/f/y"), ("held", "/h/one"), ("held", "/draft.tmp")],
-        "path /h\nname *.tmp\n", bits, took_part=False)
+        "path /h\nname *.tmp\n", bits)
 
 
 def main():
