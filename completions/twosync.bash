@@ -22,8 +22,9 @@ _twosync() {
       return
       ;;
     plan | check) options='--holds --hold-special --workers --explain --quiet --help' ;;
-    run | sync) options='--holds --hold-special --workers --checkpoint --explain --quiet --help' ;;
-    preview) options='--json --holds --hold-special --workers --explain --quiet --help' ;;
+    run) options='--holds --hold-special --workers --checkpoint --explain --quiet --help' ;;
+    sync) options='--allow-empty --holds --hold-special --workers --checkpoint --explain --quiet --help' ;;
+    preview) options='--json --allow-empty --holds --hold-special --workers --explain --quiet --help' ;;
     trial) options='--workers --explain --help' ;;
     scan) options='--workers --explain --quiet --help' ;;
     show) options='--explain --help' ;;

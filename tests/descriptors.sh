@@ -50,7 +50,8 @@ for numbers in 0 1 2 01 02 12 012; do
     holds_true "$name: $command: the archive" cmp -s archive <(archive_of "$body")
     holds_true "$name: $command: nothing is left" test -z "$(left_in first second)" -a ! -e archive.new
     for replica in first second; do
-      holds_true "$name: $command: what $replica belongs to" cmp -s "$replica/.twosync/archives" <(digest_in archive)
+      holds_true "$name: $command: what $replica belongs to" \
+        test "$(grep -cxE "pair:[0-9a-f]{64} $(digest_in archive)" "$replica/.twosync/archives")" = 1 -a "$(wc -l <"$replica/.twosync/archives")" = 1
     done
     expect "$name: $command: the archive is shown" 0 "$body" '' show archive
     rm second/g

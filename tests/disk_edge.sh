@@ -482,7 +482,7 @@ for replica in first second; do
   expect "$replica was emptied, but has .twosync" 0 "done $replica /f"$'\n'"$one" '' "${sync[@]}"
   seen
   rm -r first/.twosync second/.twosync "$replica/f"
-  expect "neither has .twosync, and $replica was emptied" 0 "done $replica /f"$'\n'"$one" '' "${sync[@]}"
+  refused "neither has .twosync, and $replica was emptied" 9 "${sync[@]}"
 
   for kind in absent empty; do
     fresh

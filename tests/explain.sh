@@ -59,7 +59,7 @@ mkdir first/d
 "$program" "${sync[@]}" >out
 rm -r second
 mkdir second
-NO_PART='second took no part in the last run with the archive archive, which names 2 paths: is its disk mounted, and is this the right archive?'
+NO_PART='second took no part in the last run with the archive archive, which names 2 paths: is its disk mounted, and is this the right archive? See `preview`. If what it shows is right, use `plan` and `run`. If not, remove the archive: then nothing is deleted.'
 told 'a replica that is new' 3 '' "$NO_PART" 'twosync: fault 9' "${sync[@]}"
 told 'the other one is new' 3 '' "$NO_PART" 'twosync: fault 9' sync second first archive
 

@@ -71,11 +71,11 @@ completed() {
 }
 mkdir folder
 completed 'scan show sync' twosync s
-completed '--holds --hold-special --workers --checkpoint --explain --quiet --help' twosync sync --
+completed '--allow-empty --holds --hold-special --workers --checkpoint --explain --quiet --help' twosync sync --
 completed '--holds --hold-special' twosync run --hold
 completed '--workers --explain --quiet --help' twosync scan --
 completed '--explain --help' twosync show --
-completed '--json --holds --hold-special --workers --explain --quiet --help' twosync preview --
+completed '--json --allow-empty --holds --hold-special --workers --explain --quiet --help' twosync preview --
 completed folder twosync sync fol
 completed '1 16' twosync sync --workers 1
 for shell in zsh fish; do

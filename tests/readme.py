@@ -51,7 +51,7 @@ BEFORE = {
     "ls notes stick": two_folders,
     "twosync preview notes stick notes.archive": changed_in_both,
     "twosync sync notes stick notes.archive --holds rules": settled_and_held,
-    "twosync sync notes stick notes.archive --explain": not_mounted,
+    "twosync sync notes stick notes.archive --hold-special --explain": not_mounted,
 }
 
 

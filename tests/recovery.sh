@@ -162,7 +162,7 @@ if may_be_refused; then
   chmod 555 second/mod/shut
   chmod -R a+rX . && chmod 777 . && chown -R 65534 first second archive
   before=("${as[@]}")
-  expect 'a closed folder is opened to be removed' 0 $'done first /mod\ntotal 1 done 1 skipped 0 failed 0 blocked 0' '' "${sync[@]}"
+  expect 'a closed folder is opened to be removed' 0 $'done first /mod\ntotal 1 done 1 skipped 0 failed 0 blocked 0' '' "${sync[@]}" --allow-empty
   before=()
   alike 'a closed folder is opened to be removed'
   chmod 755 .
@@ -171,7 +171,7 @@ else
 fi
 with_module
 if chattr +i second/mod/f 2>/dev/null; then
-  expect 'a file that can not be removed' 0 $'done first /mod\ntotal 1 done 1 skipped 0 failed 0 blocked 0' 'twosync: fault 8 /mod' "${sync[@]}"
+  expect 'a file that can not be removed' 0 $'done first /mod\ntotal 1 done 1 skipped 0 failed 0 blocked 0' 'twosync: fault 8 /mod' "${sync[@]}" --allow-empty
   holds_true 'it is out of the way' test ! -e second/mod -a "$(left_in second)" = trash-0
   expect 'the run after it is not refused' 0 "$nothing" '' "${sync[@]}"
   printf b >first/b
