@@ -110,6 +110,8 @@ explain.sh: expect 'such a path, explained' 3: ts_explain::write_sentence
 explain.sh: skips 'a file that was changed in both': ts_explain::push_skip
 explain.sh: looks 'a plan is left in the second folder': ts_disk::awaits_recovery ts_perform::HostRuntime::awaits_recovery
 explain.sh: looks 'a plan is left in the second folder': ts_explain::push_pending
+guards.sh: goes "$name, without it": ts_perform::HostRuntime::knows_archive
+guards.sh: goes 'the same plan in both': ts_perform::HostRuntime::stopped_alike
 special.sh: expect 'links in three folders' 1: ts_perform::HostRuntime::specials ts_special::search ts_special::union
 special.sh: expect 'links in three folders' 1: ts_special::HoldingFolder::new ts_special::HoldingFolder::list
 special.sh: expect 'links in three folders' 1: ts_special::HoldingFolder::open_file ts_special::HoldingFolder::fill

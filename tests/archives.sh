@@ -533,7 +533,8 @@ for role in 'hub more|first' 'more hub|second'; do
   crowded 1023
   # shellcheck disable=SC2086
   "$program" sync $words archive --explain >out 2>err
-  holds_true "the 1,025th pair of the $side: status $?, $(cat err)" test "$?" = 0 -a "$(cat err)" = "The $side folder $forgot"
+  got=$?
+  holds_true "the 1,025th pair of the $side: status $got, $(cat err)" test "$got" = 0 -a "$(cat err)" = "The $side folder $forgot"
   says "the 1,025th pair of the $side" "$(others 1023)
 $ours $(digest_in archive)" hub
   # the one that was forgotten is refused; a plan brings it back

@@ -9,7 +9,7 @@ import subprocess
 import sys
 import time
 
-from runs import NOTHING, Case, archive_of, calls, hold, in_order, outcome, run, run_to_stop, traced, tree, write_counts
+from runs import NOTHING, Case, archive_of, calls, hold, in_order, make_known, outcome, run, run_to_stop, traced, tree, write_counts
 
 PROGRAM = sys.argv[1]
 FILES = 30  # of each replica
@@ -231,6 +231,8 @@ def take_place(case, rename):
     name = "the place is taken after a checkpoint"
     with hold_up(case, rename, "delay_exit") as first:
         hold(name, not wait_for(lambda: os.path.exists("try/archive")) and "the first run doesn't come to that")
+        for replica in ("third", "fourth"):
+            make_known(open("try/archive", "rb").read(), "try/" + replica)
         status, said = run(PROGRAM, command=OTHER)
         hold(name + ", the second run", status != 0 and "status %s, %s" % (status, said))
         theirs = open("try/archive", "rb").read()

@@ -4,6 +4,8 @@
 set -u
 cd "$(dirname "$0")/.." || exit 1
 . tests/cases.sh
+# Some cases delete a folder with all the files that there are.
+sync+=(--allow-empty)
 umask 022
 
 one='total 1 done 1 skipped 0 failed 0 blocked 0'

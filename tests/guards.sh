@@ -55,7 +55,8 @@ carried_out() {
   shift
   "$program" plan first second archive "$@" >plan 2>err
   "$program" run first second archive plan "$@" >out 2>err
-  holds_true "$name: plan and run: status $?, $(tail -n 1 err)" test "$?" = 0 -a ! -s err
+  got=$?
+  holds_true "$name: plan and run: status $got, $(tail -n 1 err)" test "$got" = 0 -a ! -s err
   rm plan
   alike "$name: plan and run"
   expect "$name: the next sync" 0 "$nothing" '' "${sync[@]}" "$@"
@@ -205,11 +206,28 @@ with second h
 "$program" plan first second archive >other.plan
 junk_plans 'empty plans' '' ''
 junk_plans 'no plans' 'no plan' 'no plan'
-junk_plans 'a plan in the first folder alone' "$(cat one.plan; echo x)" ''
+junk_plans 'a plan in the first folder alone' "$(cat one.plan)
+" ''
+junk_plans 'a plan in the second folder alone' '' "$(cat one.plan)
+"
 junk_plans 'plans of two runs' "$(cat one.plan)
 " "$(cat other.plan)
 "
+junk_plans 'one plan that is cut short in both' "$(cat one.plan)" "$(cat one.plan)"
 rm one.plan other.plan
+
+# the same one in both does
+fresh
+with first f g h
+with second f g h
+of_both /f /g /h >archive
+rm first/f
+"$program" plan first second archive >plan
+mkdir -m 700 first/.twosync second/.twosync
+tee first/.twosync/plan <plan >second/.twosync/plan
+rm plan
+goes 'the same plan in both'
+holds_true 'the same plan in both: it is carried out' test ! -e second/f
 
 if command -v strace >/dev/null; then
   name='a run of a plan that was stopped'
@@ -228,7 +246,8 @@ if command -v strace >/dev/null; then
   "$program" preview first second archive >out 2>err
   holds_true "$name: a preview lets it through" test "$?" = 0 -a ! -s err
   "$program" "${sync[@]}" >out 2>err
-  holds_true "$name: the next sync goes on: status $?, $(cat err)" test "$?" = 0 -a ! -s err
+  got=$?
+  holds_true "$name: the next sync goes on: status $got, $(cat err)" test "$got" = 0 -a ! -s err
   alike "$name: the next sync"
   holds_true "$name: it is carried out" test ! -e second/f -a -e second/i -a -e second/j
   expect "$name: one more" 0 "$nothing" '' "${sync[@]}"
