@@ -188,8 +188,7 @@ for older in '' $'older\n'; do
 done
 
 # ---- an older copy of a replica
-# seen ODD TIMES: a pair that was synchronized, and so many times more; `copy` is the replica ODD as it was after the first time,
-# and `copied` the digest of the archive then
+# seen ODD TIMES: a pair that was synchronized, and so many times more; `copy` is the replica ODD as it was after the first time
 seen() {
   other=$([ "$1" = first ] && echo second || echo first)
   fresh
@@ -197,7 +196,6 @@ seen() {
   printf a | tee first/f first/kept >second/g
   "$program" "${sync[@]}" >/dev/null 2>&1
   cp -a "$1" copy
-  copied=$(digest_in archive)
   rm "$other/f"
   printf b >"$other/new"
   "$program" "${sync[@]}" >/dev/null 2>&1
