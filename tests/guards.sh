@@ -253,6 +253,32 @@ if command -v strace >/dev/null; then
   expect "$name: one more" 0 "$nothing" '' "${sync[@]}"
 fi
 
+# ---- another archive that takes the place of the one that was claimed, before that is read
+if command -v strace >/dev/null; then
+  for had in 'the pair'\''s own' no; do
+    name="$had archive, and that of another pair comes before it is read"
+    fresh
+    rm -rf third fourth other
+    mkdir third fourth
+    with first f g h
+    "$program" "${sync[@]}" >/dev/null 2>&1
+    with third p q r
+    "$program" sync third fourth other >/dev/null 2>&1
+    with first p q r
+    [ "$had" != no ] || rm archive
+    strace -qq -f -o /dev/null -e signal=none -P archive.new -P "$PWD/archive.new" -e trace=openat \
+      -e inject=openat:delay_exit=1500000:when=1 "$program" "${sync[@]}" >out 2>err &
+    child=$!
+    until_there archive.new
+    cp other archive
+    wait "$child"
+    answered "$name" 3 '' 'twosync: fault 9' "$?"
+    holds_true "$name: nothing is lost" test -e first/p -a -e first/q -a -e first/r
+    holds_true "$name: nothing comes of it" cmp -s other archive
+  done
+  rm -rf third fourth other
+fi
+
 # ---- a folder that would lose all its files
 # emptied FOLDER FILES OTHERS: what is said of it
 emptied() {

@@ -1,7 +1,8 @@
 -- When `sync` carries a plan out, and when it holds it back.
 --     SaysKnown knows place lock known   whether a replica knows the archive in this place is what was said of its lock; one without a lock doesn't
---     IsPastOf w pair past               that is what is known of the pair's replicas from before a run: of their locks, and of the place of the archive
---     IsPastSeen w pair past             the same as it is seen without locks
+--     IsPastSeen w pair past             that is what is known of the pair's replicas, as it is seen without locks
+--     IsPastOf w pair past               the same from before a run: each knows the archive that was there when its place was claimed, by its lock, and
+--                                        the one that is seen there
 --     IsBelieved past rows plan          the plan does nothing, or the archive names no path, or both replicas know it, or the same run was stopped in both
 --     IsTaught past plan                 both replicas get to know the archive: the plan does something, or there is nothing to be done, or they know it
 --     file_count rows                    how many files these are, where stand-ins don't count
@@ -11,7 +12,7 @@
 --     new_fault past paths               which replica doesn't know the archive, which names so many paths
 --     emptied_fault into k               this replica would lose its files, and how many both have
 --     IsHeldBack allow_empty past k e    why a plan isn't let through: the first of these that is so
-use Rattle.std.specs.Prelude.{◌≡◌, ◌⊎◌, ◌≤◌, ℕ, Bool, true, false, not, if◌then◌else◌, List, [], Option, Some, None, IsTrue, count_by, length, sum_by}
+use Rattle.std.specs.Prelude.{◌≡◌, ◌⊎◌, ◌≤◌, ◌&&◌, ℕ, Bool, true, false, not, if◌then◌else◌, List, [], Option, Some, None, IsTrue, count_by, length, sum_by}
 use Rattle.ts_check.specs.Checkup.{Checkup}
 use Rattle.ts_command.specs.declared.job.Pair.{Pair}
 use Rattle.ts_explain.specs.declared.fault.PerformFault.{PerformFault}
@@ -36,6 +37,11 @@ abbrev pub SaysKnown : {L A : Type 0} → (L → A → Bool → Type 0) → A �
 SaysKnown knows place None known = known ≡ false
 SaysKnown knows place (Some lock) known = knows lock place known
 
+pub record IsPastSeen {S F P A L : Type 0} (w : World S F P A L) (pair : Pair) (past : Past) : Type 0 where
+  pub first_knows : w.known pair.first.now pair.archive.now past.first_knows
+  pub second_knows : w.known pair.second.now pair.archive.now past.second_knows
+  pub stopped : IsTrue past.stopped_alike → w.stopped pair.first.now pair.second.now true
+
 pub record IsPastOf {S F P A L : Type 0} (w : World S F P A L) (pair : Pair) (past : Past) : Type 0 where
   pub first : Option L
   pub second : Option L
@@ -43,13 +49,14 @@ pub record IsPastOf {S F P A L : Type 0} (w : World S F P A L) (pair : Pair) (pa
   pub locked_second : w.is_locked second pair.second.now
   pub place : A
   pub named : w.is_named place pair.archive.now
-  pub first_knows : SaysKnown w.knows place first past.first_knows
-  pub second_knows : SaysKnown w.knows place second past.second_knows
-  pub stopped : IsTrue past.stopped_alike → w.stopped pair.first.now pair.second.now true
-
-pub record IsPastSeen {S F P A L : Type 0} (w : World S F P A L) (pair : Pair) (past : Past) : Type 0 where
-  pub first_knows : w.known pair.first.now pair.archive.now past.first_knows
-  pub second_knows : w.known pair.second.now pair.archive.now past.second_knows
+  pub first_said : Bool
+  pub second_said : Bool
+  pub says_first : SaysKnown w.knows place first first_said
+  pub says_second : SaysKnown w.knows place second second_said
+  pub seen : Past
+  pub is_seen : IsPastSeen w pair seen
+  pub first_knows : past.first_knows ≡ (first_said && seen.first_knows)
+  pub second_knows : past.second_knows ≡ (second_said && seen.second_knows)
   pub stopped : IsTrue past.stopped_alike → w.stopped pair.first.now pair.second.now true
 
 abbrev pub DoBothKnow : Past → Type 0

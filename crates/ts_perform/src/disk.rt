@@ -182,7 +182,8 @@ pub trait Disk {
     fn lock(&self, alloc: Global, root: &str) -> Result<Option<Self::Lock>, DiskFault>
         ensures locked { IfOk result (λ lock. is_locked lock root.now) };
 
-    /// Whether the replica took part in the last run with the archive in its place, as far as it remembers.
+    /// Whether the replica knows the archive that was in its place when that was claimed: it took part in the last run with it, or in the
+    /// one before.
     fn knows(&self, lock: &Self::Lock, archive: &Self::Archive) -> bool
         ensures { knows lock.now archive.now result };
 
@@ -190,7 +191,7 @@ pub trait Disk {
     fn knows_archive(&self, alloc: Global, root: &str, archive: &str) -> Result<bool, DiskFault>
         ensures { IfOk result (known root.now archive.now) };
 
-    /// Whether the same run was stopped in both replicas: each has a plan, and both are the same.
+    /// Whether the same run was stopped in both replicas: each has the text of a plan, and both are the same.
     fn stopped_alike(&self, alloc: Global, first: &str, second: &str) -> Result<bool, DiskFault>
         ensures { IfOk result (stopped first.now second.now) };
 

@@ -105,7 +105,7 @@ pub(crate) fn preview<R: Machine, O: Sink>(
 
 impl<R: Machine> Task<'_, R> {
     /// What is known of both replicas, as it is seen without locks.
-    fn past_seen(&self) -> Result<Past, PerformFault>
+    pub(crate) fn past_seen(&self) -> Result<Past, PerformFault>
         ensures seen { IfOk result (IsPastSeen (world R.Disk R.Site.Site R.Folder.Folder R.Stage.Stage) self.now.pair.now) }
         ensures quiet { IfErr result IsQuiet }
     {

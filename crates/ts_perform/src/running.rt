@@ -163,24 +163,27 @@ impl<R: Machine> Task<'_, R> {
         }
     }
 
-    /// What is known of locked replicas from before this run, by whether the same run was stopped in both.
-    fn past(&self, claims: &Claims<R>, stopped_alike: bool) -> Past
+    /// What is known of locked replicas from before this run, by whether the same run was stopped in both, once the archive is read.
+    /// Another one may have taken its place since that was claimed, so both have to know the one that is there now, too.
+    fn past(&self, claims: &Claims<R>, stopped_alike: bool) -> Result<Past, PerformFault>
         requires first { R.is_locked claims.now.first self.now.pair.now.first.now }
         requires second { R.is_locked claims.now.second self.now.pair.now.second.now }
         requires named { R.is_named claims.now.archive self.now.pair.now.archive.now }
         requires stopped { IsTrue stopped_alike → R.stopped self.now.pair.now.first.now self.now.pair.now.second.now true }
-        ensures { IsPastOf (world R.Disk R.Site.Site R.Folder.Folder R.Stage.Stage) self.now.pair.now result }
+        ensures known { IfOk result (IsPastOf (world R.Disk R.Site.Site R.Folder.Folder R.Stage.Stage) self.now.pair.now) }
+        ensures quiet { IfErr result IsQuiet }
     {
         let Claims {
             first,
             second,
             archive,
         } = claims;
-        Past {
-            first_knows: self.knows(first, archive),
-            second_knows: self.knows(second, archive),
+        let seen = self.past_seen()?;
+        Ok(Past {
+            first_knows: self.knows(first, archive) && seen.first_knows,
+            second_knows: self.knows(second, archive) && seen.second_knows,
             stopped_alike,
-        }
+        })
     }
 
     /// That both replicas are still there. One that went away while it was scanned may look empty, and nothing is deleted for
@@ -261,9 +264,10 @@ impl<R: Machine> Task<'_, R> {
         ensures ran { RanSyncQuietly R.Disk R.Site.Site R.Folder.Folder R.Stage.Stage self.now
             (O.holds out.old) (O.holds out.new) (E.holds err.old) (E.holds err.new) result }
     {
-        let past = self.past(&*claims, self.stopped_alike());
+        let stopped_alike = self.stopped_alike();
         self.recover(notices)?;
         let snapshot = Snapshot::read(self)?;
+        let past = self.past(&*claims, stopped_alike)?;
         let plan = snapshot.plan(self.rt.alloc())?;
         self.look_at_claims(&*claims)?;
         let proposal = Proposal {

@@ -11,11 +11,11 @@ returns g c = record {
       (g.E.Sink.holds c.args.err.now) (g.E.Sink.holds c.carry_out.new.err) c.carry_out.result
       (λ came is. record {
         planned = subst IsPlanned (sym is.checkup) c.in_ok-plan.ensures.planned;
-        past = c.past-past.result;
-        known = c.past-past.ensures;
-        through = subst (IsLetThrough c.args.self.now.command.now.allow_empty c.past-past.result) (sym is.checkup) c.in_ok-look_at.ensures.through;
-        taught = subst (λ (k : Checkup). IsTrue came.teaches ↔ IsTaught c.past-past.result k.plan) (sym is.checkup)
-            (subst (λ (teaches : Bool). IsTrue teaches ↔ IsTaught c.past-past.result c.in_ok-plan.plan) (sym is.taught) c.teaches.ensures);
+        past = c.in_ok-past.past;
+        known = c.in_ok-past.ensures.known;
+        through = subst (IsLetThrough c.args.self.now.command.now.allow_empty c.in_ok-past.past) (sym is.checkup) c.in_ok-look_at.ensures.through;
+        taught = subst (λ (k : Checkup). IsTrue came.teaches ↔ IsTaught c.in_ok-past.past k.plan) (sym is.checkup)
+            (subst (λ (teaches : Bool). IsTrue teaches ↔ IsTaught c.in_ok-past.past c.in_ok-plan.plan) (sym is.taught) c.teaches.ensures);
         carried_out = is.carried_out;
       })
       c.carry_out.ensures.ran;
